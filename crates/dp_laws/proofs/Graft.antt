@@ -1,0 +1,43 @@
+use Rattle.std.proofs.Common.{◌≡◌, ℕ, zero, suc, ◌+◌, ◌*◌, ◌/◌, ◌%◌, ◌^◌, ◌<◌, refl, ap, ◌∙◌, arith}
+use Rattle.std.proofs.Math.Nat.{pow-suc, pow-zero}
+use Rattle.std.proofs.lemmas.Nat.{mod_below}
+use Rattle.dp_laws.proofs.Trees.{pos_of, part_below}
+use Rattle.dp_spec.specs.Keeping.{tree_at}
+use Rattle.dp_spec.specs.PolicyTree.{ArePolicyTrees, IsPolicyTree, PolicyTree, PolicyTrees, more_trees, no_trees, node, nth_tree, root_action, subtree}
+
+-- c trees
+abbrev pub make : ℕ → (ℕ → PolicyTree) → PolicyTrees
+make zero g = no_trees
+make (suc c) g = more_trees (g 0) (make c (λ o. g (suc o)))
+
+kid_of-make : (c : ℕ) (g : ℕ → PolicyTree) (o : ℕ) → o < c → nth_tree (make c g) o ≡ g o
+kid_of-make zero g o h = absurd (omega arith)
+kid_of-make (suc c) g zero h = refl
+kid_of-make (suc c) g (suc o) h = kid_of-make c (λ o. g (suc o)) o (omega arith)
+
+-- the tree q below which, k steps on, new trees stand
+abbrev pub graft : ℕ → ℕ → ℕ → PolicyTree → (ℕ → PolicyTree) → PolicyTree
+graft n zero x q new = new x
+graft n (suc k) x q new = node (root_action q) (make n (λ o. graft n k (x * n + o) (subtree q o) new))
+
+place_of : (n t y x : ℕ) → (x * n ^ t + y / n) * n + y % n ≡ x * n ^ suc t + y
+place_of n t y x = rw pow-suc (omega arith)
+
+pub tree_at-graft : (n : ℕ) (q : PolicyTree) (new : ℕ → PolicyTree) (t j k x y : ℕ) → t + j ≡ k → y < n ^ t → tree_at n (graft n k x q new) t y ≡ graft n j (x * n ^ t + y) (tree_at n q t y) new
+tree_at-graft n q new zero j k x y e h =
+    let one = pow-zero n in
+    let h' : y < 1 = rw one at h in
+    let e' : k ≡ j = omega arith in
+    let at : x * n ^ 0 + y ≡ x = omega (arith, ap (λ (z : ℕ). x * z) one) in
+    rw (e', at)
+tree_at-graft n q new (suc t) j k x y e h =
+    let h' : y < n ^ t * n = rw pow-suc at h in
+    let h2 : y < n * n ^ t = omega arith in
+    ap (λ z. subtree z (y % n)) (tree_at-graft n q new t (suc j) k x (y / n) (omega arith) (part_below (n ^ t) n y h'))
+    ∙ kid_of-make n _ (y % n) (mod_below y n (pos_of (n ^ t) n y h'))
+    ∙ ap (λ (z : ℕ). graft n j z (subtree (tree_at n q t (y / n)) (y % n)) new) (place_of n t y x)
+
+-- all the trees of make fit
+make_fits : (b n r c : ℕ) (g : ℕ → PolicyTree) → ((o : ℕ) → o < c → IsPolicyTree b n r (g o)) → ArePolicyTrees b n r c (make c g)
+make_fits b n r zero g h = tt
+make_fits b n r (suc c) g h = (h 0 (omega arith), make_fits b n r c (λ o. g (suc o)) (λ o p. h (suc o) (omega arith)))

@@ -1,0 +1,87 @@
+use Rattle.std.proofs.Common.{◌≡◌, ℕ, zero, suc, ◌+◌, ◌*◌, ◌/◌, ◌%◌, ◌^◌, ◌<◌, List, [], ◌∷◌, map, refl, ap, arith}
+use Rattle.std.proofs.lemmas.Nat.{mod-mul-add, div-mul-add, mod_below}
+use Rattle.std.proofs.Math.Nat.{pow-suc, pow-zero}
+use Rattle.dp_laws.proofs.Trees.{row_below, part_below, pos_of}
+use Rattle.dp_spec.specs.Front.{AgentFront, next_own_histories, own_histories}
+use Rattle.dp_spec.specs.JointHistory.{IsJointHistory}
+use Rattle.dp_spec.specs.JointNumbers.{joint_number, parts_of, product}
+use Rattle.dp_spec.specs.Keeping.{tree_at}
+use Rattle.dp_laws.specs.Following.{FollowsAgentFronts}
+use Rattle.dp_laws.specs.Following.FollowsAgentFronts.{and_agent, no_agents}
+use Rattle.dp_spec.specs.PolicyTree.{PolicyTree}
+use Rattle.dp_spec.specs.Value.{subtrees_at}
+
+-- each own history of length t is below the power
+abbrev pub Within : List ℕ → ℕ → List ℕ → Type 0
+Within [] t [] = Unit {0}
+Within [] t (x ∷ xs) = ⊥
+Within (n ∷ ns) t [] = ⊥
+Within (n ∷ ns) t (x ∷ xs) = (x < n ^ t) × Within ns t xs
+
+-- each part is below its radix
+abbrev pub Below : List ℕ → List ℕ → Type 0
+Below [] [] = Unit {0}
+Below [] (x ∷ xs) = ⊥
+Below (n ∷ ns) [] = ⊥
+Below (n ∷ ns) (x ∷ xs) = (x < n) × Below ns xs
+
+pub parts_below : (ns : List ℕ) (o : ℕ) → o < product ns → Below ns (parts_of ns o)
+parts_below [] o h = tt
+parts_below (n ∷ ns) o h = (part_below n (product ns) o h, parts_below ns _ (mod_below o (product ns) (pos_of n (product ns) o h)))
+
+pub joint_below : (ns ps : List ℕ) → Below ns ps → joint_number ns ps < product ns
+joint_below [] [] h = omega arith
+joint_below [] (p ∷ ps) h = absurd h
+joint_below (n ∷ ns) [] h = absurd h
+joint_below (n ∷ ns) (p ∷ ps) h = row_below p n _ _ h.0 (joint_below ns ps h.1)
+
+pub parts-joint : (ns ps : List ℕ) → Below ns ps → parts_of ns (joint_number ns ps) ≡ ps
+parts-joint [] [] h = refl
+parts-joint [] (p ∷ ps) h = absurd h
+parts-joint (n ∷ ns) [] h = absurd h
+parts-joint (n ∷ ns) (p ∷ ps) h =
+    let lt : joint_number ns ps < product ns = joint_below ns ps h.1 in
+    let first : (p * product ns + joint_number ns ps) / product ns ≡ p = div-mul-add p (product ns) (joint_number ns ps) lt in
+    let rest : (p * product ns + joint_number ns ps) % product ns ≡ joint_number ns ps = mod-mul-add p (product ns) (joint_number ns ps) lt in
+    rw (first, rest, parts-joint ns ps h.1)
+
+step_in : (x n t p : ℕ) → x < n ^ t → p < n → x * n + p < n ^ suc t
+step_in x n t p h g = rw pow-suc (row_below x (n ^ t) n p h g)
+
+next_within : (ns : List ℕ) (t : ℕ) (xs ps : List ℕ) → Within ns t xs → Below ns ps → Within ns (suc t) (next_own_histories ns xs ps)
+next_within [] t [] ps h g = tt
+next_within [] t (x ∷ xs) ps h g = absurd h
+next_within (n ∷ ns) t [] ps h g = absurd h
+next_within (n ∷ ns) t (x ∷ xs) [] h g = absurd g
+next_within (n ∷ ns) t (x ∷ xs) (p ∷ ps) h g = (step_in x n t p h.0 g.0, next_within ns t xs ps h.1 g.1)
+
+none_within : (ns : List ℕ) → Within ns zero (map (λ n. 0) ns)
+none_within [] = tt
+none_within (n ∷ ns) = (rw pow-zero (omega arith), none_within ns)
+
+pub owns_within : (ns : List ℕ) (t : ℕ) (H : List ℕ) → IsJointHistory (product ns) t H → Within ns t (own_histories ns H)
+owns_within ns zero [] h = none_within ns
+owns_within ns zero (o ∷ H) h = absurd h
+owns_within ns (suc t) [] h = absurd h
+owns_within ns (suc t) (o ∷ H) h = next_within ns t _ _ (owns_within ns t H h.1) (parts_below ns o h.0)
+
+-- the trees of all agents after own histories
+abbrev pub trees_at : List ℕ → List PolicyTree → ℕ → List ℕ → List PolicyTree
+trees_at [] qs t xs = []
+trees_at (n ∷ ns) [] t xs = []
+trees_at (n ∷ ns) (q ∷ qs) t [] = []
+trees_at (n ∷ ns) (q ∷ qs) t (x ∷ xs) = tree_at n q t x ∷ trees_at ns qs t xs
+
+pub kids_next : (ns : List ℕ) (qs : List PolicyTree) (t : ℕ) (xs ps : List ℕ) → Below ns ps → subtrees_at (trees_at ns qs t xs) ps ≡ trees_at ns qs (suc t) (next_own_histories ns xs ps)
+kids_next [] qs t xs ps h = refl
+kids_next (n ∷ ns) [] t xs ps h = refl
+kids_next (n ∷ ns) (q ∷ qs) t [] ps h = refl
+kids_next (n ∷ ns) (q ∷ qs) t (x ∷ xs) [] h = absurd h
+kids_next (n ∷ ns) (q ∷ qs) t (x ∷ xs) (p ∷ ps) h =
+    let first : (x * n + p) / n ≡ x = div-mul-add x n p h.0 in
+    let rest : (x * n + p) % n ≡ p = mod-mul-add x n p h.0 in
+    rw (first, rest, kids_next ns qs t xs ps h.1)
+
+pub base : {f r : ℕ} {bs ns : List ℕ} {ds : List AgentFront} {qs : List PolicyTree} {uss : List (ℕ → PolicyTree)} → FollowsAgentFronts f r bs ns ds qs uss → trees_at ns qs zero (map (λ n. 0) ns) ≡ qs
+base no_agents = refl
+base (and_agent {q = q} k ks) = ap (λ x. q ∷ x) (base ks)

@@ -1,0 +1,2 @@
+//! The theorems about the definitions of `dp_spec`, each the clause of a public function.
+#![tactic(auto)]

@@ -1,0 +1,67 @@
+-- What an arithmetic has to keep: how the numbers that it computes enclose the true ones.
+use Rattle.std.specs.Prelude.{Bool, true, false, ℕ, ◌+◌, ◌*◌, ◌^◌, ◌≡◌, ℤ, pos, ◌+ℤ◌, ◌*ℤ◌, ◌≤ℤ◌}
+use Rattle.std.specs.Int.{int_min, int_max}
+use Rattle.dp_spec.specs.declared.span.Span.{Span}
+use Rattle.dp_spec.specs.Model.{Model, step_scale}
+use Rattle.dp_spec.specs.Arithmetic.{Arithmetic, point, span_add}
+
+-- what a computed number says of a true number over a scale
+pub record Enclosure : Type 1 where
+  -- of the scale and the weight the span
+  pub Weighs : ℕ → ℕ → Span → Type 0
+  -- of the scale and the reward the span
+  pub Earns : ℕ → ℤ → Span → Type 0
+  -- of the scale and the number the number from above
+  pub Tops : ℕ → ℤ → ℤ → Type 0
+  -- what values over a scale are counted in
+  pub unit : ℕ → ℕ
+
+-- each operation, and each way in which its results are put together, keeps the enclosure
+pub record IsSound (m : Model) (A : Arithmetic) (R : Enclosure) : Type 0 where
+  pub start : (b : ℕ) → R.Weighs m.scales.start b (A.start b)
+  pub one : R.Weighs 1 1 A.one
+  pub chance : (T w p z : ℕ) (s : Span) → R.Weighs T w s → R.Weighs (T * (m.scales.trans * m.scales.obs)) (w * (p * z)) (A.chance s p z)
+  pub later : (T w : ℕ) (s : Span) → R.Weighs T w s → R.Weighs (T * m.scales.discount) (w * m.scales.gain) (A.later s)
+  pub gain : (T w rest : ℕ) (r : ℤ) (s : Span) → R.Weighs T w s →
+      R.Earns (T * (m.scales.discount * step_scale m ^ rest) * m.scales.reward) (pos w *ℤ (r *ℤ pos (m.scales.discount * step_scale m ^ rest))) (A.gain s r rest)
+  pub carry : (F p : ℕ) (x v : ℤ) → R.Tops F x v → R.Tops (F * step_scale m) (pos (p * m.scales.obs * m.scales.gain) *ℤ x) (A.carry v p)
+  pub tail : (T w F : ℕ) (x v : ℤ) (s : Span) → R.Weighs T w s → R.Tops F x v → R.Tops (T * F) (pos w *ℤ x) (A.tail s v)
+  -- sums, the greater and the smaller of two
+  pub no_weight : (T : ℕ) → R.Weighs T 0 (point (pos 0))
+  pub more_weight : (T v w : ℕ) (a b : Span) → R.Weighs T v a → R.Weighs T w b → R.Weighs T (v + w) (span_add a b)
+  pub no_gain : (F : ℕ) → R.Earns F (pos 0) (point (pos 0))
+  pub more_gain : (F : ℕ) (x y : ℤ) (a b : Span) → R.Earns F x a → R.Earns F y b → R.Earns F (x +ℤ y) (span_add a b)
+  pub top : (F : ℕ) (x : ℤ) (a : Span) → R.Earns F x a → R.Tops F x a.high
+  pub no_top : (F : ℕ) → R.Tops F (pos 0) (pos 0)
+  pub more_top : (F : ℕ) (x y u v : ℤ) → R.Tops F x u → R.Tops F y v → R.Tops F (x +ℤ y) (u +ℤ v)
+  pub greater : (F : ℕ) (x y u v : ℤ) → R.Tops F x u → R.Tops F y v → R.Tops F (int_max x y) (int_max u v)
+  pub smaller : (F : ℕ) (x y u v : ℤ) → x ≤ℤ y → R.Tops F x u → R.Tops F y v → R.Tops F x (int_min u v)
+  -- what it says of values counted in the unit
+  pub reads : (F : ℕ) (x v : ℤ) → R.Tops F x v → (x *ℤ pos (R.unit F)) ≤ℤ (v *ℤ pos F)
+
+-- ---- the true number itself
+abbrev pub equality : Enclosure
+equality = record {
+  Weighs = λ T w s. s ≡ point (pos w);
+  Earns = λ F x s. s ≡ point x;
+  Tops = λ F x v. v ≡ x;
+  unit = λ F. F;
+}
+
+-- x over the scale T lies within the span over the unit u
+pub record Encloses (T u : ℕ) (x : ℤ) (s : Span) : Type 0 where
+  pub from : (s.low *ℤ pos T) ≤ℤ (x *ℤ pos u)
+  pub to : (x *ℤ pos u) ≤ℤ (s.high *ℤ pos T)
+
+-- ---- a span round it, weights in 10^-12 and values in 10^-9
+abbrev pub containment : Enclosure
+containment = record {
+  Weighs = λ T w s. Encloses T (10 ^ 12) (pos w) s;
+  Earns = λ F x s. Encloses F (10 ^ 9) x s;
+  Tops = λ F x v. (x *ℤ pos (10 ^ 9)) ≤ℤ (v *ℤ pos F);
+  unit = λ F. 10 ^ 9;
+}
+
+abbrev pub enclosure : Bool → Enclosure
+enclosure true = equality
+enclosure false = containment

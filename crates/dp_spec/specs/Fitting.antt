@@ -1,0 +1,39 @@
+-- Bound trees that fit a front.
+use Rattle.std.specs.Prelude.{ℕ, suc, ◌-◌, ◌<◌, ◌≡◌, IsTrue, ℤ, pos, ◌*ℤ◌, ◌≤ℤ◌, List, get_or}
+use Rattle.std.specs.Int.{int_min}
+use Rattle.dp_spec.specs.Model.{Model, value_scale}
+use Rattle.dp_spec.specs.PolicyTree.{PolicyTree, IsJointPolicy}
+use Rattle.dp_spec.specs.Value.{policy_value}
+use Rattle.dp_spec.specs.Front.{Front}
+use Rattle.dp_spec.specs.Steps.{IsUnassigned, front_after_choice, root_front}
+use Rattle.dp_spec.specs.Merge.{AreEquivalent, merged_front}
+use Rattle.dp_spec.specs.Arithmetic.{Arithmetic}
+use Rattle.dp_spec.specs.Quantities.{bound_in}
+use Rattle.dp_spec.specs.BoundTree.{BoundTree, BoundTrees, leaf, branch, merge, no_bound_trees, more_bound_trees, LeavesAtMost}
+
+-- the bound of a front, of a horizon of h steps
+unfoldable pub front_bound : Arithmetic → Model → ℕ → ℕ → Front → ℤ
+front_bound A m h look F = bound_in A m (h - F.stage) F look
+
+abbrev mutual
+  -- a tree fits a front on whose path the least bound is cap
+  pub FitsFront : Arithmetic → Model → ℕ → ℕ → BoundTree → Front → ℤ → Type 0
+  FitsFront A m h look (leaf x) F cap = x ≡ cap
+  FitsFront A m h look (branch i c ks) F cap = (F.stage < h) × IsUnassigned i c F.agents × FitEachAction A m h look ks F i c 0 cap
+  FitsFront A m h look (merge i a b k) F cap =
+      (F.stage < h) × (a < b) × IsUnassigned i a F.agents × IsUnassigned i b F.agents × AreEquivalent m F i a b
+      × FitsFront A m h look k (merged_front F i a b) (int_min cap (front_bound A m h look (merged_front F i a b)))
+      × IsTrue A.is_exact
+
+  -- one tree for each action of the agent from a on, which fits the front after that choice
+  pub FitEachAction : Arithmetic → Model → ℕ → ℕ → BoundTrees → Front → ℕ → ℕ → ℕ → ℤ → Type 0
+  FitEachAction A m h look no_bound_trees F i c a cap = get_or m.actions i 0 ≡ a
+  FitEachAction A m h look (more_bound_trees k ks) F i c a cap =
+      FitsFront A m h look k (front_after_choice m F i c a) (int_min cap (front_bound A m h look (front_after_choice m F i c a))) × FitEachAction A m h look ks F i c (suc a) cap
+
+-- u over the unit is at least the expected reward of every joint policy of h steps
+abbrev pub BoundsEveryPolicy : Model → ℕ → ℕ → ℤ → Type 0
+BoundsEveryPolicy m h unit u = (qs : List PolicyTree) → IsJointPolicy m.actions m.observations h qs → (policy_value m h qs *ℤ pos unit) ≤ℤ (u *ℤ pos (value_scale m h))
+
+abbrev pub IsChecked : Arithmetic → Model → ℕ → ℕ → BoundTree → ℤ → Type 0
+IsChecked A m h look T u = FitsFront A m h look T (root_front m) (front_bound A m h look (root_front m)) × LeavesAtMost u T
