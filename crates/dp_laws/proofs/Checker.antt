@@ -8,7 +8,7 @@ use Rattle.std.proofs.Math.Nat.{pow-zero}
 use Rattle.dp_laws.proofs.Ring.{zle_trans, zle_of}
 use Rattle.dp_laws.proofs.Sums.{int_sum_weigh}
 use Rattle.dp_laws.proofs.Forward.{int_history_sum_ext, forward}
-use Rattle.dp_laws.proofs.KeepsAllAgents.{root_in}
+use Rattle.dp_laws.proofs.Trees.{root_in}
 use Rattle.dp_laws.proofs.Sound.{sound, does_fixed}
 use Rattle.dp_laws.proofs.Gain.{int_history_sum_zero}
 use Rattle.dp_laws.proofs.Merging.{CanJoin, tree_for, merging}
@@ -17,13 +17,16 @@ use Rattle.dp_spec.specs.Arithmetic.{Arithmetic, arithmetic, exact, outward}
 use Rattle.dp_spec.specs.Bound.{bound_of}
 use Rattle.dp_spec.specs.BoundTree.{AllLeavesAtMost, BoundTree, BoundTrees, LeavesAtMost, branch, leaf, merge, more_bound_trees, no_bound_trees}
 use Rattle.dp_spec.specs.Enclosure.{Enclosure, IsSound, containment as within_span, equality}
-use Rattle.dp_spec.specs.Fitting.{BoundsEveryPolicy, FitEachAction, FitsFront, IsChecked, front_bound}
+use Rattle.dp_spec.specs.Fitting.{FitEachAction, FitsFront, front_bound}
 use Rattle.dp_spec.specs.Front.{AgentFront, Front, fixed_joint_action}
 use Rattle.dp_spec.specs.JointHistory.{history_weight}
 use Rattle.dp_laws.specs.Following.{FollowsAgentFront, FollowsAgentFronts}
 use Rattle.dp_laws.specs.Following.FollowsAgentFronts.{and_agent, no_agents}
 use Rattle.dp_spec.specs.Merge.{merged_front}
 use Rattle.dp_spec.specs.Model.{IsModel, Model, joint_observations, value_scale}
+use Rattle.dp_spec.specs.PolicyTree.IsJointPolicy.{no_agents as no_policies, and_agent as and_policy}
+use Rattle.dp_spec.specs.Certificate.{FitsRoot}
+use Rattle.dp_spec.specs.Claims.{BoundsEveryPolicy}
 use Rattle.dp_spec.specs.PolicyTree.{IsJointPolicy, IsPolicyTree, PolicyTree, root_action, subtree}
 use Rattle.dp_spec.specs.Quantities.{bound_in}
 use Rattle.dp_spec.specs.Steps.{IsUnassigned, advanced_agents, advanced_if, front_after_choice, is_complete, root_agent, root_front, with_choice}
@@ -146,24 +149,20 @@ root_side_keeps b n h q fits = record {
   of_stage = refl;
 }
 
-root_keeps : (bs ns : List ℕ) (h : ℕ) (qs : List PolicyTree) → IsJointPolicy bs ns h qs → (uss : List (ℕ → PolicyTree)) × FollowsAgentFronts 0 h bs ns (map (λ n. root_agent) bs) qs uss
-root_keeps [] [] h [] fits = ([], no_agents)
-root_keeps [] [] h (q ∷ qs) fits = absurd fits
-root_keeps [] (n ∷ ns) h qs fits = absurd fits
-root_keeps (b ∷ bs) [] h qs fits = absurd fits
-root_keeps (b ∷ bs) (n ∷ ns) h [] fits = absurd fits
-root_keeps (b ∷ bs) (n ∷ ns) h (q ∷ qs) fits = let more = root_keeps bs ns h qs fits.1 in ((λ c. q) ∷ more.0, and_agent (root_side_keeps b n h q fits.0) more.1)
+root_keeps : {h : ℕ} {bs ns : List ℕ} {qs : List PolicyTree} → IsJointPolicy h bs ns qs → (uss : List (ℕ → PolicyTree)) × FollowsAgentFronts 0 h bs ns (map (λ n. root_agent) bs) qs uss
+root_keeps no_policies = ([], no_agents)
+root_keeps (and_policy {b = b} {n = n} {q = q} fits more) = let rest = root_keeps more in ((λ c. q) ∷ rest.0, and_agent (root_side_keeps b n _ q fits) rest.1)
 
--- a tree that was checked in a sound arithmetic bounds every joint policy
-pub checked_sound : (A : Arithmetic) (R : Enclosure) (m : Model) → IsModel m → IsSound m A R → (h look : ℕ) (T : BoundTree) (u : ℤ) → IsChecked A m h look T u → BoundsEveryPolicy m h (R.unit (value_scale m h)) u
+-- a tree that fits the root front in a sound arithmetic bounds every joint policy
+pub checked_sound : (A : Arithmetic) (R : Enclosure) (m : Model) → IsModel m → IsSound m A R → (h look : ℕ) (T : BoundTree) (u : ℤ) → FitsRoot A m h look T → LeavesAtMost u T → BoundsEveryPolicy m h (pos (R.unit (value_scale m h))) u
 unfolding root_front
-checked_sound A R m is ok h look T u checked qs fits =
-    let ks = root_keeps m.actions m.observations h qs fits in
+checked_sound A R m is ok h look T u fits below qs policy =
+    let ks = root_keeps policy in
     let e : h ≡ h - 0 = omega arith in
     let ks' = subst (λ (n : ℕ). FollowsAgentFronts 0 n m.actions m.observations (map (λ n. root_agent) m.actions) qs ks.0) e ks.1 in
-    plan_sound A R m is ok h look (policy_value m h qs) u T (root_front m) _ qs ks.0 checked.0 (omega arith) ks' (zle_of _ _ refl) (under_bound A R m is ok h look (root_front m) qs ks.0 (omega arith) ks') checked.1
+    plan_sound A R m is ok h look (policy_value m h qs) u T (root_front m) _ qs ks.0 fits (omega arith) ks' (zle_of _ _ refl) (under_bound A R m is ok h look (root_front m) qs ks.0 (omega arith) ks') below
 
 -- ---- in the mode of a model and a horizon
-pub both_sound : (m : Model) → IsModel m → (h look : ℕ) (T : BoundTree) (u : ℤ) (e : Bool) → IsChecked (arithmetic e m.scales) m h look T u → BoundsEveryPolicy m h (cond e (value_scale m h) (10 ^ 9)) u
-both_sound m is h look T u true c = checked_sound (exact m.scales) equality m is (exact_sound m) h look T u c
-both_sound m is h look T u false c = checked_sound (outward m.scales) within_span m is (outward_sound m is) h look T u c
+pub both_sound : (m : Model) → IsModel m → (h look : ℕ) (T : BoundTree) (u : ℤ) (e : Bool) → FitsRoot (arithmetic e m.scales) m h look T → LeavesAtMost u T → BoundsEveryPolicy m h (pos (cond e (value_scale m h) (10 ^ 9))) u
+both_sound m is h look T u true fits below = checked_sound (exact m.scales) equality m is (exact_sound m) h look T u fits below
+both_sound m is h look T u false fits below = checked_sound (outward m.scales) within_span m is (outward_sound m is) h look T u fits below

@@ -8,7 +8,9 @@ use Rattle.dp_spec.specs.JointNumbers.{parts_of}
 use Rattle.dp_laws.specs.Following.{FollowsAgentFronts}
 use Rattle.dp_laws.specs.Following.FollowsAgentFronts.{and_agent, no_agents}
 use Rattle.dp_spec.specs.Model.{Model, joint_observations}
-use Rattle.dp_spec.specs.PolicyTree.{IsJointPolicy, IsPolicyTree, PolicyTree, node, root_action}
+use Rattle.dp_spec.specs.PolicyTree.IsJointPolicy.{no_agents as no_policies, and_agent as and_policy}
+use Rattle.dp_laws.proofs.Trees.{root_in}
+use Rattle.dp_spec.specs.PolicyTree.{IsJointPolicy, PolicyTree, root_action}
 use Rattle.dp_spec.specs.Value.{subtrees_at, trees_after}
 
 -- the trees of a joint class
@@ -43,10 +45,10 @@ class_in no_agents xs h = tt
 class_in (and_agent k ks) [] h = absurd h
 class_in (and_agent k ks) (x ∷ xs) h = (k.in_range x h.0, class_in ks xs h.1)
 
-pub trees_fit : {f r : ℕ} {bs ns : List ℕ} {ds : List AgentFront} {qs : List PolicyTree} {uss : List (ℕ → PolicyTree)} → FollowsAgentFronts f r bs ns ds qs uss → (cs : List ℕ) → Below (class_counts ds) cs → IsJointPolicy bs ns r (trees_of uss cs)
-trees_fit no_agents cs h = tt
+pub trees_fit : {f r : ℕ} {bs ns : List ℕ} {ds : List AgentFront} {qs : List PolicyTree} {uss : List (ℕ → PolicyTree)} → FollowsAgentFronts f r bs ns ds qs uss → (cs : List ℕ) → Below (class_counts ds) cs → IsJointPolicy r bs ns (trees_of uss cs)
+trees_fit no_agents cs h = no_policies
 trees_fit (and_agent k ks) [] h = absurd h
-trees_fit (and_agent k ks) (c ∷ cs) h = (k.are_trees c h.0, trees_fit ks cs h.1)
+trees_fit (and_agent k ks) (c ∷ cs) h = and_policy (k.are_trees c h.0) (trees_fit ks cs h.1)
 
 agrees_one : (o : Option ℕ) (a : ℕ) → ((b : ℕ) → o ≡ Some b → a ≡ b) → agrees o a ≡ true
 agrees_one None a h = refl
@@ -57,10 +59,6 @@ they_agree no_agents cs h = refl
 they_agree (and_agent k ks) [] h = absurd h
 they_agree (and_agent {d = d} k ks) (c ∷ cs) h =
     let here = agrees_one (get_or d.chosen c None) _ (λ b e. k.does_chosen c b h.0 e) in rw (here, they_agree ks cs h.1)
-
-pub root_in : (b n r : ℕ) (q : PolicyTree) → IsPolicyTree b n (suc r) q → root_action q < b
-root_in b n zero (node a ks) h = h.0
-root_in b n (suc r) (node a ks) h = h.0
 
 pub acts_in : {f r : ℕ} {bs ns : List ℕ} {ds : List AgentFront} {qs : List PolicyTree} {uss : List (ℕ → PolicyTree)} → FollowsAgentFronts f (suc r) bs ns ds qs uss → (cs : List ℕ) → Below (class_counts ds) cs → Below bs (map root_action (trees_of uss cs))
 acts_in no_agents cs h = tt

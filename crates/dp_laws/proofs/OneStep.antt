@@ -7,7 +7,7 @@ use Rattle.dp_laws.proofs.Sums.{int_sum_ext, int_sum_le, int_sum_add, mul_two, a
 use Rattle.dp_spec.specs.LookAhead.{action_look_ahead, look_ahead, weighted_reward, weights_after}
 use Rattle.dp_spec.specs.MdpTable.{mdp_table}
 use Rattle.dp_spec.specs.Model.{IsModel, Model, joint_actions, joint_observations, obs_at, reward_at, step_scale, trans_at}
-use Rattle.dp_spec.specs.PolicyTree.{IsJointPolicy, PolicyTree}
+use Rattle.dp_spec.specs.PolicyTree.{IsPolicyOf, PolicyTree}
 use Rattle.dp_spec.specs.Sums.{int_sum}
 use Rattle.dp_spec.specs.Value.{backward_value, joint_root_action, trees_after}
 
@@ -47,13 +47,13 @@ pub one_step : (m : Model) (r : ℕ) (w : ℕ → ℕ) (qs : List PolicyTree) �
     ≡ weighted_reward m r w (joint_root_action m qs) +ℤ int_sum (joint_observations m) (λ o. int_sum m.states (λ t. pos (weights_after m w (joint_root_action m qs) o t) *ℤ backward_value m r t (trees_after m qs o)))
 one_step m r w qs = one_step_to m r w (joint_root_action m qs) (λ t o. backward_value m r t (trees_after m qs o))
 
-pub root_below : (m : Model) (r : ℕ) (qs : List PolicyTree) → IsJointPolicy m.actions m.observations (suc r) qs → joint_root_action m qs < joint_actions m
+pub root_below : (m : Model) (r : ℕ) (qs : List PolicyTree) → IsPolicyOf m (suc r) qs → joint_root_action m qs < joint_actions m
 unfolding joint_root_action joint_actions
-root_below m r qs h = joint_below m.actions m.observations r qs h
+root_below m r qs h = joint_below h
 
-pub after_fits : (m : Model) (r : ℕ) (qs : List PolicyTree) (o : ℕ) → o < joint_observations m → IsJointPolicy m.actions m.observations (suc r) qs → IsJointPolicy m.actions m.observations r (trees_after m qs o)
+pub after_fits : (m : Model) (r : ℕ) (qs : List PolicyTree) (o : ℕ) → o < joint_observations m → IsPolicyOf m (suc r) qs → IsPolicyOf m r (trees_after m qs o)
 unfolding trees_after joint_observations
-after_fits m r qs o p h = kids_fit m.actions m.observations r qs o p h
+after_fits m r qs o p h = kids_fit o p h
 
 step_le : (p g : ℕ) (x n b : ℤ) → n ≤ℤ b → (pos p *ℤ (x +ℤ pos g *ℤ n)) ≤ℤ (pos p *ℤ x +ℤ pos (p * g) *ℤ b)
 step_le p g x n b h =
@@ -84,7 +84,7 @@ step_le_table m ok r s a N p a_in small =
     (zle_trans _ _ _ (zle_of _ _ e) (best_below _ (joint_actions m) a a_in))
 
 -- no joint policy of r steps is worth more in a state than the table says
-pub value_le_table : (m : Model) → IsModel m → (r s : ℕ) (qs : List PolicyTree) → s < m.states → IsJointPolicy m.actions m.observations r qs → backward_value m r s qs ≤ℤ mdp_table m r s
+pub value_le_table : (m : Model) → IsModel m → (r s : ℕ) (qs : List PolicyTree) → s < m.states → IsPolicyOf m r qs → backward_value m r s qs ≤ℤ mdp_table m r s
 value_le_table m ok zero s qs p h = zle_of _ _ refl
 value_le_table m ok (suc r) s qs p h =
     step_le_table m ok r s (joint_root_action m qs) (λ t o. backward_value m r t (trees_after m qs o)) p (root_below m r qs h)
@@ -94,7 +94,7 @@ tail_zero : (n : ℕ) (w : ℕ → ℕ) → int_sum n (λ s. pos (w s) *ℤ pos 
 tail_zero n w = int_sum_weigh n w (pos 0) ∙ omega (arith, ints)
 
 -- no joint policy of r steps earns more from weights than the look-ahead says
-pub value_le_tail : (m : Model) → IsModel m → (r k : ℕ) (w : ℕ → ℕ) (qs : List PolicyTree) → IsJointPolicy m.actions m.observations r qs → int_sum m.states (λ s. pos (w s) *ℤ backward_value m r s qs) ≤ℤ look_ahead m r w k
+pub value_le_tail : (m : Model) → IsModel m → (r k : ℕ) (w : ℕ → ℕ) (qs : List PolicyTree) → IsPolicyOf m r qs → int_sum m.states (λ s. pos (w s) *ℤ backward_value m r s qs) ≤ℤ look_ahead m r w k
 value_le_tail m ok zero k w qs h = zle_of _ _ (tail_zero m.states w)
 value_le_tail m ok (suc r) zero w qs h = int_sum_le m.states _ _ (λ s p. zmul_le (w s) _ _ (value_le_table m ok (suc r) s qs p h))
 value_le_tail m ok (suc r) (suc k) w qs h =
@@ -105,7 +105,7 @@ value_le_tail m ok (suc r) (suc k) w qs h =
     (best_below _ (joint_actions m) a (root_below m r qs h)))
 
 -- the same for trees whose roots do a
-pub value_le_action : (m : Model) → IsModel m → (r k : ℕ) (w : ℕ → ℕ) (qs : List PolicyTree) → IsJointPolicy m.actions m.observations (suc r) qs → int_sum m.states (λ s. pos (w s) *ℤ backward_value m (suc r) s qs) ≤ℤ action_look_ahead m r w (joint_root_action m qs) k
+pub value_le_action : (m : Model) → IsModel m → (r k : ℕ) (w : ℕ → ℕ) (qs : List PolicyTree) → IsPolicyOf m (suc r) qs → int_sum m.states (λ s. pos (w s) *ℤ backward_value m (suc r) s qs) ≤ℤ action_look_ahead m r w (joint_root_action m qs) k
 unfolding action_look_ahead
 value_le_action m ok r k w qs h =
     let a = joint_root_action m qs in

@@ -1,5 +1,6 @@
 -- Bound trees: the tree of a certificate.
-use Rattle.std.specs.Prelude.{ℕ, ℤ, ◌≤ℤ◌}
+use Rattle.std.specs.Prelude.{ℕ, suc, ◌+◌, ℤ, pos, ◌≤ℤ◌}
+use Rattle.std.specs.Int.{int_max}
 
 -- a leaf with its bound; a branch on the actions of an agent's class; two classes of an agent merged
 mutual
@@ -22,3 +23,26 @@ abbrev mutual
   pub AllLeavesAtMost : ℤ → BoundTrees → Type 0
   AllLeavesAtMost u no_bound_trees = Unit {0}
   AllLeavesAtMost u (more_bound_trees k ks) = LeavesAtMost u k × AllLeavesAtMost u ks
+
+abbrev mutual
+  -- how many branches and merges a tree has
+  pub inner_count : BoundTree → ℕ
+  inner_count (leaf x) = 0
+  inner_count (branch i c ks) = suc (inner_counts ks)
+  inner_count (merge i a b k) = suc (inner_count k)
+
+  pub inner_counts : BoundTrees → ℕ
+  inner_counts no_bound_trees = 0
+  inner_counts (more_bound_trees k ks) = inner_count k + inner_counts ks
+
+abbrev mutual
+  -- the greatest bound that a leaf states
+  pub greatest_leaf : BoundTree → ℤ
+  greatest_leaf (leaf x) = x
+  greatest_leaf (branch i c ks) = greatest_leaf_of ks
+  greatest_leaf (merge i a b k) = greatest_leaf k
+
+  pub greatest_leaf_of : BoundTrees → ℤ
+  greatest_leaf_of no_bound_trees = pos 0
+  greatest_leaf_of (more_bound_trees k no_bound_trees) = greatest_leaf k
+  greatest_leaf_of (more_bound_trees k (more_bound_trees k' ks)) = int_max (greatest_leaf k) (greatest_leaf_of (more_bound_trees k' ks))

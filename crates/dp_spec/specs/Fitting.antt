@@ -2,14 +2,14 @@
 use Rattle.std.specs.Prelude.{ℕ, suc, ◌-◌, ◌<◌, ◌≡◌, IsTrue, ℤ, pos, ◌*ℤ◌, ◌≤ℤ◌, List, get_or}
 use Rattle.std.specs.Int.{int_min}
 use Rattle.dp_spec.specs.Model.{Model, value_scale}
-use Rattle.dp_spec.specs.PolicyTree.{PolicyTree, IsJointPolicy}
+use Rattle.dp_spec.specs.PolicyTree.{PolicyTree, IsPolicyOf}
 use Rattle.dp_spec.specs.Value.{policy_value}
 use Rattle.dp_spec.specs.Front.{Front}
-use Rattle.dp_spec.specs.Steps.{IsUnassigned, front_after_choice, root_front}
+use Rattle.dp_spec.specs.Steps.{IsUnassigned, front_after_choice}
 use Rattle.dp_spec.specs.Merge.{AreEquivalent, merged_front}
 use Rattle.dp_spec.specs.Arithmetic.{Arithmetic}
 use Rattle.dp_spec.specs.Quantities.{bound_in}
-use Rattle.dp_spec.specs.BoundTree.{BoundTree, BoundTrees, leaf, branch, merge, no_bound_trees, more_bound_trees, LeavesAtMost}
+use Rattle.dp_spec.specs.BoundTree.{BoundTree, BoundTrees, leaf, branch, merge, no_bound_trees, more_bound_trees}
 
 -- the bound of a front, of a horizon of h steps
 unfoldable pub front_bound : Arithmetic → Model → ℕ → ℕ → Front → ℤ
@@ -33,7 +33,4 @@ abbrev mutual
 
 -- u over the unit is at least the expected reward of every joint policy of h steps
 abbrev pub BoundsEveryPolicy : Model → ℕ → ℕ → ℤ → Type 0
-BoundsEveryPolicy m h unit u = (qs : List PolicyTree) → IsJointPolicy m.actions m.observations h qs → (policy_value m h qs *ℤ pos unit) ≤ℤ (u *ℤ pos (value_scale m h))
-
-abbrev pub IsChecked : Arithmetic → Model → ℕ → ℕ → BoundTree → ℤ → Type 0
-IsChecked A m h look T u = FitsFront A m h look T (root_front m) (front_bound A m h look (root_front m)) × LeavesAtMost u T
+BoundsEveryPolicy m h unit u = (qs : List PolicyTree) → IsPolicyOf m h qs → (policy_value m h qs *ℤ pos unit) ≤ℤ (u *ℤ pos (value_scale m h))

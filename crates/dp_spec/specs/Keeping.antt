@@ -18,11 +18,12 @@ pub record KeepsAgentFront (n f : ℕ) (d : AgentFront) (q : PolicyTree) : Type 
   -- it does the chosen action after each own history of a class that has one
   pub does_chosen : (x a : ℕ) → x < n ^ f → get_or d.chosen (get_or d.class_of x 0) None ≡ Some a → root_action (tree_at n q f x) ≡ a
 
-abbrev pub KeepAgentFronts : List ℕ → ℕ → List AgentFront → List PolicyTree → Type 0
-KeepAgentFronts [] f [] [] = Unit {0}
-KeepAgentFronts (n ∷ ns) f (d ∷ ds) (q ∷ qs) = KeepsAgentFront n f d q × KeepAgentFronts ns f ds qs
-KeepAgentFronts ns f ds qs = ⊥
+-- one tree per agent, each of which keeps that agent's part of a front of stage f
+pub data KeepAgentFronts (f : ℕ) : List ℕ → List AgentFront → List PolicyTree → Type 0 where
+  no_agents : KeepAgentFronts f [] [] []
+  and_agent : {n : ℕ} {ns : List ℕ} {d : AgentFront} {ds : List AgentFront} {q : PolicyTree} {qs : List PolicyTree} →
+      KeepsAgentFront n f d q → KeepAgentFronts f ns ds qs → KeepAgentFronts f (n ∷ ns) (d ∷ ds) (q ∷ qs)
 
--- one tree per agent, each of which keeps that agent's part of the front
+-- the joint policy keeps the front
 abbrev pub KeepsFront : Model → Front → List PolicyTree → Type 0
-KeepsFront m F qs = KeepAgentFronts m.observations F.stage F.agents qs
+KeepsFront m F qs = KeepAgentFronts F.stage m.observations F.agents qs

@@ -17,3 +17,8 @@ pub mod Enclosure
 pub mod BoundTree
 pub mod Fitting
 pub mod Keeping
+pub mod WellFormed
+pub mod Mode
+pub mod Certificate
+pub mod Qualities
+pub mod Claims

@@ -1,5 +1,6 @@
 -- Policy trees and joint policies (Oliehoek and Amato, chapter 3): deterministic, and each agent acts on its own observations.
 use Rattle.std.specs.Prelude.{ℕ, zero, suc, ◌<◌, ◌≡◌, List, [], ◌∷◌}
+use Rattle.dp_spec.specs.Model.{Model}
 
 -- an action, and the tree that is followed after each own observation
 mutual
@@ -40,8 +41,11 @@ abbrev mutual
   ArePolicyTrees b n r (suc c) no_trees = ⊥
   ArePolicyTrees b n r (suc c) (more_trees k ks) = IsPolicyTree b n r k × ArePolicyTrees b n r c ks
 
--- one tree of r steps per agent
-abbrev pub IsJointPolicy : List ℕ → List ℕ → ℕ → List PolicyTree → Type 0
-IsJointPolicy [] [] r [] = Unit {0}
-IsJointPolicy (b ∷ bs) (n ∷ ns) r (q ∷ qs) = IsPolicyTree b n r q × IsJointPolicy bs ns r qs
-IsJointPolicy bs ns r qs = ⊥
+-- one tree of r steps per agent, for agents with these numbers of actions and observations
+pub data IsJointPolicy (r : ℕ) : List ℕ → List ℕ → List PolicyTree → Type 0 where
+  no_agents : IsJointPolicy r [] [] []
+  and_agent : {b n : ℕ} {bs ns : List ℕ} {q : PolicyTree} {qs : List PolicyTree} → IsPolicyTree b n r q → IsJointPolicy r bs ns qs → IsJointPolicy r (b ∷ bs) (n ∷ ns) (q ∷ qs)
+
+-- a joint policy of h steps for a model
+abbrev pub IsPolicyOf : Model → ℕ → List PolicyTree → Type 0
+IsPolicyOf m h qs = IsJointPolicy h m.actions m.observations qs
