@@ -1,3 +1,4 @@
+mod NumberingRows
 mod SmallModels
 mod SmallRows
 mod TigerRows

@@ -1,0 +1,56 @@
+-- Worked rows of numberings: joint numbers, own histories, classes, limits of a horizon.
+use Rattle.std.proofs.Common.{◌≡◌, ◌*◌, ◌^◌, pos, negsuc, [], ◌∷◌, map, refl}
+use Rattle.dp_spec.specs.Model.{step_scale, value_scale}
+use Rattle.dp_spec.specs.JointNumbers.{joint_number, parts_of}
+use Rattle.dp_spec.specs.Front.{AgentFront, own_histories}
+use Rattle.dp_spec.specs.Steps.{root_front, front_after_choice, advanced_agent}
+use Rattle.dp_spec.specs.Merge.{renumbered, merged_front}
+use Rattle.dp_spec.specs.Mode.{is_exact_mode, unit_of, own_history_count}
+use Rattle.dp_spec.specs.Rounding.{floor_of, ceiling_of}
+use Rattle.dp_spec.proofs.SmallModels.{blind, tiger}
+
+-- the first agent is most significant
+joint_of_two_one : joint_number (3 ∷ 2 ∷ []) (2 ∷ 1 ∷ []) ≡ 5
+joint_of_two_one = refl
+
+joint_of_one_zero : joint_number (3 ∷ 2 ∷ []) (1 ∷ 0 ∷ []) ≡ 2
+joint_of_one_zero = refl
+
+parts_of_five : parts_of (3 ∷ 2 ∷ []) 5 ≡ 2 ∷ 1 ∷ []
+parts_of_five = refl
+
+-- first the joint observation 0 1, then 1 0: the first observation is most significant in each own history
+own_of_two_steps : own_histories (2 ∷ 2 ∷ []) (2 ∷ 1 ∷ []) ≡ 1 ∷ 2 ∷ []
+own_of_two_steps = refl
+
+-- class c followed by observation o is class 2 * c + o
+classes_of_second_stage : map (λ (d : AgentFront). d.class_of) (front_after_choice blind (merged_front (front_after_choice blind (root_front blind) 0 0 0) 0 0 1) 0 0 0).agents ≡ (0 ∷ 1 ∷ 0 ∷ 1 ∷ []) ∷ []
+unfolding blind root_front front_after_choice advanced_agent
+classes_of_second_stage = refl
+
+-- second 2 joined into first 0: what is above 2 moves down
+renumbered_classes : map (renumbered 0 2) (0 ∷ 1 ∷ 2 ∷ 3 ∷ []) ≡ 0 ∷ 1 ∷ 0 ∷ 2 ∷ []
+renumbered_classes = refl
+
+-- ---- limits and modes of tiger
+own_histories_of_ten : own_history_count (2 ∷ 2 ∷ []) 10 ≡ 2046
+own_histories_of_ten = refl
+
+own_histories_of_eleven : own_history_count (2 ∷ 2 ∷ []) 11 ≡ 4094
+own_histories_of_eleven = refl
+
+unit_of_eight_steps : unit_of tiger 8 ≡ 512 * 10 ^ 32
+unfolding tiger unit_of is_exact_mode value_scale step_scale
+unit_of_eight_steps = refl
+
+-- ---- rounding
+third_down : floor_of (negsuc 0) 3 ≡ negsuc 0
+third_down = refl
+
+third_up : ceiling_of (pos 1) 3 ≡ pos 1
+unfolding ceiling_of
+third_up = refl
+
+negative_third_up : ceiling_of (negsuc 0) 3 ≡ pos 0
+unfolding ceiling_of
+negative_third_up = refl
