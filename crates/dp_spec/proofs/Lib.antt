@@ -2,3 +2,4 @@ mod NumberingRows
 mod SmallModels
 mod SmallRows
 mod TigerRows
+mod TextRows

@@ -22,3 +22,6 @@ pub mod Mode
 pub mod Certificate
 pub mod Qualities
 pub mod Claims
+pub mod TextLines
+pub mod PolicyText
+pub mod CertificateText
