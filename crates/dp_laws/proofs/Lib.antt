@@ -25,3 +25,4 @@ pub mod StepSides
 pub mod Sums
 pub mod Trees
 pub mod LineTexts
+pub mod PolicyTexts

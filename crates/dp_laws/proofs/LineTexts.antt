@@ -149,7 +149,7 @@ NoFeed-joined (item ∷ second ∷ items) h = NoFeed-append item (32 ∷ join_wi
 abbrev pub AreLines : List Line → Type 0
 AreLines lines = AllByRecursion (λ (line : Line). HasItems line.form × Allows line.form line.numbers) lines
 
-pub bytes_of : Line → List ℕ
+unfoldable pub bytes_of : Line → List ℕ
 bytes_of line = line_text line.form line.numbers
 
 split_text : (lines : List Line) → AreLines lines → slice_split (λ b. eqb b 10) (text_of_lines lines) ≡ map bytes_of lines ++ [] ∷ []

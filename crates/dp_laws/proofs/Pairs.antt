@@ -39,7 +39,7 @@ last_in cls c (suc k) n h e =
           ]
     ]
 
-tree_at_fits : (b n : ℕ) (q : PolicyTree) (t r k y : ℕ) → t + r ≡ k → y < n ^ t → IsPolicyTree b n k q → IsPolicyTree b n r (tree_at n q t y)
+pub tree_at_fits : (b n : ℕ) (q : PolicyTree) (t r k y : ℕ) → t + r ≡ k → y < n ^ t → IsPolicyTree b n k q → IsPolicyTree b n r (tree_at n q t y)
 tree_at_fits b n q zero r k y e h is = let e' : k ≡ r = omega arith in subst (λ (z : ℕ). IsPolicyTree b n z q) e' is
 tree_at_fits b n q (suc t) r k y e h is =
     let h' : y < n ^ t * n = rw pow-suc at h in
