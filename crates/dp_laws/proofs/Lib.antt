@@ -26,3 +26,4 @@ pub mod Sums
 pub mod Trees
 pub mod LineTexts
 pub mod PolicyTexts
+pub mod WholeTexts

@@ -1,8 +1,10 @@
 -- The text of a certificate: its head, its policy, and its bound tree with one line for each node.
-use Rattle.std.specs.Prelude.{ℕ, ◌+◌, ℤ, pos, Bool, if◌then◌else◌, List, [], ◌∷◌, ◌++◌, codes}
+use Rattle.std.specs.Prelude.{◌≡◌, ℕ, ◌+◌, ℤ, pos, Bool, if◌then◌else◌, List, [], ◌∷◌, ◌++◌, codes}
+use Rattle.dp_spec.specs.Model.{Model}
+use Rattle.dp_spec.specs.PolicyTree.{IsPolicyOf}
 use Rattle.dp_spec.specs.BoundTree.{BoundTree, BoundTrees, leaf, branch, merge, no_bound_trees, more_bound_trees}
 use Rattle.dp_spec.specs.Certificate.{Certificate}
-use Rattle.dp_spec.specs.TextLines.{Item, fixed, plain, signed, any_plain, Line, fixed_line, text_of_lines}
+use Rattle.dp_spec.specs.TextLines.{Item, fixed, plain, signed, any_plain, Line, fixed_line, text_of_lines, AllAllowed}
 use Rattle.dp_spec.specs.PolicyText.{title_form, end_form, horizon_line, policy_rows, agent_lines}
 
 -- ---- the forms of the lines
@@ -80,3 +82,9 @@ certificate_lines bs ns c =
 
 unfoldable pub certificate_text : List ℕ → List ℕ → Certificate → List ℕ
 certificate_text bs ns c = text_of_lines (certificate_lines bs ns c)
+
+-- These bytes are the text of a certificate with a joint policy for a model, and each line has numbers that it allows.
+pub record IsCertificateText (m : Model) (bytes : List ℕ) (c : Certificate) : Type 0 where
+  pub policy : IsPolicyOf m c.horizon c.policy
+  pub allowed : AllAllowed (certificate_lines m.actions m.observations c)
+  pub text : bytes ≡ certificate_text m.actions m.observations c

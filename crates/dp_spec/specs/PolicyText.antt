@@ -1,10 +1,11 @@
 -- The text of a joint policy: for each agent the actions after its own histories, one line for each stage.
-use Rattle.std.specs.Prelude.{ℕ, ◌+◌, ◌-◌, ◌^◌, pos, List, [], ◌∷◌, ◌++◌, map, replicate, codes}
+use Rattle.std.specs.Prelude.{◌≡◌, ℕ, ◌+◌, ◌-◌, ◌^◌, pos, List, [], ◌∷◌, ◌++◌, map, replicate, codes}
 use Rattle.std.specs.List.{range_with_len}
 use Rattle.std.specs.Fmt.{decimal}
-use Rattle.dp_spec.specs.PolicyTree.{PolicyTree, root_action}
+use Rattle.dp_spec.specs.Model.{Model}
+use Rattle.dp_spec.specs.PolicyTree.{PolicyTree, root_action, IsPolicyOf}
 use Rattle.dp_spec.specs.Keeping.{tree_at}
-use Rattle.dp_spec.specs.TextLines.{Item, fixed, plain, Line, fixed_line, text_of_lines}
+use Rattle.dp_spec.specs.TextLines.{Item, fixed, plain, Line, fixed_line, text_of_lines, AllAllowed}
 
 -- ---- the forms of the lines
 
@@ -57,3 +58,9 @@ policy_lines bs ns horizon qs =
 
 unfoldable pub policy_text : List ℕ → List ℕ → ℕ → List PolicyTree → List ℕ
 policy_text bs ns horizon qs = text_of_lines (policy_lines bs ns horizon qs)
+
+-- These bytes are the text of a joint policy of h steps for a model, and each line has numbers that it allows.
+pub record IsPolicyText (m : Model) (bytes : List ℕ) (h : ℕ) (qs : List PolicyTree) : Type 0 where
+  pub policy : IsPolicyOf m h qs
+  pub allowed : AllAllowed (policy_lines m.actions m.observations h qs)
+  pub text : bytes ≡ policy_text m.actions m.observations h qs

@@ -1,0 +1,120 @@
+-- One spelling of whole texts: a text is that of one policy, or of one certificate.
+use Rattle.std.proofs.Common.{◌≡◌, ℕ, zero, suc, ◌+◌, ◌-◌, ◌*◌, ◌^◌, ◌<◌, ◌≤◌, Bool, true, false, not, ◌&&◌, eqb, List, [], ◌∷◌, ◌++◌, length, get_or, drop, refl, sym, ap, subst, ◌∙◌, append_assoc, arith}
+use Rattle.std.specs.Prelude.{ℤ, pos, unsigned_abs, map, codes}
+use Rattle.std.specs.List.{AllByRecursion, list_all, range_with_len}
+use Rattle.std.proofs.Math.Nat.{le-mul_of_pos_right}
+use Rattle.dp_spec.specs.JointNumbers.{product}
+use Rattle.dp_spec.specs.Model.{Model, IsModel, joint_actions}
+use Rattle.dp_spec.specs.PolicyTree.IsJointPolicy.{and_agent, no_agents}
+use Rattle.dp_spec.specs.PolicyTree.{IsJointPolicy, IsPolicyTree, PolicyTree}
+use Rattle.dp_spec.specs.TextLines.{Item, fixed, plain, signed, Line, fixed_line, line_text, text_of_lines, Allows, AllAllowed}
+use Rattle.dp_spec.specs.PolicyText.{title_form, horizon_form, agent_form, end_form, row_line, policy_rows, agent_lines, policy_lines, policy_text, IsPolicyText}
+use Rattle.dp_laws.proofs.Trees.{pos_of}
+use Rattle.dp_laws.proofs.LineTexts.{IsItem, decimal_item, HasItems, AreLines, bytes_of, first_of_list, rest_of_list, line_tells, text_tells}
+use Rattle.dp_laws.proofs.PolicyTexts.{AreSmall, row_is, agents_tell}
+
+-- ---- lines
+
+not_true : (b : Bool) → not b ≡ true → b ≡ false
+not_true true h = absurd cc
+not_true false h = refl
+
+and_left : (a b : Bool) → (a && b) ≡ true → a ≡ true
+and_left true b h = refl
+and_left false b h = h
+
+and_right : (a b : Bool) → (a && b) ≡ true → b ≡ true
+and_right true b h = h
+and_right false b h = absurd cc
+
+abbrev is_item_byte : ℕ → Bool
+is_item_byte b = not (eqb b 32) && not (eqb b 10)
+
+literal : (text : List ℕ) → list_all is_item_byte text ≡ true → IsItem text
+literal [] h = tt
+literal (b ∷ text) h =
+    let here = and_left (is_item_byte b) (list_all is_item_byte text) h in
+    ((not_true (eqb b 32) (and_left (not (eqb b 32)) (not (eqb b 10)) here), not_true (eqb b 10) (and_right (not (eqb b 32)) (not (eqb b 10)) here)),
+    literal text (and_right (is_item_byte b) (list_all is_item_byte text) h))
+
+-- a test of the fixed texts of a form
+abbrev has_items : List Item → Bool
+has_items [] = true
+has_items (fixed text ∷ form) = list_all is_item_byte text && has_items form
+has_items (item ∷ form) = has_items form
+
+pub tested : (form : List Item) → has_items form ≡ true → HasItems form
+tested [] h = tt
+tested (fixed text ∷ form) h = (literal text (and_left (list_all is_item_byte text) (has_items form) h), tested form (and_right (list_all is_item_byte text) (has_items form) h))
+tested (plain low high ∷ form) h = tested form h
+tested (signed ∷ form) h = tested form h
+
+pub AreLines-append : (lines more : List Line) → AreLines lines → AreLines more → AreLines (lines ++ more)
+AreLines-append [] more p q = q
+AreLines-append (line ∷ lines) more p q = (p.0, AreLines-append lines more p.1 q)
+
+-- what is allowed of lines and further lines is allowed of each part
+pub AllAllowed-append : (lines more : List Line) → AllAllowed (lines ++ more) → AllAllowed lines × AllAllowed more
+AllAllowed-append [] more p = (tt, p)
+AllAllowed-append (line ∷ lines) more p = let rest = AllAllowed-append lines more p.1 in ((p.0, rest.0), rest.1)
+
+-- ---- the agents' lines
+
+rows_are_lines : (b n h : ℕ) (q : PolicyTree) → b ≤ 2 ^ 32 → IsPolicyTree b n h q → (a k : ℕ) → a + k ≤ h → AreLines (map (row_line b n q) (range_with_len a k))
+rows_are_lines b n h q small is a zero within = tt
+rows_are_lines b n h q small is a (suc k) within = (row_is b n h a q small (omega arith) is, rows_are_lines b n h q small is (a + 1) k (omega arith))
+
+pub agents_are_lines : (h : ℕ) (bs ns : List ℕ) (qs : List PolicyTree) → AreSmall bs → IsJointPolicy h bs ns qs → (agent : ℕ) → agent + length bs < 10 ^ 64 → AreLines (agent_lines agent (policy_rows bs ns h qs))
+agents_are_lines h _ _ _ small no_agents agent few = tt
+agents_are_lines h (b ∷ bs) (n ∷ ns) (q ∷ qs) small (and_agent is iss) agent few =
+    (((literal (codes "agent") refl, (decimal_item agent (omega arith), tt)), tt),
+    AreLines-append (map (row_line b n q) (range_with_len 0 h)) (agent_lines (agent + 1) (policy_rows bs ns h qs)) (rows_are_lines b n h q small.0 is 0 h (omega arith))
+      (agents_are_lines h bs ns qs small.1 iss (agent + 1) (omega arith)))
+
+small_factors : (bs : List ℕ) (k : ℕ) → k ≤ 2 ^ 32 → 0 < product bs → product bs ≤ k → AreSmall bs
+small_factors [] k few some most = tt
+small_factors (b ∷ bs) k few some most =
+    let others : 0 < product bs = pos_of b (product bs) 0 some in
+    let this : b ≤ b * product bs = le-mul_of_pos_right b others in
+    let some' : 0 < product bs * b = omega arith in
+    let own : 0 < b = pos_of (product bs) b 0 some' in
+    let rest : product bs ≤ product bs * b = le-mul_of_pos_right (product bs) own in
+    (omega (arith, this, most), small_factors bs k few others (omega (arith, rest, most)))
+
+-- no agent of a model has more actions than a plain number can name
+pub actions_small : (m : Model) → IsModel m → AreSmall m.actions
+unfolding joint_actions
+actions_small m is = small_factors m.actions 256 (omega arith) is.sizes.some_action is.sizes.joint_actions_limit
+
+-- ---- policies
+
+policy_are_lines : (m : Model) → IsModel m → (bytes : List ℕ) (h : ℕ) (qs : List PolicyTree) → IsPolicyText m bytes h qs → AreLines (policy_lines m.actions m.observations h qs)
+policy_are_lines m is bytes h qs text =
+    let agents = is.sizes.agents_limit in
+    ((tested (title_form (codes "policy")) refl, tt),
+    ((tested horizon_form refl, text.allowed.1.0),
+    AreLines-append (agent_lines 0 (policy_rows m.actions m.observations h qs)) (fixed_line end_form ∷ [])
+      (agents_are_lines h m.actions m.observations qs (actions_small m is) text.policy 0 (omega (arith, agents)))
+      ((tested end_form refl, tt), tt)))
+
+-- the line of a horizon tells it
+pub horizon_tells : (h k : ℕ) → Allows horizon_form (pos h ∷ []) → Allows horizon_form (pos k ∷ []) → line_text horizon_form (pos h ∷ []) ≡ line_text horizon_form (pos k ∷ []) → h ≡ k
+horizon_tells h k p q e = ap (λ (l : List ℤ). unsigned_abs (get_or l 0 (pos 0))) (line_tells horizon_form (pos h ∷ []) (pos k ∷ []) (tested horizon_form refl) p q e)
+
+-- a text is that of one joint policy of one horizon
+pub policy_text_tells : (m : Model) → IsModel m → (bytes : List ℕ) (h k : ℕ) (qs ps : List PolicyTree) → IsPolicyText m bytes h qs → IsPolicyText m bytes k ps → (h ≡ k) × (qs ≡ ps)
+unfolding policy_text bytes_of
+policy_text_tells m is bytes h k qs ps mine yours =
+    let lines = text_tells (policy_lines m.actions m.observations h qs) (policy_lines m.actions m.observations k ps)
+      (policy_are_lines m is bytes h qs mine) (policy_are_lines m is bytes k ps yours) (sym mine.text ∙ yours.text) in
+    let behind_title = rest_of_list _ _ _ _ lines in
+    let horizon : h ≡ k = horizon_tells h k mine.allowed.1.0 yours.allowed.1.0 (first_of_list _ _ _ _ behind_title) in
+    let agents = rest_of_list _ _ _ _ behind_title in
+    let some : 0 < h = mine.allowed.1.0.1 in
+    let same : (z : ℕ) → h ≡ z → IsJointPolicy z m.actions m.observations ps
+        → map bytes_of (agent_lines 0 (policy_rows m.actions m.observations h qs) ++ fixed_line end_form ∷ []) ≡ map bytes_of (agent_lines 0 (policy_rows m.actions m.observations z ps) ++ fixed_line end_form ∷ [])
+        → qs ≡ ps = λ z e are texts.
+      (agents_tell h m.actions m.observations qs ps some (actions_small m is) mine.policy (subst (λ (x : ℕ). IsJointPolicy x m.actions m.observations ps) (sym e) are) 0
+        (fixed_line end_form ∷ []) (fixed_line end_form ∷ [])
+        (subst (λ (x : ℕ). map bytes_of (agent_lines 0 (policy_rows m.actions m.observations h qs) ++ fixed_line end_form ∷ []) ≡ map bytes_of (agent_lines 0 (policy_rows m.actions m.observations x ps) ++ fixed_line end_form ∷ [])) (sym e) texts)).0 in
+    (horizon, same k horizon yours.policy agents)
