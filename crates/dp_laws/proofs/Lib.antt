@@ -27,3 +27,4 @@ pub mod Trees
 pub mod LineTexts
 pub mod PolicyTexts
 pub mod WholeTexts
+pub mod CertificateTexts

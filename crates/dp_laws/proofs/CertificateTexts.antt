@@ -1,0 +1,82 @@
+-- One spelling of certificates: a text is that of one certificate.
+use Rattle.std.proofs.Common.{◌≡◌, ℕ, zero, suc, ◌+◌, ◌-◌, ◌^◌, ◌<◌, ◌≤◌, Bool, true, false, List, [], ◌∷◌, ◌++◌, length, get_or, drop, refl, sym, ap, subst, ◌∙◌, append_assoc, arith}
+use Rattle.std.specs.Prelude.{ℤ, pos, unsigned_abs, map, codes}
+use Rattle.dp_spec.specs.Model.{Model, IsModel}
+use Rattle.dp_spec.specs.PolicyTree.{IsJointPolicy, PolicyTree}
+use Rattle.dp_spec.specs.BoundTree.{BoundTree, BoundTrees, leaf, branch, merge, no_bound_trees, more_bound_trees}
+use Rattle.dp_spec.specs.Certificate.{Certificate}
+use Rattle.dp_spec.specs.TextLines.{Item, fixed, plain, signed, Line, fixed_line, line_text, text_of_lines, Allows, AllAllowed}
+use Rattle.dp_spec.specs.PolicyText.{title_form, horizon_form, end_form, policy_rows, agent_lines}
+use Rattle.dp_spec.specs.CertificateText.{look_form, mode_form, signed_form, inner_form, leaf_form, branch_form, merge_form, child_count, node_lines, children_lines, certificate_lines, certificate_text, IsCertificateText}
+use Rattle.dp_laws.proofs.LineTexts.{HasItems, AreLines, bytes_of, first_of_list, rest_of_list, line_tells, text_tells}
+use Rattle.dp_laws.proofs.PolicyTexts.{agents_tell}
+use Rattle.dp_laws.proofs.WholeTexts.{tested, AreLines-append, AllAllowed-append, agents_are_lines, actions_small, horizon_tells}
+
+-- ---- nodes
+
+mutual
+  -- the lines of nodes that are allowed are lines
+  nodes_are_lines : (T : BoundTree) → AllAllowed (node_lines T) → AreLines (node_lines T)
+  nodes_are_lines (leaf x) allowed = ((tested leaf_form refl, allowed.0), tt)
+  nodes_are_lines (branch i c ks) allowed = ((tested branch_form refl, allowed.0), children_are_lines ks allowed.1)
+  nodes_are_lines (merge i a b k) allowed = ((tested merge_form refl, allowed.0), nodes_are_lines k allowed.1)
+
+  children_are_lines : (ks : BoundTrees) → AllAllowed (children_lines ks) → AreLines (children_lines ks)
+  children_are_lines no_bound_trees allowed = tt
+  children_are_lines (more_bound_trees k ks) allowed =
+      let each = AllAllowed-append (node_lines k) (children_lines ks) allowed in
+      AreLines-append (node_lines k) (children_lines ks) (nodes_are_lines k each.0) (children_are_lines ks each.1)
+
+-- number i of a list that equals another
+number_at : (i : ℕ) (ys zs : List ℤ) → ys ≡ zs → get_or ys i (pos 0) ≡ get_or zs i (pos 0)
+number_at i ys zs e = ap (λ (l : List ℤ). get_or l i (pos 0)) e
+
+unpos : (m n : ℕ) → pos m ≡ pos n → m ≡ n
+unpos m n e = ap unsigned_abs e
+
+-- lines that begin with different bytes are not equal
+other_byte : (b c : ℕ) (bs cs : List ℕ) → b < c → b ∷ bs ≡ c ∷ cs → ⊥
+other_byte b c bs cs less e = let same : b ≡ c = first_of_list b c bs cs e in omega arith
+
+mutual
+  unfolding bytes_of
+
+  -- the lines of the nodes tell the tree, and what follows them
+  node_lines_tell : (T U : BoundTree) → AllAllowed (node_lines T) → AllAllowed (node_lines U) → (more others : List Line)
+      → map bytes_of (node_lines T ++ more) ≡ map bytes_of (node_lines U ++ others) → (T ≡ U) × (map bytes_of more ≡ map bytes_of others)
+  node_lines_tell (leaf x) (leaf y) p q more others e =
+      let bound = line_tells leaf_form (x ∷ []) (y ∷ []) (tested leaf_form refl) p.0 q.0 (first_of_list _ _ _ _ e) in
+      (ap leaf (number_at 0 _ _ bound), rest_of_list _ _ _ _ e)
+  node_lines_tell (leaf x) (branch i c ks) p q more others e = absurd (other_byte _ _ _ _ (omega arith) (sym (first_of_list _ _ _ _ e)))
+  node_lines_tell (leaf x) (merge i a b k) p q more others e = absurd (other_byte _ _ _ _ (omega arith) (first_of_list _ _ _ _ e))
+  node_lines_tell (branch i c ks) (leaf y) p q more others e = absurd (other_byte _ _ _ _ (omega arith) (first_of_list _ _ _ _ e))
+  node_lines_tell (branch i c ks) (merge j a b k) p q more others e = absurd (other_byte _ _ _ _ (omega arith) (first_of_list _ _ _ _ e))
+  node_lines_tell (merge i a b k) (leaf y) p q more others e = absurd (other_byte _ _ _ _ (omega arith) (sym (first_of_list _ _ _ _ e)))
+  node_lines_tell (merge i a b k) (branch j c ks) p q more others e = absurd (other_byte _ _ _ _ (omega arith) (sym (first_of_list _ _ _ _ e)))
+  node_lines_tell (branch i c ks) (branch j d ls) p q more others e =
+      let numbers = line_tells branch_form (pos i ∷ pos c ∷ pos (child_count ks) ∷ []) (pos j ∷ pos d ∷ pos (child_count ls) ∷ []) (tested branch_form refl) p.0 q.0 (first_of_list _ _ _ _ e) in
+      let agent : i ≡ j = unpos i j (number_at 0 _ _ numbers) in
+      let class : c ≡ d = unpos c d (number_at 1 _ _ numbers) in
+      let children = children_tell ks ls (unpos _ _ (number_at 2 _ _ numbers)) p.1 q.1 more others (rest_of_list _ _ _ _ e) in
+      (rw (agent, class, children.0) refl, children.1)
+  node_lines_tell (merge i a b k) (merge j c d l) p q more others e =
+      let numbers = line_tells merge_form (pos i ∷ pos a ∷ pos b ∷ []) (pos j ∷ pos c ∷ pos d ∷ []) (tested merge_form refl) p.0 q.0 (first_of_list _ _ _ _ e) in
+      let agent : i ≡ j = unpos i j (number_at 0 _ _ numbers) in
+      let first : a ≡ c = unpos a c (number_at 1 _ _ numbers) in
+      let second : b ≡ d = unpos b d (number_at 2 _ _ numbers) in
+      let child = node_lines_tell k l p.1 q.1 more others (rest_of_list _ _ _ _ e) in
+      (rw (agent, first, second, child.0) refl, child.1)
+
+  children_tell : (ks ls : BoundTrees) → child_count ks ≡ child_count ls → AllAllowed (children_lines ks) → AllAllowed (children_lines ls) → (more others : List Line)
+      → map bytes_of (children_lines ks ++ more) ≡ map bytes_of (children_lines ls ++ others) → (ks ≡ ls) × (map bytes_of more ≡ map bytes_of others)
+  children_tell no_bound_trees no_bound_trees count p q more others e = (refl, e)
+  children_tell no_bound_trees (more_bound_trees l ls) count p q more others e = absurd (omega (arith, count))
+  children_tell (more_bound_trees k ks) no_bound_trees count p q more others e = absurd (omega (arith, count))
+  children_tell (more_bound_trees k ks) (more_bound_trees l ls) count p q more others e =
+      let mine = AllAllowed-append (node_lines k) (children_lines ks) p in
+      let yours = AllAllowed-append (node_lines l) (children_lines ls) q in
+      let grouped : map bytes_of (node_lines k ++ (children_lines ks ++ more)) ≡ map bytes_of (node_lines l ++ (children_lines ls ++ others)) =
+        ap (map bytes_of) (sym (append_assoc (node_lines k) (children_lines ks) more)) ∙ e ∙ ap (map bytes_of) (append_assoc (node_lines l) (children_lines ls) others) in
+      let first = node_lines_tell k l mine.0 yours.0 (children_lines ks ++ more) (children_lines ls ++ others) grouped in
+      let further = children_tell ks ls (omega (arith, count)) mine.1 yours.1 more others first.1 in
+      (rw (first.0, further.0) refl, further.1)
