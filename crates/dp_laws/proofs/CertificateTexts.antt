@@ -10,7 +10,7 @@ use Rattle.dp_spec.specs.PolicyText.{title_form, horizon_form, end_form, policy_
 use Rattle.dp_spec.specs.CertificateText.{look_form, mode_form, signed_form, inner_form, leaf_form, branch_form, merge_form, child_count, node_lines, children_lines, certificate_lines, certificate_text, IsCertificateText}
 use Rattle.dp_laws.proofs.LineTexts.{HasItems, AreLines, bytes_of, first_of_list, rest_of_list, line_tells, text_tells}
 use Rattle.dp_laws.proofs.PolicyTexts.{agents_tell}
-use Rattle.dp_laws.proofs.WholeTexts.{tested, AreLines-append, AllAllowed-append, agents_are_lines, actions_small, horizon_tells}
+use Rattle.dp_laws.proofs.WholeTexts.{tested, AreLines-append, AllAllowed-append, agents_are_lines, actions_small, horizon_tells, all_agents_tell}
 
 -- ---- nodes
 
@@ -80,3 +80,96 @@ mutual
       let first = node_lines_tell k l mine.0 yours.0 (children_lines ks ++ more) (children_lines ls ++ others) grouped in
       let further = children_tell ks ls (omega (arith, count)) mine.1 yours.1 more others first.1 in
       (rw (first.0, further.0) refl, further.1)
+
+-- ---- certificates
+
+mode_items : (is_exact : Bool) → HasItems (mode_form is_exact)
+mode_items true = tested (mode_form true) refl
+mode_items false = tested (mode_form false) refl
+
+-- the line of a mode tells it
+mode_tells : (a b : Bool) → line_text (mode_form a) [] ≡ line_text (mode_form b) [] → a ≡ b
+mode_tells true true e = refl
+mode_tells false false e = refl
+mode_tells true false e = absurd (let at : 101 ≡ 111 = ap (λ (l : List ℕ). get_or l 5 0) e in omega (arith, at))
+mode_tells false true e = absurd (let at : 111 ≡ 101 = ap (λ (l : List ℕ). get_or l 5 0) e in omega (arith, at))
+
+abbrev tree_form : List Item
+tree_form = fixed (codes "tree") ∷ []
+
+-- the lines of a certificate's tree and the line after them
+abbrev tree_lines : BoundTree → List Line
+tree_lines T = fixed_line tree_form ∷ (node_lines T ++ fixed_line end_form ∷ [])
+
+tree_are_lines : (T : BoundTree) → AllAllowed (node_lines T) → AreLines (tree_lines T)
+tree_are_lines T allowed = ((tested tree_form refl, tt), AreLines-append (node_lines T) (fixed_line end_form ∷ []) (nodes_are_lines T allowed) ((tested end_form refl, tt), tt))
+
+-- what is allowed of a certificate's tree
+nodes_allowed : (m : Model) (bytes : List ℕ) (c : Certificate) → IsCertificateText m bytes c → AllAllowed (node_lines c.tree)
+nodes_allowed m bytes c text =
+    let behind_head = text.allowed.1.1.1.1.1.1.1.1.1 in
+    let behind_policy = AllAllowed-append (agent_lines 0 (policy_rows m.actions m.observations c.horizon c.policy)) (tree_lines c.tree) behind_head in
+    (AllAllowed-append (node_lines c.tree) (fixed_line end_form ∷ []) behind_policy.1.1).0
+
+certificate_are_lines : (m : Model) → IsModel m → (bytes : List ℕ) (c : Certificate) → IsCertificateText m bytes c → AreLines (certificate_lines m.actions m.observations c)
+certificate_are_lines m is bytes c text =
+    let agents = is.sizes.agents_limit in
+    let a = text.allowed in
+    ((tested (title_form (codes "certificate")) refl, tt),
+    ((tested horizon_form refl, a.1.0),
+    ((tested look_form refl, a.1.1.0),
+    ((mode_items c.is_exact, tt),
+    ((tested (signed_form (codes "unit")) refl, a.1.1.1.1.0),
+    ((tested (signed_form (codes "lower")) refl, a.1.1.1.1.1.0),
+    ((tested (signed_form (codes "upper")) refl, a.1.1.1.1.1.1.0),
+    ((tested inner_form refl, a.1.1.1.1.1.1.1.0),
+    ((tested (fixed (codes "policy") ∷ []) refl, tt),
+    AreLines-append (agent_lines 0 (policy_rows m.actions m.observations c.horizon c.policy)) (tree_lines c.tree)
+      (agents_are_lines c.horizon m.actions m.observations c.policy (actions_small m is) text.policy 0 (omega (arith, agents)))
+      (tree_are_lines c.tree (nodes_allowed m bytes c text)))))))))))
+
+-- the one number of a line
+plain_tells : (word : List ℕ) (low high m n : ℕ) → HasItems (fixed word ∷ plain low high ∷ []) → Allows (fixed word ∷ plain low high ∷ []) (pos m ∷ []) → Allows (fixed word ∷ plain low high ∷ []) (pos n ∷ [])
+    → line_text (fixed word ∷ plain low high ∷ []) (pos m ∷ []) ≡ line_text (fixed word ∷ plain low high ∷ []) (pos n ∷ []) → m ≡ n
+plain_tells word low high m n are p q e = unpos m n (number_at 0 _ _ (line_tells (fixed word ∷ plain low high ∷ []) (pos m ∷ []) (pos n ∷ []) are p q e))
+
+signed_line_tells : (word : List ℕ) (y z : ℤ) → HasItems (signed_form word) → Allows (signed_form word) (y ∷ []) → Allows (signed_form word) (z ∷ [])
+    → line_text (signed_form word) (y ∷ []) ≡ line_text (signed_form word) (z ∷ []) → y ≡ z
+signed_line_tells word y z are p q e = number_at 0 _ _ (line_tells (signed_form word) (y ∷ []) (z ∷ []) are p q e)
+
+-- a text is that of one certificate
+pub certificate_text_tells : (m : Model) → IsModel m → (bytes : List ℕ) (c d : Certificate) → IsCertificateText m bytes c → IsCertificateText m bytes d → c ≡ d
+unfolding certificate_text bytes_of
+certificate_text_tells m is bytes c d mine yours =
+    let a = mine.allowed in
+    let b = yours.allowed in
+    let lines = text_tells (certificate_lines m.actions m.observations c) (certificate_lines m.actions m.observations d)
+      (certificate_are_lines m is bytes c mine) (certificate_are_lines m is bytes d yours) (sym mine.text ∙ yours.text) in
+    let e1 = rest_of_list _ _ _ _ lines in
+    let e2 = rest_of_list _ _ _ _ e1 in
+    let e3 = rest_of_list _ _ _ _ e2 in
+    let e4 = rest_of_list _ _ _ _ e3 in
+    let e5 = rest_of_list _ _ _ _ e4 in
+    let e6 = rest_of_list _ _ _ _ e5 in
+    let e7 = rest_of_list _ _ _ _ e6 in
+    let e9 = rest_of_list _ _ _ _ (rest_of_list _ _ _ _ e7) in
+    let horizon : c.horizon ≡ d.horizon = horizon_tells c.horizon d.horizon a.1.0 b.1.0 (first_of_list _ _ _ _ e1) in
+    let look : c.look ≡ d.look = plain_tells (codes "look") 1 16 c.look d.look (tested look_form refl) a.1.1.0 b.1.1.0 (first_of_list _ _ _ _ e2) in
+    let mode : c.is_exact ≡ d.is_exact = mode_tells c.is_exact d.is_exact (first_of_list _ _ _ _ e3) in
+    let unit : c.unit ≡ d.unit = signed_line_tells (codes "unit") c.unit d.unit (tested (signed_form (codes "unit")) refl) a.1.1.1.1.0 b.1.1.1.1.0 (first_of_list _ _ _ _ e4) in
+    let lower : c.lower ≡ d.lower = signed_line_tells (codes "lower") c.lower d.lower (tested (signed_form (codes "lower")) refl) a.1.1.1.1.1.0 b.1.1.1.1.1.0 (first_of_list _ _ _ _ e5) in
+    let upper : c.upper ≡ d.upper = signed_line_tells (codes "upper") c.upper d.upper (tested (signed_form (codes "upper")) refl) a.1.1.1.1.1.1.0 b.1.1.1.1.1.1.0 (first_of_list _ _ _ _ e6) in
+    let inner : c.inner ≡ d.inner = plain_tells (codes "inner") 0 (2 ^ 32 - 1) c.inner d.inner (tested inner_form refl) a.1.1.1.1.1.1.1.0 b.1.1.1.1.1.1.1.0 (first_of_list _ _ _ _ e7) in
+    let policies = all_agents_tell m is c.horizon d.horizon c.policy d.policy horizon a.1.0.1 mine.policy yours.policy (tree_lines c.tree) (tree_lines d.tree) e9 in
+    let trees = node_lines_tell c.tree d.tree (nodes_allowed m bytes c mine) (nodes_allowed m bytes d yours) (fixed_line end_form ∷ []) (fixed_line end_form ∷ []) (rest_of_list _ _ _ _ policies.1) in
+    λ i. record {
+      horizon = horizon i;
+      look = look i;
+      is_exact = mode i;
+      unit = unit i;
+      lower = lower i;
+      upper = upper i;
+      inner = inner i;
+      policy = policies.0 i;
+      tree = trees.0 i;
+    }

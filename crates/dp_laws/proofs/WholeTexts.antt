@@ -6,7 +6,7 @@ use Rattle.std.proofs.Math.Nat.{le-mul_of_pos_right}
 use Rattle.dp_spec.specs.JointNumbers.{product}
 use Rattle.dp_spec.specs.Model.{Model, IsModel, joint_actions}
 use Rattle.dp_spec.specs.PolicyTree.IsJointPolicy.{and_agent, no_agents}
-use Rattle.dp_spec.specs.PolicyTree.{IsJointPolicy, IsPolicyTree, PolicyTree}
+use Rattle.dp_spec.specs.PolicyTree.{IsJointPolicy, IsPolicyOf, IsPolicyTree, PolicyTree}
 use Rattle.dp_spec.specs.TextLines.{Item, fixed, plain, signed, Line, fixed_line, line_text, text_of_lines, Allows, AllAllowed}
 use Rattle.dp_spec.specs.PolicyText.{title_form, horizon_form, agent_form, end_form, row_line, policy_rows, agent_lines, policy_lines, policy_text, IsPolicyText}
 use Rattle.dp_laws.proofs.Trees.{pos_of}
@@ -101,6 +101,14 @@ policy_are_lines m is bytes h qs text =
 pub horizon_tells : (h k : ℕ) → Allows horizon_form (pos h ∷ []) → Allows horizon_form (pos k ∷ []) → line_text horizon_form (pos h ∷ []) ≡ line_text horizon_form (pos k ∷ []) → h ≡ k
 horizon_tells h k p q e = ap (λ (l : List ℤ). unsigned_abs (get_or l 0 (pos 0))) (line_tells horizon_form (pos h ∷ []) (pos k ∷ []) (tested horizon_form refl) p q e)
 
+-- the lines of all agents of a model tell the policy, and what follows them, where the horizons are equal
+pub all_agents_tell : (m : Model) → IsModel m → (h k : ℕ) (qs ps : List PolicyTree) → h ≡ k → 0 < h → IsPolicyOf m h qs → IsPolicyOf m k ps → (more others : List Line)
+    → map bytes_of (agent_lines 0 (policy_rows m.actions m.observations h qs) ++ more) ≡ map bytes_of (agent_lines 0 (policy_rows m.actions m.observations k ps) ++ others)
+    → (qs ≡ ps) × (map bytes_of more ≡ map bytes_of others)
+all_agents_tell m is h k qs ps same some mine yours more others e =
+    agents_tell h m.actions m.observations qs ps some (actions_small m is) mine (subst (λ (x : ℕ). IsPolicyOf m x ps) (sym same) yours) 0 more others
+      (subst (λ (x : ℕ). map bytes_of (agent_lines 0 (policy_rows m.actions m.observations h qs) ++ more) ≡ map bytes_of (agent_lines 0 (policy_rows m.actions m.observations x ps) ++ others)) (sym same) e)
+
 -- a text is that of one joint policy of one horizon
 pub policy_text_tells : (m : Model) → IsModel m → (bytes : List ℕ) (h k : ℕ) (qs ps : List PolicyTree) → IsPolicyText m bytes h qs → IsPolicyText m bytes k ps → (h ≡ k) × (qs ≡ ps)
 unfolding policy_text bytes_of
@@ -109,12 +117,5 @@ policy_text_tells m is bytes h k qs ps mine yours =
       (policy_are_lines m is bytes h qs mine) (policy_are_lines m is bytes k ps yours) (sym mine.text ∙ yours.text) in
     let behind_title = rest_of_list _ _ _ _ lines in
     let horizon : h ≡ k = horizon_tells h k mine.allowed.1.0 yours.allowed.1.0 (first_of_list _ _ _ _ behind_title) in
-    let agents = rest_of_list _ _ _ _ behind_title in
-    let some : 0 < h = mine.allowed.1.0.1 in
-    let same : (z : ℕ) → h ≡ z → IsJointPolicy z m.actions m.observations ps
-        → map bytes_of (agent_lines 0 (policy_rows m.actions m.observations h qs) ++ fixed_line end_form ∷ []) ≡ map bytes_of (agent_lines 0 (policy_rows m.actions m.observations z ps) ++ fixed_line end_form ∷ [])
-        → qs ≡ ps = λ z e are texts.
-      (agents_tell h m.actions m.observations qs ps some (actions_small m is) mine.policy (subst (λ (x : ℕ). IsJointPolicy x m.actions m.observations ps) (sym e) are) 0
-        (fixed_line end_form ∷ []) (fixed_line end_form ∷ [])
-        (subst (λ (x : ℕ). map bytes_of (agent_lines 0 (policy_rows m.actions m.observations h qs) ++ fixed_line end_form ∷ []) ≡ map bytes_of (agent_lines 0 (policy_rows m.actions m.observations x ps) ++ fixed_line end_form ∷ [])) (sym e) texts)).0 in
-    (horizon, same k horizon yours.policy agents)
+    let policies = all_agents_tell m is h k qs ps horizon mine.allowed.1.0.1 mine.policy yours.policy (fixed_line end_form ∷ []) (fixed_line end_form ∷ []) (rest_of_list _ _ _ _ behind_title) in
+    (horizon, policies.0)
