@@ -2,15 +2,16 @@
 use Rattle.std.proofs.Common.{◌≡◌, ℕ, zero, suc, ◌+◌, ◌-◌, ◌^◌, ◌<◌, ◌≤◌, Bool, true, false, List, [], ◌∷◌, ◌++◌, length, get_or, drop, refl, sym, ap, subst, ◌∙◌, append_assoc, arith}
 use Rattle.std.specs.Prelude.{ℤ, pos, unsigned_abs, map, codes}
 use Rattle.dp_spec.specs.Model.{Model, IsModel}
-use Rattle.dp_spec.specs.PolicyTree.{IsJointPolicy, PolicyTree}
+use Rattle.dp_spec.specs.PolicyTree.{IsPolicyOf, PolicyTree}
 use Rattle.dp_spec.specs.BoundTree.{BoundTree, BoundTrees, leaf, branch, merge, no_bound_trees, more_bound_trees}
 use Rattle.dp_spec.specs.Certificate.{Certificate}
 use Rattle.dp_spec.specs.TextLines.{Item, fixed, plain, signed, Line, fixed_line, line_text, text_of_lines, Allows, AllAllowed}
 use Rattle.dp_spec.specs.PolicyText.{title_form, horizon_form, end_form, policy_rows, agent_lines}
 use Rattle.dp_spec.specs.CertificateText.{look_form, mode_form, signed_form, inner_form, leaf_form, branch_form, merge_form, child_count, node_lines, children_lines, certificate_lines, certificate_text, IsCertificateText}
+use Rattle.dp_laws.specs.OneSpelling.{HasTextNumbers}
 use Rattle.dp_laws.proofs.LineTexts.{HasItems, AreLines, bytes_of, first_of_list, rest_of_list, line_tells, text_tells}
 use Rattle.dp_laws.proofs.PolicyTexts.{agents_tell}
-use Rattle.dp_laws.proofs.WholeTexts.{tested, AreLines-append, AllAllowed-append, agents_are_lines, actions_small, horizon_tells, all_agents_tell}
+use Rattle.dp_laws.proofs.WholeTexts.{tested, AreLines-append, AllAllowed-append, agents_are_lines, actions_small, horizon_tells, all_agents_tell, allowed_of, AllAllowed-join}
 
 -- ---- nodes
 
@@ -172,4 +173,17 @@ certificate_text_tells m is bytes c d mine yours =
       inner = inner i;
       policy = policies.0 i;
       tree = trees.0 i;
+    }
+
+-- what a certificate has to be besides for its lines to be allowed
+pub certificate_has_text : (m : Model) → IsModel m → (c : Certificate) → HasTextNumbers c → IsPolicyOf m c.horizon c.policy → IsCertificateText m (certificate_text m.actions m.observations c) c
+certificate_has_text m is c numbers policy =
+    let agents = is.sizes.agents_limit in
+    record {
+      policy = policy;
+      allowed = (tt, (numbers.horizon, (numbers.look, (tt, ((numbers.unit, tt), ((numbers.lower, tt), ((numbers.upper, tt), (numbers.inner, (tt,
+        AllAllowed-join (agent_lines 0 (policy_rows m.actions m.observations c.horizon c.policy)) (tree_lines c.tree)
+          (allowed_of _ (agents_are_lines c.horizon m.actions m.observations c.policy (actions_small m is) policy 0 (omega (arith, agents))))
+          (tt, AllAllowed-join (node_lines c.tree) (fixed_line end_form ∷ []) numbers.tree (tt, tt)))))))))));
+      text = refl;
     }

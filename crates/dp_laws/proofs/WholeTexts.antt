@@ -58,6 +58,15 @@ pub AllAllowed-append : (lines more : List Line) → AllAllowed (lines ++ more) 
 AllAllowed-append [] more p = (tt, p)
 AllAllowed-append (line ∷ lines) more p = let rest = AllAllowed-append lines more p.1 in ((p.0, rest.0), rest.1)
 
+-- lines have the numbers that their forms allow
+pub allowed_of : (lines : List Line) → AreLines lines → AllAllowed lines
+allowed_of [] are = tt
+allowed_of (line ∷ lines) are = (are.0.1, allowed_of lines are.1)
+
+pub AllAllowed-join : (lines more : List Line) → AllAllowed lines → AllAllowed more → AllAllowed (lines ++ more)
+AllAllowed-join [] more p q = q
+AllAllowed-join (line ∷ lines) more p q = (p.0, AllAllowed-join lines more p.1 q)
+
 -- ---- the agents' lines
 
 rows_are_lines : (b n h : ℕ) (q : PolicyTree) → b ≤ 2 ^ 32 → IsPolicyTree b n h q → (a k : ℕ) → a + k ≤ h → AreLines (map (row_line b n q) (range_with_len a k))
@@ -88,14 +97,22 @@ actions_small m is = small_factors m.actions 256 (omega arith) is.sizes.some_act
 
 -- ---- policies
 
-policy_are_lines : (m : Model) → IsModel m → (bytes : List ℕ) (h : ℕ) (qs : List PolicyTree) → IsPolicyText m bytes h qs → AreLines (policy_lines m.actions m.observations h qs)
-policy_are_lines m is bytes h qs text =
+policy_are_lines : (m : Model) → IsModel m → (h : ℕ) (qs : List PolicyTree) → Allows horizon_form (pos h ∷ []) → IsPolicyOf m h qs → AreLines (policy_lines m.actions m.observations h qs)
+policy_are_lines m is h qs horizon policy =
     let agents = is.sizes.agents_limit in
     ((tested (title_form (codes "policy")) refl, tt),
-    ((tested horizon_form refl, text.allowed.1.0),
+    ((tested horizon_form refl, horizon),
     AreLines-append (agent_lines 0 (policy_rows m.actions m.observations h qs)) (fixed_line end_form ∷ [])
-      (agents_are_lines h m.actions m.observations qs (actions_small m is) text.policy 0 (omega (arith, agents)))
+      (agents_are_lines h m.actions m.observations qs (actions_small m is) policy 0 (omega (arith, agents)))
       ((tested end_form refl, tt), tt)))
+
+-- every joint policy of a horizon of 32 bits has a text
+pub policy_has_text : (m : Model) → IsModel m → (h : ℕ) (qs : List PolicyTree) → 0 < h → h < 2 ^ 32 → IsPolicyOf m h qs → IsPolicyText m (policy_text m.actions m.observations h qs) h qs
+policy_has_text m is h qs some wide policy = record {
+  policy = policy;
+  allowed = allowed_of (policy_lines m.actions m.observations h qs) (policy_are_lines m is h qs (omega arith, omega arith, omega arith, tt) policy);
+  text = refl;
+}
 
 -- the line of a horizon tells it
 pub horizon_tells : (h k : ℕ) → Allows horizon_form (pos h ∷ []) → Allows horizon_form (pos k ∷ []) → line_text horizon_form (pos h ∷ []) ≡ line_text horizon_form (pos k ∷ []) → h ≡ k
@@ -114,7 +131,7 @@ pub policy_text_tells : (m : Model) → IsModel m → (bytes : List ℕ) (h k : 
 unfolding policy_text bytes_of
 policy_text_tells m is bytes h k qs ps mine yours =
     let lines = text_tells (policy_lines m.actions m.observations h qs) (policy_lines m.actions m.observations k ps)
-      (policy_are_lines m is bytes h qs mine) (policy_are_lines m is bytes k ps yours) (sym mine.text ∙ yours.text) in
+      (policy_are_lines m is h qs mine.allowed.1.0 mine.policy) (policy_are_lines m is k ps yours.allowed.1.0 yours.policy) (sym mine.text ∙ yours.text) in
     let behind_title = rest_of_list _ _ _ _ lines in
     let horizon : h ≡ k = horizon_tells h k mine.allowed.1.0 yours.allowed.1.0 (first_of_list _ _ _ _ behind_title) in
     let policies = all_agents_tell m is h k qs ps horizon mine.allowed.1.0.1 mine.policy yours.policy (fixed_line end_form ∷ []) (fixed_line end_form ∷ []) (rest_of_list _ _ _ _ behind_title) in
