@@ -1,5 +1,5 @@
 -- One spelling of lines: no two lists of numbers that a form allows give the same line, and no two lists of lines the same text.
-use Rattle.std.proofs.Common.{◌≡◌, ℕ, zero, suc, ◌+◌, ◌-◌, ◌^◌, ◌<◌, ◌≤◌, Bool, true, false, eqb, List, [], ◌∷◌, ◌++◌, length, get_or, drop, refl, sym, ap, subst, ◌∙◌, append_assoc, arith}
+use Rattle.std.proofs.Common.{◌≡◌, ℕ, suc, ◌^◌, ◌<◌, false, eqb, List, [], ◌∷◌, ◌++◌, get_or, drop, refl, sym, ap, subst, ◌∙◌, arith}
 use Rattle.std.specs.Prelude.{ℤ, pos, negsuc, map, FitsSigned}
 use Rattle.std.specs.Int.{w128}
 use Rattle.std.specs.List.{slice_split, join_with_byte, AllByRecursion}
@@ -11,7 +11,7 @@ use Rattle.std.proofs.lemmas.List.Elements.{All-from_recursion}
 use Rattle.std.proofs.lemmas.Fmt.{decimal_is_IsNumeral_wide}
 use Rattle.std.proofs.lemmas.Str.Parse.{digit_from_value}
 use Rattle.std.proofs.lemmas.List.Splits.{slice_split_at, slice_split_none}
-use Rattle.dp_spec.specs.TextLines.{Item, fixed, plain, signed, Line, spelled_items, line_text, text_of_lines, Allows, AllAllowed}
+use Rattle.dp_spec.specs.TextLines.{Item, fixed, plain, signed, Line, spelled_items, line_text, text_of_lines, Allows}
 
 -- ---- items
 
@@ -35,8 +35,8 @@ signed_item : (z : ℤ) → IsSmall z → IsItem (signed_decimal z)
 signed_item (pos n) small = decimal_item n small
 signed_item (negsuc n) small = ((refl, refl), decimal_item (suc n) small)
 
-pub decimal_tells : (m n : ℕ) → m < 10 ^ 64 → n < 10 ^ 64 → decimal m ≡ decimal n → m ≡ n
-decimal_tells m n p q e = sym (decimal_is_IsNumeral_wide m p).1 ∙ ap (digits_value 10) e ∙ (decimal_is_IsNumeral_wide n q).1
+pub decimal_injective_wide : (m n : ℕ) → m < 10 ^ 64 → n < 10 ^ 64 → decimal m ≡ decimal n → m ≡ n
+decimal_injective_wide m n p q e = sym (decimal_is_IsNumeral_wide m p).1 ∙ ap (digits_value 10) e ∙ (decimal_is_IsNumeral_wide n q).1
 
 no_minus : (n : ℕ) (ds : List ℕ) → n < 10 ^ 64 → decimal n ≡ 45 ∷ ds → ⊥
 no_minus n ds small e =
@@ -44,12 +44,12 @@ no_minus n ds small e =
     let in_digits = digit_from_value 45 numeral.0 in
     omega (arith, in_digits)
 
-pub signed_tells : (y z : ℤ) → IsSmall y → IsSmall z → signed_decimal y ≡ signed_decimal z → y ≡ z
-signed_tells (pos m) (pos n) p q e = ap pos (decimal_tells m n p q e)
-signed_tells (pos m) (negsuc n) p q e = absurd (no_minus m (decimal (suc n)) p e)
-signed_tells (negsuc m) (pos n) p q e = absurd (no_minus n (decimal (suc m)) q (sym e))
-signed_tells (negsuc m) (negsuc n) p q e =
-    let same : suc m ≡ suc n = decimal_tells (suc m) (suc n) p q (ap (drop 1) e) in
+pub signed_decimal_injective_wide : (y z : ℤ) → IsSmall y → IsSmall z → signed_decimal y ≡ signed_decimal z → y ≡ z
+signed_decimal_injective_wide (pos m) (pos n) p q e = ap pos (decimal_injective_wide m n p q e)
+signed_decimal_injective_wide (pos m) (negsuc n) p q e = absurd (no_minus m (decimal (suc n)) p e)
+signed_decimal_injective_wide (negsuc m) (pos n) p q e = absurd (no_minus n (decimal (suc m)) q (sym e))
+signed_decimal_injective_wide (negsuc m) (negsuc n) p q e =
+    let same : suc m ≡ suc n = decimal_injective_wide (suc m) (suc n) p q (ap (drop 1) e) in
     let less : m ≡ n = omega arith in ap negsuc less
 
 signed_small : (z : ℤ) → FitsSigned w128 z → IsSmall z
@@ -80,24 +80,24 @@ first_of_list {A = A} x y xs ys e = ap (λ (l : List A). get_or l 0 x) e
 pub rest_of_list : {A : Type 0} (x y : A) (xs ys : List A) → x ∷ xs ≡ y ∷ ys → xs ≡ ys
 rest_of_list {A = A} x y xs ys e = ap (drop 1) e
 
--- the spelled items tell the numbers
-items_tell : (form : List Item) (ys zs : List ℤ) → Allows form ys → Allows form zs → spelled_items form ys ≡ spelled_items form zs → ys ≡ zs
-items_tell [] [] [] p q e = refl
-items_tell [] [] (z ∷ zs) p q e = absurd q
-items_tell [] (y ∷ ys) zs p q e = absurd p
-items_tell (fixed text ∷ form) ys zs p q e = items_tell form ys zs p q (rest_of_list text text (spelled_items form ys) (spelled_items form zs) e)
-items_tell (plain low high ∷ form) [] zs p q e = absurd p
-items_tell (plain low high ∷ form) (negsuc n ∷ ys) zs p q e = absurd p
-items_tell (plain low high ∷ form) (pos m ∷ ys) [] p q e = absurd q
-items_tell (plain low high ∷ form) (pos m ∷ ys) (negsuc n ∷ zs) p q e = absurd q
-items_tell (plain low high ∷ form) (pos m ∷ ys) (pos n ∷ zs) p q e =
-    let one : m ≡ n = decimal_tells m n (omega (arith, p.0)) (omega (arith, q.0)) (first_of_list _ _ _ _ e) in
-    rw (one, items_tell form ys zs p.3 q.3 (rest_of_list _ _ _ _ e)) refl
-items_tell (signed ∷ form) [] zs p q e = absurd p
-items_tell (signed ∷ form) (y ∷ ys) [] p q e = absurd q
-items_tell (signed ∷ form) (y ∷ ys) (z ∷ zs) p q e =
-    let one : y ≡ z = signed_tells y z (signed_small y p.0) (signed_small z q.0) (first_of_list _ _ _ _ e) in
-    rw (one, items_tell form ys zs p.1 q.1 (rest_of_list _ _ _ _ e)) refl
+-- the spelled items determine the numbers
+spelled_items_injective : (form : List Item) (ys zs : List ℤ) → Allows form ys → Allows form zs → spelled_items form ys ≡ spelled_items form zs → ys ≡ zs
+spelled_items_injective [] [] [] p q e = refl
+spelled_items_injective [] [] (z ∷ zs) p q e = absurd q
+spelled_items_injective [] (y ∷ ys) zs p q e = absurd p
+spelled_items_injective (fixed text ∷ form) ys zs p q e = spelled_items_injective form ys zs p q (rest_of_list text text (spelled_items form ys) (spelled_items form zs) e)
+spelled_items_injective (plain low high ∷ form) [] zs p q e = absurd p
+spelled_items_injective (plain low high ∷ form) (negsuc n ∷ ys) zs p q e = absurd p
+spelled_items_injective (plain low high ∷ form) (pos m ∷ ys) [] p q e = absurd q
+spelled_items_injective (plain low high ∷ form) (pos m ∷ ys) (negsuc n ∷ zs) p q e = absurd q
+spelled_items_injective (plain low high ∷ form) (pos m ∷ ys) (pos n ∷ zs) p q e =
+    let one : m ≡ n = decimal_injective_wide m n (omega (arith, p.0)) (omega (arith, q.0)) (first_of_list _ _ _ _ e) in
+    rw (one, spelled_items_injective form ys zs p.3 q.3 (rest_of_list _ _ _ _ e)) refl
+spelled_items_injective (signed ∷ form) [] zs p q e = absurd p
+spelled_items_injective (signed ∷ form) (y ∷ ys) [] p q e = absurd q
+spelled_items_injective (signed ∷ form) (y ∷ ys) (z ∷ zs) p q e =
+    let one : y ≡ z = signed_decimal_injective_wide y z (signed_small y p.0) (signed_small z q.0) (first_of_list _ _ _ _ e) in
+    rw (one, spelled_items_injective form ys zs p.1 q.1 (rest_of_list _ _ _ _ e)) refl
 
 -- ---- one line
 
@@ -112,24 +112,24 @@ split_joined first (second ∷ items) h =
     slice_split_at (λ b. eqb b 32) first 32 (join_with_byte 32 (second ∷ items)) (All-from_recursion _ first (no_space first h.0)) refl
     ∙ ap (λ (l : List (List ℕ)). first ∷ l) (split_joined second items h.1)
 
-joined_tell : (x y : List ℕ) (xs ys : List (List ℕ)) → AllByRecursion IsItem (x ∷ xs) → AllByRecursion IsItem (y ∷ ys) → join_with_byte 32 (x ∷ xs) ≡ join_with_byte 32 (y ∷ ys) → x ∷ xs ≡ y ∷ ys
-joined_tell x y xs ys p q e = sym (split_joined x xs p) ∙ ap (slice_split (λ b. eqb b 32)) e ∙ split_joined y ys q
+joined_injective : (x y : List ℕ) (xs ys : List (List ℕ)) → AllByRecursion IsItem (x ∷ xs) → AllByRecursion IsItem (y ∷ ys) → join_with_byte 32 (x ∷ xs) ≡ join_with_byte 32 (y ∷ ys) → x ∷ xs ≡ y ∷ ys
+joined_injective x y xs ys p q e = sym (split_joined x xs p) ∙ ap (slice_split (λ b. eqb b 32)) e ∙ split_joined y ys q
 
--- the line of a form tells its numbers
-pub line_tells : (form : List Item) (ys zs : List ℤ) → HasItems form → Allows form ys → Allows form zs → line_text form ys ≡ line_text form zs → ys ≡ zs
-line_tells [] ys zs are p q e = items_tell [] ys zs p q refl
-line_tells (fixed text ∷ form) ys zs are p q e =
-    items_tell (fixed text ∷ form) ys zs p q (joined_tell text text (spelled_items form ys) (spelled_items form zs) (spelled_are_items (fixed text ∷ form) ys are p) (spelled_are_items (fixed text ∷ form) zs are q) e)
-line_tells (plain low high ∷ form) [] zs are p q e = absurd p
-line_tells (plain low high ∷ form) (y ∷ ys) [] are p q e = absurd q
-line_tells (plain low high ∷ form) (y ∷ ys) (z ∷ zs) are p q e =
-    items_tell (plain low high ∷ form) (y ∷ ys) (z ∷ zs) p q
-      (joined_tell _ _ _ _ (spelled_are_items (plain low high ∷ form) (y ∷ ys) are p) (spelled_are_items (plain low high ∷ form) (z ∷ zs) are q) e)
-line_tells (signed ∷ form) [] zs are p q e = absurd p
-line_tells (signed ∷ form) (y ∷ ys) [] are p q e = absurd q
-line_tells (signed ∷ form) (y ∷ ys) (z ∷ zs) are p q e =
-    items_tell (signed ∷ form) (y ∷ ys) (z ∷ zs) p q
-      (joined_tell _ _ _ _ (spelled_are_items (signed ∷ form) (y ∷ ys) are p) (spelled_are_items (signed ∷ form) (z ∷ zs) are q) e)
+-- the line of a form determines its numbers
+pub line_text_injective : (form : List Item) (ys zs : List ℤ) → HasItems form → Allows form ys → Allows form zs → line_text form ys ≡ line_text form zs → ys ≡ zs
+line_text_injective [] ys zs are p q e = spelled_items_injective [] ys zs p q refl
+line_text_injective (fixed text ∷ form) ys zs are p q e =
+    spelled_items_injective (fixed text ∷ form) ys zs p q (joined_injective text text (spelled_items form ys) (spelled_items form zs) (spelled_are_items (fixed text ∷ form) ys are p) (spelled_are_items (fixed text ∷ form) zs are q) e)
+line_text_injective (plain low high ∷ form) [] zs are p q e = absurd p
+line_text_injective (plain low high ∷ form) (y ∷ ys) [] are p q e = absurd q
+line_text_injective (plain low high ∷ form) (y ∷ ys) (z ∷ zs) are p q e =
+    spelled_items_injective (plain low high ∷ form) (y ∷ ys) (z ∷ zs) p q
+      (joined_injective _ _ _ _ (spelled_are_items (plain low high ∷ form) (y ∷ ys) are p) (spelled_are_items (plain low high ∷ form) (z ∷ zs) are q) e)
+line_text_injective (signed ∷ form) [] zs are p q e = absurd p
+line_text_injective (signed ∷ form) (y ∷ ys) [] are p q e = absurd q
+line_text_injective (signed ∷ form) (y ∷ ys) (z ∷ zs) are p q e =
+    spelled_items_injective (signed ∷ form) (y ∷ ys) (z ∷ zs) p q
+      (joined_injective _ _ _ _ (spelled_are_items (signed ∷ form) (y ∷ ys) are p) (spelled_are_items (signed ∷ form) (z ∷ zs) are q) e)
 
 -- ---- lines
 
@@ -160,7 +160,7 @@ split_text (line ∷ lines) are =
       (All-from_recursion _ _ (NoFeed-joined (spelled_items line.form line.numbers) (spelled_are_items line.form line.numbers are.0.0 are.0.1))) refl
     ∙ ap (λ (l : List (List ℕ)). line_text line.form line.numbers ∷ l) (split_text lines are.1)
 
--- a text tells its lines
-pub text_tells : (lines more : List Line) → AreLines lines → AreLines more → text_of_lines lines ≡ text_of_lines more → map bytes_of lines ≡ map bytes_of more
-text_tells lines more p q e =
+-- a text determines its lines
+pub text_of_lines_injective : (lines more : List Line) → AreLines lines → AreLines more → text_of_lines lines ≡ text_of_lines more → map bytes_of lines ≡ map bytes_of more
+text_of_lines_injective lines more p q e =
     append_cancel_right (map bytes_of lines) (map bytes_of more) ([] ∷ []) (sym (split_text lines p) ∙ ap (slice_split (λ b. eqb b 10)) e ∙ split_text more q)

@@ -1,8 +1,7 @@
 -- One spelling of policies: no two joint policies have the same lines.
-use Rattle.std.proofs.Common.{◌≡◌, ℕ, zero, suc, ◌+◌, ◌-◌, ◌*◌, ◌/◌, ◌%◌, ◌^◌, ◌<◌, ◌≤◌, Bool, true, false, not, ◌&&◌, eqb, List, [], ◌∷◌, ◌++◌, length, get_or, drop, refl, sym, ap, subst, ◌∙◌, append_assoc, arith, inl, inr}
-use Rattle.std.specs.Prelude.{ℤ, pos, unsigned_abs, map, replicate, codes}
-use Rattle.std.specs.List.{AllByRecursion, list_all, range_with_len}
-use Rattle.std.specs.Fmt.{decimal}
+use Rattle.std.proofs.Common.{◌≡◌, ℕ, zero, suc, ◌+◌, ◌-◌, ◌*◌, ◌/◌, ◌%◌, ◌^◌, ◌<◌, ◌≤◌, List, [], ◌∷◌, ◌++◌, get_or, refl, sym, ap, subst, ◌∙◌, append_assoc, arith, inl, inr}
+use Rattle.std.specs.Prelude.{pos, unsigned_abs, map, replicate}
+use Rattle.std.specs.List.{AllByRecursion, range_with_len}
 use Rattle.std.proofs.lemmas.Bool.{cases_lt}
 use Rattle.std.proofs.lemmas.Nat.{div-mul-add, mod-mul-add}
 use Rattle.std.proofs.lemmas.List.FromFn.{get_or-map-range_with_len}
@@ -10,11 +9,11 @@ use Rattle.std.proofs.Math.Nat.{pow-suc, pow-zero}
 use Rattle.dp_spec.specs.PolicyTree.IsJointPolicy.{and_agent, no_agents}
 use Rattle.dp_spec.specs.PolicyTree.{ArePolicyTrees, IsJointPolicy, IsPolicyTree, PolicyTree, PolicyTrees, more_trees, no_trees, node, nth_tree, root_action, subtree}
 use Rattle.dp_spec.specs.Keeping.{tree_at}
-use Rattle.dp_spec.specs.TextLines.{Item, fixed, plain, signed, Line, fixed_line, line_text, Allows}
-use Rattle.dp_spec.specs.PolicyText.{agent_form, row_form, row_actions, row_line, policy_rows, agent_lines}
+use Rattle.dp_spec.specs.TextLines.{plain, Line, Allows}
+use Rattle.dp_spec.specs.PolicyText.{row_form, row_actions, row_line, policy_rows, agent_lines}
 use Rattle.dp_laws.proofs.Trees.{root_in, row_below}
 use Rattle.dp_laws.proofs.Pairs.{tree_at_fits}
-use Rattle.dp_laws.proofs.LineTexts.{IsItem, decimal_item, HasItems, AreLines, bytes_of, first_of_list, rest_of_list, line_tells}
+use Rattle.dp_laws.proofs.LineTexts.{HasItems, bytes_of, first_of_list, rest_of_list, line_text_injective}
 
 -- ---- trees
 
@@ -33,7 +32,7 @@ same_last b n (node a ks) (node c ls) p q same = rw (same, p.1, q.1) refl
 same_node : (b n r : ℕ) (u v : PolicyTree) → IsPolicyTree b n (suc (suc r)) u → IsPolicyTree b n (suc (suc r)) v → root_action u ≡ root_action v → ((o : ℕ) → o < n → subtree u o ≡ subtree v o) → u ≡ v
 same_node b n r (node a ks) (node c ls) p q same below = rw (same, same_children b n (suc r) n ks ls p.1 q.1 below) refl
 
--- two trees of h steps do the same after every own history of each length from t on
+-- two trees do the same after every own history shorter than h
 abbrev pub ActAlike : ℕ → ℕ → PolicyTree → PolicyTree → Type 0
 ActAlike n h q p = (t x : ℕ) → t < h → x < n ^ t → root_action (tree_at n q t x) ≡ root_action (tree_at n p t x)
 
@@ -70,7 +69,7 @@ replicate_items : (k low high : ℕ) → HasItems (replicate k (plain low high))
 replicate_items zero low high = tt
 replicate_items (suc k) low high = replicate_items k low high
 
--- what the actions of a tree of the model are
+-- the row of a tree is a line that its form allows
 pub row_is : (b n h t : ℕ) (q : PolicyTree) → b ≤ 2 ^ 32 → t < h → IsPolicyTree b n h q → HasItems (row_form b n t) × Allows (row_form b n t) (map pos (row_actions n q t))
 row_is b n h t q small lt is = (
   replicate_items (n ^ t) 0 (b - 1),
@@ -91,17 +90,17 @@ same_row n t q p e x lt =
     ∙ ap (λ (l : List ℕ). get_or l x 0) rows
     ∙ get_or-map-range_with_len (λ y. root_action (tree_at n p t y)) 0 (n ^ t) x x 0 lt (omega arith)
 
--- the rows of stages a to a + k tell the actions of these stages, and what follows them
-rows_tell : (b n h : ℕ) (q p : PolicyTree) → b ≤ 2 ^ 32 → IsPolicyTree b n h q → IsPolicyTree b n h p → (a k : ℕ) → a + k ≤ h → (more others : List Line)
+-- the rows of k stages from a on determine the actions of these stages, and what follows them
+row_lines_injective : (b n h : ℕ) (q p : PolicyTree) → b ≤ 2 ^ 32 → IsPolicyTree b n h q → IsPolicyTree b n h p → (a k : ℕ) → a + k ≤ h → (more others : List Line)
     → map bytes_of (map (row_line b n q) (range_with_len a k) ++ more) ≡ map bytes_of (map (row_line b n p) (range_with_len a k) ++ others)
     → ((t x : ℕ) → a ≤ t → t < a + k → x < n ^ t → root_action (tree_at n q t x) ≡ root_action (tree_at n p t x)) × (map bytes_of more ≡ map bytes_of others)
 unfolding bytes_of
-rows_tell b n h q p small is are a zero within more others e = (λ t x ge lt below. absurd (omega arith), e)
-rows_tell b n h q p small is are a (suc k) within more others e =
+row_lines_injective b n h q p small is are a zero within more others e = (λ t x ge lt below. absurd (omega arith), e)
+row_lines_injective b n h q p small is are a (suc k) within more others e =
     let mine = row_is b n h a q small (omega arith) is in
     let yours = row_is b n h a p small (omega arith) are in
-    let here = line_tells (row_form b n a) (map pos (row_actions n q a)) (map pos (row_actions n p a)) mine.0 mine.1 yours.1 (first_of_list _ _ _ _ e) in
-    let below = rows_tell b n h q p small is are (a + 1) k (omega arith) more others (rest_of_list _ _ _ _ e) in
+    let here = line_text_injective (row_form b n a) (map pos (row_actions n q a)) (map pos (row_actions n p a)) mine.0 mine.1 yours.1 (first_of_list _ _ _ _ e) in
+    let below = row_lines_injective b n h q p small is are (a + 1) k (omega arith) more others (rest_of_list _ _ _ _ e) in
     (λ t x ge lt in_row.
       elim (cases_lt a t) [
         | inl later ↦ below.0 t x (omega arith) (omega arith) in_row
@@ -114,19 +113,19 @@ rows_tell b n h q p small is are a (suc k) within more others e =
 abbrev pub AreSmall : List ℕ → Type 0
 AreSmall bs = AllByRecursion (λ b. b ≤ 2 ^ 32) bs
 
--- the lines of the agents from one on tell their trees, and what follows them
-pub agents_tell : (h : ℕ) (bs ns : List ℕ) (qs ps : List PolicyTree) → 0 < h → AreSmall bs → IsJointPolicy h bs ns qs → IsJointPolicy h bs ns ps → (agent : ℕ) (more others : List Line)
+-- the lines of the agents from one on determine their trees, and what follows them
+pub agent_lines_injective : (h : ℕ) (bs ns : List ℕ) (qs ps : List PolicyTree) → 0 < h → AreSmall bs → IsJointPolicy h bs ns qs → IsJointPolicy h bs ns ps → (agent : ℕ) (more others : List Line)
     → map bytes_of (agent_lines agent (policy_rows bs ns h qs) ++ more) ≡ map bytes_of (agent_lines agent (policy_rows bs ns h ps) ++ others)
     → (qs ≡ ps) × (map bytes_of more ≡ map bytes_of others)
-agents_tell h _ _ _ _ some small no_agents no_agents agent more others e = (refl, e)
-agents_tell h (_ ∷ _) (_ ∷ _) (_ ∷ _) [] some small (and_agent is iss) none agent more others e = elim none [ ]
-agents_tell h (b ∷ bs) (n ∷ ns) (q ∷ qs) (p ∷ ps) some small (and_agent is iss) (and_agent are ares) agent more others e =
+agent_lines_injective h _ _ _ _ some small no_agents no_agents agent more others e = (refl, e)
+agent_lines_injective h (_ ∷ _) (_ ∷ _) (_ ∷ _) [] some small (and_agent is iss) none agent more others e = elim none [ ]
+agent_lines_injective h (b ∷ bs) (n ∷ ns) (q ∷ qs) (p ∷ ps) some small (and_agent is iss) (and_agent are ares) agent more others e =
     let mine = agent_lines (agent + 1) (policy_rows bs ns h qs) in
     let yours = agent_lines (agent + 1) (policy_rows bs ns h ps) in
     let tails = rest_of_list _ _ _ _ e in
     let grouped : map bytes_of (map (row_line b n q) (range_with_len 0 h) ++ (agent_lines (agent + 1) (policy_rows bs ns h qs) ++ more)) ≡ map bytes_of (map (row_line b n p) (range_with_len 0 h) ++ (agent_lines (agent + 1) (policy_rows bs ns h ps) ++ others)) =
       ap (map bytes_of) (sym (append_assoc (map (row_line b n q) (range_with_len 0 h)) mine more)) ∙ tails ∙ ap (map bytes_of) (append_assoc (map (row_line b n p) (range_with_len 0 h)) yours others) in
-    let rows = rows_tell b n h q p small.0 is are 0 h (omega arith) (mine ++ more) (yours ++ others) grouped in
+    let rows = row_lines_injective b n h q p small.0 is are 0 h (omega arith) (mine ++ more) (yours ++ others) grouped in
     let tree : q ≡ p = same_tree b n h q p some is are (λ t x lt below. rows.0 t x (omega arith) (omega arith) below) in
-    let further = agents_tell h bs ns qs ps some small.1 iss ares (agent + 1) more others rows.1 in
+    let further = agent_lines_injective h bs ns qs ps some small.1 iss ares (agent + 1) more others rows.1 in
     (rw (tree, further.0) refl, further.1)

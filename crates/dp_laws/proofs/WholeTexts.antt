@@ -1,53 +1,19 @@
 -- One spelling of whole texts: a text is that of one policy, or of one certificate.
-use Rattle.std.proofs.Common.{◌≡◌, ℕ, zero, suc, ◌+◌, ◌-◌, ◌*◌, ◌^◌, ◌<◌, ◌≤◌, Bool, true, false, not, ◌&&◌, eqb, List, [], ◌∷◌, ◌++◌, length, get_or, drop, refl, sym, ap, subst, ◌∙◌, append_assoc, arith}
-use Rattle.std.specs.Prelude.{ℤ, pos, unsigned_abs, map, codes}
-use Rattle.std.specs.List.{AllByRecursion, list_all, range_with_len}
+use Rattle.std.proofs.Common.{◌≡◌, ℕ, zero, suc, ◌+◌, ◌*◌, ◌^◌, ◌<◌, ◌≤◌, List, [], ◌∷◌, ◌++◌, length, get_or, refl, sym, ap, subst, ◌∙◌, arith}
+use Rattle.std.specs.Prelude.{ℤ, pos, unsigned_abs, map}
+use Rattle.std.specs.List.{range_with_len}
 use Rattle.std.proofs.Math.Nat.{le-mul_of_pos_right}
 use Rattle.dp_spec.specs.JointNumbers.{product}
 use Rattle.dp_spec.specs.Model.{Model, IsModel, joint_actions}
 use Rattle.dp_spec.specs.PolicyTree.IsJointPolicy.{and_agent, no_agents}
 use Rattle.dp_spec.specs.PolicyTree.{IsJointPolicy, IsPolicyOf, IsPolicyTree, PolicyTree}
-use Rattle.dp_spec.specs.TextLines.{Item, fixed, plain, signed, Line, fixed_line, line_text, text_of_lines, Allows, AllAllowed}
-use Rattle.dp_spec.specs.PolicyText.{title_form, horizon_form, agent_form, end_form, row_line, policy_rows, agent_lines, policy_lines, policy_text, IsPolicyText}
+use Rattle.dp_spec.specs.TextLines.{Line, fixed_line, line_text, Allows, AllAllowed}
+use Rattle.dp_spec.specs.PolicyText.{horizon_form, end_form, row_line, policy_rows, agent_lines, policy_lines, policy_text, IsPolicyText}
 use Rattle.dp_laws.proofs.Trees.{pos_of}
-use Rattle.dp_laws.proofs.LineTexts.{IsItem, decimal_item, HasItems, AreLines, bytes_of, first_of_list, rest_of_list, line_tells, text_tells}
-use Rattle.dp_laws.proofs.PolicyTexts.{AreSmall, row_is, agents_tell}
+use Rattle.dp_laws.proofs.LineTexts.{decimal_item, AreLines, bytes_of, first_of_list, rest_of_list, line_text_injective, text_of_lines_injective}
+use Rattle.dp_laws.proofs.PolicyTexts.{AreSmall, row_is, agent_lines_injective}
 
 -- ---- lines
-
-not_true : (b : Bool) → not b ≡ true → b ≡ false
-not_true true h = absurd cc
-not_true false h = refl
-
-and_left : (a b : Bool) → (a && b) ≡ true → a ≡ true
-and_left true b h = refl
-and_left false b h = h
-
-and_right : (a b : Bool) → (a && b) ≡ true → b ≡ true
-and_right true b h = h
-and_right false b h = absurd cc
-
-abbrev is_item_byte : ℕ → Bool
-is_item_byte b = not (eqb b 32) && not (eqb b 10)
-
-literal : (text : List ℕ) → list_all is_item_byte text ≡ true → IsItem text
-literal [] h = tt
-literal (b ∷ text) h =
-    let here = and_left (is_item_byte b) (list_all is_item_byte text) h in
-    ((not_true (eqb b 32) (and_left (not (eqb b 32)) (not (eqb b 10)) here), not_true (eqb b 10) (and_right (not (eqb b 32)) (not (eqb b 10)) here)),
-    literal text (and_right (is_item_byte b) (list_all is_item_byte text) h))
-
--- a test of the fixed texts of a form
-abbrev has_items : List Item → Bool
-has_items [] = true
-has_items (fixed text ∷ form) = list_all is_item_byte text && has_items form
-has_items (item ∷ form) = has_items form
-
-pub tested : (form : List Item) → has_items form ≡ true → HasItems form
-tested [] h = tt
-tested (fixed text ∷ form) h = (literal text (and_left (list_all is_item_byte text) (has_items form) h), tested form (and_right (list_all is_item_byte text) (has_items form) h))
-tested (plain low high ∷ form) h = tested form h
-tested (signed ∷ form) h = tested form h
 
 pub AreLines-append : (lines more : List Line) → AreLines lines → AreLines more → AreLines (lines ++ more)
 AreLines-append [] more p q = q
@@ -76,7 +42,7 @@ rows_are_lines b n h q small is a (suc k) within = (row_is b n h a q small (omeg
 pub agents_are_lines : (h : ℕ) (bs ns : List ℕ) (qs : List PolicyTree) → AreSmall bs → IsJointPolicy h bs ns qs → (agent : ℕ) → agent + length bs < 10 ^ 64 → AreLines (agent_lines agent (policy_rows bs ns h qs))
 agents_are_lines h _ _ _ small no_agents agent few = tt
 agents_are_lines h (b ∷ bs) (n ∷ ns) (q ∷ qs) small (and_agent is iss) agent few =
-    (((literal (codes "agent") refl, (decimal_item agent (omega arith), tt)), tt),
+    (((assumption, (decimal_item agent (omega arith), tt)), tt),
     AreLines-append (map (row_line b n q) (range_with_len 0 h)) (agent_lines (agent + 1) (policy_rows bs ns h qs)) (rows_are_lines b n h q small.0 is 0 h (omega arith))
       (agents_are_lines h bs ns qs small.1 iss (agent + 1) (omega arith)))
 
@@ -100,11 +66,11 @@ actions_small m is = small_factors m.actions 256 (omega arith) is.sizes.some_act
 policy_are_lines : (m : Model) → IsModel m → (h : ℕ) (qs : List PolicyTree) → Allows horizon_form (pos h ∷ []) → IsPolicyOf m h qs → AreLines (policy_lines m.actions m.observations h qs)
 policy_are_lines m is h qs horizon policy =
     let agents = is.sizes.agents_limit in
-    ((tested (title_form (codes "policy")) refl, tt),
-    ((tested horizon_form refl, horizon),
+    ((assumption, tt),
+    ((assumption, horizon),
     AreLines-append (agent_lines 0 (policy_rows m.actions m.observations h qs)) (fixed_line end_form ∷ [])
       (agents_are_lines h m.actions m.observations qs (actions_small m is) policy 0 (omega (arith, agents)))
-      ((tested end_form refl, tt), tt)))
+      ((assumption, tt), tt)))
 
 -- every joint policy of a horizon of 32 bits has a text
 pub policy_has_text : (m : Model) → IsModel m → (h : ℕ) (qs : List PolicyTree) → 0 < h → h < 2 ^ 32 → IsPolicyOf m h qs → IsPolicyText m (policy_text m.actions m.observations h qs) h qs
@@ -114,25 +80,25 @@ policy_has_text m is h qs some wide policy = record {
   text = refl;
 }
 
--- the line of a horizon tells it
-pub horizon_tells : (h k : ℕ) → Allows horizon_form (pos h ∷ []) → Allows horizon_form (pos k ∷ []) → line_text horizon_form (pos h ∷ []) ≡ line_text horizon_form (pos k ∷ []) → h ≡ k
-horizon_tells h k p q e = ap (λ (l : List ℤ). unsigned_abs (get_or l 0 (pos 0))) (line_tells horizon_form (pos h ∷ []) (pos k ∷ []) (tested horizon_form refl) p q e)
+-- the line of a horizon determines it
+pub horizon_line_injective : (h k : ℕ) → Allows horizon_form (pos h ∷ []) → Allows horizon_form (pos k ∷ []) → line_text horizon_form (pos h ∷ []) ≡ line_text horizon_form (pos k ∷ []) → h ≡ k
+horizon_line_injective h k p q e = ap (λ (l : List ℤ). unsigned_abs (get_or l 0 (pos 0))) (line_text_injective horizon_form (pos h ∷ []) (pos k ∷ []) (assumption) p q e)
 
--- the lines of all agents of a model tell the policy, and what follows them, where the horizons are equal
-pub all_agents_tell : (m : Model) → IsModel m → (h k : ℕ) (qs ps : List PolicyTree) → h ≡ k → 0 < h → IsPolicyOf m h qs → IsPolicyOf m k ps → (more others : List Line)
+-- where the horizons are equal, the lines of all agents of a model determine the policy, and what follows them
+pub all_agent_lines_injective : (m : Model) → IsModel m → (h k : ℕ) (qs ps : List PolicyTree) → h ≡ k → 0 < h → IsPolicyOf m h qs → IsPolicyOf m k ps → (more others : List Line)
     → map bytes_of (agent_lines 0 (policy_rows m.actions m.observations h qs) ++ more) ≡ map bytes_of (agent_lines 0 (policy_rows m.actions m.observations k ps) ++ others)
     → (qs ≡ ps) × (map bytes_of more ≡ map bytes_of others)
-all_agents_tell m is h k qs ps same some mine yours more others e =
-    agents_tell h m.actions m.observations qs ps some (actions_small m is) mine (subst (λ (x : ℕ). IsPolicyOf m x ps) (sym same) yours) 0 more others
+all_agent_lines_injective m is h k qs ps same some mine yours more others e =
+    agent_lines_injective h m.actions m.observations qs ps some (actions_small m is) mine (subst (λ (x : ℕ). IsPolicyOf m x ps) (sym same) yours) 0 more others
       (subst (λ (x : ℕ). map bytes_of (agent_lines 0 (policy_rows m.actions m.observations h qs) ++ more) ≡ map bytes_of (agent_lines 0 (policy_rows m.actions m.observations x ps) ++ others)) (sym same) e)
 
 -- a text is that of one joint policy of one horizon
-pub policy_text_tells : (m : Model) → IsModel m → (bytes : List ℕ) (h k : ℕ) (qs ps : List PolicyTree) → IsPolicyText m bytes h qs → IsPolicyText m bytes k ps → (h ≡ k) × (qs ≡ ps)
+pub policy_text_injective : (m : Model) → IsModel m → (bytes : List ℕ) (h k : ℕ) (qs ps : List PolicyTree) → IsPolicyText m bytes h qs → IsPolicyText m bytes k ps → (h ≡ k) × (qs ≡ ps)
 unfolding policy_text bytes_of
-policy_text_tells m is bytes h k qs ps mine yours =
-    let lines = text_tells (policy_lines m.actions m.observations h qs) (policy_lines m.actions m.observations k ps)
+policy_text_injective m is bytes h k qs ps mine yours =
+    let lines = text_of_lines_injective (policy_lines m.actions m.observations h qs) (policy_lines m.actions m.observations k ps)
       (policy_are_lines m is h qs mine.allowed.1.0 mine.policy) (policy_are_lines m is k ps yours.allowed.1.0 yours.policy) (sym mine.text ∙ yours.text) in
     let behind_title = rest_of_list _ _ _ _ lines in
-    let horizon : h ≡ k = horizon_tells h k mine.allowed.1.0 yours.allowed.1.0 (first_of_list _ _ _ _ behind_title) in
-    let policies = all_agents_tell m is h k qs ps horizon mine.allowed.1.0.1 mine.policy yours.policy (fixed_line end_form ∷ []) (fixed_line end_form ∷ []) (rest_of_list _ _ _ _ behind_title) in
+    let horizon : h ≡ k = horizon_line_injective h k mine.allowed.1.0 yours.allowed.1.0 (first_of_list _ _ _ _ behind_title) in
+    let policies = all_agent_lines_injective m is h k qs ps horizon mine.allowed.1.0.1 mine.policy yours.policy (fixed_line end_form ∷ []) (fixed_line end_form ∷ []) (rest_of_list _ _ _ _ behind_title) in
     (horizon, policies.0)
