@@ -124,12 +124,12 @@ line_text_injective (plain low high ∷ form) [] zs are p q e = absurd p
 line_text_injective (plain low high ∷ form) (y ∷ ys) [] are p q e = absurd q
 line_text_injective (plain low high ∷ form) (y ∷ ys) (z ∷ zs) are p q e =
     spelled_items_injective (plain low high ∷ form) (y ∷ ys) (z ∷ zs) p q
-      (joined_injective _ _ _ _ (spelled_are_items (plain low high ∷ form) (y ∷ ys) are p) (spelled_are_items (plain low high ∷ form) (z ∷ zs) are q) e)
+    (joined_injective _ _ _ _ (spelled_are_items (plain low high ∷ form) (y ∷ ys) are p) (spelled_are_items (plain low high ∷ form) (z ∷ zs) are q) e)
 line_text_injective (signed ∷ form) [] zs are p q e = absurd p
 line_text_injective (signed ∷ form) (y ∷ ys) [] are p q e = absurd q
 line_text_injective (signed ∷ form) (y ∷ ys) (z ∷ zs) are p q e =
     spelled_items_injective (signed ∷ form) (y ∷ ys) (z ∷ zs) p q
-      (joined_injective _ _ _ _ (spelled_are_items (signed ∷ form) (y ∷ ys) are p) (spelled_are_items (signed ∷ form) (z ∷ zs) are q) e)
+    (joined_injective _ _ _ _ (spelled_are_items (signed ∷ form) (y ∷ ys) are p) (spelled_are_items (signed ∷ form) (z ∷ zs) are q) e)
 
 -- ---- lines
 
@@ -157,7 +157,7 @@ unfolding bytes_of
 split_text [] are = refl
 split_text (line ∷ lines) are =
     slice_split_at (λ b. eqb b 10) (line_text line.form line.numbers) 10 (text_of_lines lines)
-      (All-from_recursion _ _ (NoFeed-joined (spelled_items line.form line.numbers) (spelled_are_items line.form line.numbers are.0.0 are.0.1))) refl
+    (All-from_recursion _ _ (NoFeed-joined (spelled_items line.form line.numbers) (spelled_are_items line.form line.numbers are.0.0 are.0.1))) refl
     ∙ ap (λ (l : List (List ℕ)). line_text line.form line.numbers ∷ l) (split_text lines are.1)
 
 -- a text determines its lines

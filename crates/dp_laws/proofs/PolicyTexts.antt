@@ -43,13 +43,13 @@ same_after b n h q p is are alike zero t x e below =
     same_last b n _ _ (tree_at_fits b n q t 1 h x e below is) (tree_at_fits b n p t 1 h x e below are) (alike t x (omega arith) below)
 same_after b n h q p is are alike (suc j) t x e below =
     same_node b n j _ _ (tree_at_fits b n q t (suc (suc j)) h x e below is) (tree_at_fits b n p t (suc (suc j)) h x e below are) (alike t x (omega arith) below)
-      (λ o lt.
-        let place : x * n + o < n ^ suc t = rw pow-suc (row_below x (n ^ t) n o below lt) in
-        let there : tree_at n q (suc t) (x * n + o) ≡ tree_at n p (suc t) (x * n + o) = same_after b n h q p is are alike j (suc t) (x * n + o) (omega arith) place in
-        let front : (x * n + o) / n ≡ x = div-mul-add x n o lt in
-        let last : (x * n + o) % n ≡ o = mod-mul-add x n o lt in
-        subst (λ (z : ℕ). subtree (tree_at n q t z) o ≡ subtree (tree_at n p t z) o) front
-          (subst (λ (z : ℕ). subtree (tree_at n q t ((x * n + o) / n)) z ≡ subtree (tree_at n p t ((x * n + o) / n)) z) last there))
+    (λ o lt.
+    let place : x * n + o < n ^ suc t = rw pow-suc (row_below x (n ^ t) n o below lt) in
+    let there : tree_at n q (suc t) (x * n + o) ≡ tree_at n p (suc t) (x * n + o) = same_after b n h q p is are alike j (suc t) (x * n + o) (omega arith) place in
+    let front : (x * n + o) / n ≡ x = div-mul-add x n o lt in
+    let last : (x * n + o) % n ≡ o = mod-mul-add x n o lt in
+    subst (λ (z : ℕ). subtree (tree_at n q t z) o ≡ subtree (tree_at n p t z) o) front
+    (subst (λ (z : ℕ). subtree (tree_at n q t ((x * n + o) / n)) z ≡ subtree (tree_at n p t ((x * n + o) / n)) z) last there))
 
 -- trees that act alike are equal
 pub same_tree : (b n h : ℕ) (q p : PolicyTree) → 0 < h → IsPolicyTree b n h q → IsPolicyTree b n h p → ActAlike n h q p → q ≡ p
@@ -74,18 +74,18 @@ pub row_is : (b n h t : ℕ) (q : PolicyTree) → b ≤ 2 ^ 32 → t < h → IsP
 row_is b n h t q small lt is = (
   replicate_items (n ^ t) 0 (b - 1),
   row_allowed (λ x. root_action (tree_at n q t x)) (b - 1) 0 (n ^ t) (λ x ge below.
-    let left : t + suc (h - suc t) ≡ h = omega arith in
-    let in_range : root_action (tree_at n q t x) < b = root_in b n (h - suc t) _ (tree_at_fits b n q t (suc (h - suc t)) h x left (omega arith) is) in
-    (omega arith, omega arith))
+      let left : t + suc (h - suc t) ≡ h = omega arith in
+      let in_range : root_action (tree_at n q t x) < b = root_in b n (h - suc t) _ (tree_at_fits b n q t (suc (h - suc t)) h x left (omega arith) is) in
+      (omega arith, omega arith)),
 )
 
-unpos : (xs : List ℕ) → map unsigned_abs (map pos xs) ≡ xs
-unpos [] = refl
-unpos (x ∷ xs) = ap (λ l. x ∷ l) (unpos xs)
+map-unsigned_abs-pos : (xs : List ℕ) → map unsigned_abs (map pos xs) ≡ xs
+map-unsigned_abs-pos [] = refl
+map-unsigned_abs-pos (x ∷ xs) = ap (λ l. x ∷ l) (map-unsigned_abs-pos xs)
 
 same_row : (n t : ℕ) (q p : PolicyTree) → map pos (row_actions n q t) ≡ map pos (row_actions n p t) → (x : ℕ) → x < n ^ t → root_action (tree_at n q t x) ≡ root_action (tree_at n p t x)
 same_row n t q p e x lt =
-    let rows : row_actions n q t ≡ row_actions n p t = sym (unpos (row_actions n q t)) ∙ ap (map unsigned_abs) e ∙ unpos (row_actions n p t) in
+    let rows : row_actions n q t ≡ row_actions n p t = sym (map-unsigned_abs-pos (row_actions n q t)) ∙ ap (map unsigned_abs) e ∙ map-unsigned_abs-pos (row_actions n p t) in
     sym (get_or-map-range_with_len (λ y. root_action (tree_at n q t y)) 0 (n ^ t) x x 0 lt (omega arith))
     ∙ ap (λ (l : List ℕ). get_or l x 0) rows
     ∙ get_or-map-range_with_len (λ y. root_action (tree_at n p t y)) 0 (n ^ t) x x 0 lt (omega arith)
@@ -100,12 +100,14 @@ row_lines_injective b n h q p small is are a (suc k) within more others e =
     let mine = row_is b n h a q small (omega arith) is in
     let yours = row_is b n h a p small (omega arith) are in
     let here = line_text_injective (row_form b n a) (map pos (row_actions n q a)) (map pos (row_actions n p a)) mine.0 mine.1 yours.1 (first_of_list _ _ _ _ e) in
-    let below = row_lines_injective b n h q p small is are (a + 1) k (omega arith) more others (rest_of_list _ _ _ _ e) in
-    (λ t x ge lt in_row.
-      elim (cases_lt a t) [
-        | inl later ↦ below.0 t x (omega arith) (omega arith) in_row
-        | inr first ↦ let at : a ≡ t = omega arith in same_row n t q p (subst (λ (z : ℕ). map pos (row_actions n q z) ≡ map pos (row_actions n p z)) at here) x in_row
-      ], below.1)
+    let below = row_lines_injective b n h q p small is are (a + 1) k (omega arith) more others (rest_of_list _ _ _ _ e) in (
+      λ t x ge lt in_row.
+          elim (cases_lt a t) [
+            | inl later ↦ below.0 t x (omega arith) (omega arith) in_row
+            | inr first ↦ let at : a ≡ t = omega arith in same_row n t q p (subst (λ (z : ℕ). map pos (row_actions n q z) ≡ map pos (row_actions n p z)) at here) x in_row
+          ],
+      below.1,
+    )
 
 -- ---- agents
 
@@ -124,7 +126,7 @@ agent_lines_injective h (b ∷ bs) (n ∷ ns) (q ∷ qs) (p ∷ ps) some small (
     let yours = agent_lines (agent + 1) (policy_rows bs ns h ps) in
     let tails = rest_of_list _ _ _ _ e in
     let grouped : map bytes_of (map (row_line b n q) (range_with_len 0 h) ++ (agent_lines (agent + 1) (policy_rows bs ns h qs) ++ more)) ≡ map bytes_of (map (row_line b n p) (range_with_len 0 h) ++ (agent_lines (agent + 1) (policy_rows bs ns h ps) ++ others)) =
-      ap (map bytes_of) (sym (append_assoc (map (row_line b n q) (range_with_len 0 h)) mine more)) ∙ tails ∙ ap (map bytes_of) (append_assoc (map (row_line b n p) (range_with_len 0 h)) yours others) in
+    ap (map bytes_of) (sym (append_assoc (map (row_line b n q) (range_with_len 0 h)) mine more)) ∙ tails ∙ ap (map bytes_of) (append_assoc (map (row_line b n p) (range_with_len 0 h)) yours others) in
     let rows = row_lines_injective b n h q p small.0 is are 0 h (omega arith) (mine ++ more) (yours ++ others) grouped in
     let tree : q ≡ p = same_tree b n h q p some is are (λ t x lt below. rows.0 t x (omega arith) (omega arith) below) in
     let further = agent_lines_injective h bs ns qs ps some small.1 iss ares (agent + 1) more others rows.1 in

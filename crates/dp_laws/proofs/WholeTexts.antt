@@ -41,10 +41,11 @@ rows_are_lines b n h q small is a (suc k) within = (row_is b n h a q small (omeg
 
 pub agents_are_lines : (h : ℕ) (bs ns : List ℕ) (qs : List PolicyTree) → AreSmall bs → IsJointPolicy h bs ns qs → (agent : ℕ) → agent + length bs < 10 ^ 64 → AreLines (agent_lines agent (policy_rows bs ns h qs))
 agents_are_lines h _ _ _ small no_agents agent few = tt
-agents_are_lines h (b ∷ bs) (n ∷ ns) (q ∷ qs) small (and_agent is iss) agent few =
-    (((assumption, (decimal_item agent (omega arith), tt)), tt),
-    AreLines-append (map (row_line b n q) (range_with_len 0 h)) (agent_lines (agent + 1) (policy_rows bs ns h qs)) (rows_are_lines b n h q small.0 is 0 h (omega arith))
-      (agents_are_lines h bs ns qs small.1 iss (agent + 1) (omega arith)))
+agents_are_lines h (b ∷ bs) (n ∷ ns) (q ∷ qs) small (and_agent is iss) agent few = (
+  ((assumption, (decimal_item agent (omega arith), tt)), tt),
+  AreLines-append (map (row_line b n q) (range_with_len 0 h)) (agent_lines (agent + 1) (policy_rows bs ns h qs)) (rows_are_lines b n h q small.0 is 0 h (omega arith))
+      (agents_are_lines h bs ns qs small.1 iss (agent + 1) (omega arith)),
+)
 
 small_factors : (bs : List ℕ) (k : ℕ) → k ≤ 2 ^ 32 → 0 < product bs → product bs ≤ k → AreSmall bs
 small_factors [] k few some most = tt
@@ -65,12 +66,15 @@ actions_small m is = small_factors m.actions 256 (omega arith) is.sizes.some_act
 
 policy_are_lines : (m : Model) → IsModel m → (h : ℕ) (qs : List PolicyTree) → Allows horizon_form (pos h ∷ []) → IsPolicyOf m h qs → AreLines (policy_lines m.actions m.observations h qs)
 policy_are_lines m is h qs horizon policy =
-    let agents = is.sizes.agents_limit in
-    ((assumption, tt),
-    ((assumption, horizon),
-    AreLines-append (agent_lines 0 (policy_rows m.actions m.observations h qs)) (fixed_line end_form ∷ [])
-      (agents_are_lines h m.actions m.observations qs (actions_small m is) policy 0 (omega (arith, agents)))
-      ((assumption, tt), tt)))
+    let agents = is.sizes.agents_limit in (
+      (assumption, tt),
+      (
+        (assumption, horizon),
+        AreLines-append (agent_lines 0 (policy_rows m.actions m.observations h qs)) (fixed_line end_form ∷ [])
+            (agents_are_lines h m.actions m.observations qs (actions_small m is) policy 0 (omega (arith, agents)))
+            ((assumption, tt), tt),
+      ),
+    )
 
 -- every joint policy of a horizon of 32 bits has a text
 pub policy_has_text : (m : Model) → IsModel m → (h : ℕ) (qs : List PolicyTree) → 0 < h → h < 2 ^ 32 → IsPolicyOf m h qs → IsPolicyText m (policy_text m.actions m.observations h qs) h qs
@@ -90,14 +94,14 @@ pub all_agent_lines_injective : (m : Model) → IsModel m → (h k : ℕ) (qs ps
     → (qs ≡ ps) × (map bytes_of more ≡ map bytes_of others)
 all_agent_lines_injective m is h k qs ps same some mine yours more others e =
     agent_lines_injective h m.actions m.observations qs ps some (actions_small m is) mine (subst (λ (x : ℕ). IsPolicyOf m x ps) (sym same) yours) 0 more others
-      (subst (λ (x : ℕ). map bytes_of (agent_lines 0 (policy_rows m.actions m.observations h qs) ++ more) ≡ map bytes_of (agent_lines 0 (policy_rows m.actions m.observations x ps) ++ others)) (sym same) e)
+    (subst (λ (x : ℕ). map bytes_of (agent_lines 0 (policy_rows m.actions m.observations h qs) ++ more) ≡ map bytes_of (agent_lines 0 (policy_rows m.actions m.observations x ps) ++ others)) (sym same) e)
 
 -- a text is that of one joint policy of one horizon
 pub policy_text_injective : (m : Model) → IsModel m → (bytes : List ℕ) (h k : ℕ) (qs ps : List PolicyTree) → IsPolicyText m bytes h qs → IsPolicyText m bytes k ps → (h ≡ k) × (qs ≡ ps)
 unfolding policy_text bytes_of
 policy_text_injective m is bytes h k qs ps mine yours =
     let lines = text_of_lines_injective (policy_lines m.actions m.observations h qs) (policy_lines m.actions m.observations k ps)
-      (policy_are_lines m is h qs mine.allowed.1.0 mine.policy) (policy_are_lines m is k ps yours.allowed.1.0 yours.policy) (sym mine.text ∙ yours.text) in
+    (policy_are_lines m is h qs mine.allowed.1.0 mine.policy) (policy_are_lines m is k ps yours.allowed.1.0 yours.policy) (sym mine.text ∙ yours.text) in
     let behind_title = rest_of_list _ _ _ _ lines in
     let horizon : h ≡ k = horizon_line_injective h k mine.allowed.1.0 yours.allowed.1.0 (first_of_list _ _ _ _ behind_title) in
     let policies = all_agent_lines_injective m is h k qs ps horizon mine.allowed.1.0.1 mine.policy yours.policy (fixed_line end_form ∷ []) (fixed_line end_form ∷ []) (rest_of_list _ _ _ _ behind_title) in

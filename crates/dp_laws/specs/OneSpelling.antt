@@ -1,12 +1,10 @@
--- Texts and values belong to each other one to one: no two values have the same text, and no value has two.
-use Rattle.std.specs.Prelude.{◌≡◌, ℕ, ◌^◌, ◌<◌, FitsSigned, pos, List, [], ◌∷◌}
-use Rattle.std.specs.Int.{w128}
+-- Texts and values belong to each other one to one: no two values have the same text, and no value has two. (Own.)
+use Rattle.std.specs.Prelude.{◌≡◌, ℕ, ◌^◌, ◌<◌, List}
 use Rattle.dp_spec.specs.Model.{Model, IsModel}
 use Rattle.dp_spec.specs.PolicyTree.{PolicyTree, IsPolicyOf}
-use Rattle.dp_spec.specs.PolicyText.{horizon_form, policy_text, IsPolicyText}
+use Rattle.dp_spec.specs.PolicyText.{policy_text, IsPolicyText}
 use Rattle.dp_spec.specs.Certificate.{Certificate}
-use Rattle.dp_spec.specs.CertificateText.{look_form, inner_form, node_lines, certificate_text, IsCertificateText}
-use Rattle.dp_spec.specs.TextLines.{Allows, AllAllowed}
+use Rattle.dp_spec.specs.CertificateText.{certificate_text, HasTextNumbers, IsCertificateText}
 
 -- a text is that of one horizon and one joint policy
 abbrev pub OnePolicyPerText : Type 0
@@ -20,17 +18,7 @@ OneTextPerPolicy = (m : Model) (bytes others : List ℕ) (h : ℕ) (qs : List Po
 abbrev pub EachPolicyHasText : Type 0
 EachPolicyHasText = (m : Model) → IsModel m → (h : ℕ) (qs : List PolicyTree) → 0 < h → h < 2 ^ 32 → IsPolicyOf m h qs → IsPolicyText m (policy_text m.actions m.observations h qs) h qs
 
--- the numbers of a certificate are those that its lines allow
-pub record HasTextNumbers (c : Certificate) : Type 0 where
-  pub horizon : Allows horizon_form (pos c.horizon ∷ [])
-  pub look : Allows look_form (pos c.look ∷ [])
-  pub unit : FitsSigned w128 c.unit
-  pub lower : FitsSigned w128 c.lower
-  pub upper : FitsSigned w128 c.upper
-  pub inner : Allows inner_form (pos c.inner ∷ [])
-  pub tree : AllAllowed (node_lines c.tree)
-
--- every certificate with such numbers and a joint policy for the model has a text
+-- every certificate whose numbers its lines allow, with a joint policy for the model, has a text
 abbrev pub EachCertificateHasText : Type 0
 EachCertificateHasText =
     (m : Model) → IsModel m → (c : Certificate) → HasTextNumbers c → IsPolicyOf m c.horizon c.policy → IsCertificateText m (certificate_text m.actions m.observations c) c

@@ -1,13 +1,16 @@
 -- Lemmas about the lines of texts.
-use Rattle.std.specs.Prelude.{◌≡◌, ℕ, ◌-◌, ℤ, pos, true, List, [], ◌∷◌, ◌++◌, codes, map, length, replicate}
-use Rattle.std.proofs.Common.{refl, sym, ap, ◌∙◌, append_assoc, arith}
+use Rattle.std.specs.Prelude.{◌≡◌, ℕ, ◌-◌, ◌^◌, ℤ, pos, true, List, [], ◌∷◌, ◌++◌, codes, map, length, replicate}
+use Rattle.std.proofs.Common.{subst, refl, sym, ap, ◌∙◌, append_assoc, arith}
 use Rattle.std.proofs.Math.Nat.{pow-zero}
 use Rattle.std.proofs.lemmas.Fmt.{decimal_digit}
+use Rattle.std.proofs.lemmas.List.FromFn.{length-map-range_with_len}
+use Rattle.std.specs.List.{join_with_byte}
 use Rattle.std.specs.Fmt.{decimal, signed_decimal}
 use Rattle.dp_spec.specs.PolicyTree.{PolicyTree, node, no_trees, root_action}
+use Rattle.dp_spec.specs.Keeping.{tree_at}
 use Rattle.dp_spec.specs.BoundTree.{leaf}
 use Rattle.dp_spec.specs.TextLines.{plain, Line, spelled_items, line_text, text_of_lines}
-use Rattle.dp_spec.specs.PolicyText.{row_line}
+use Rattle.dp_spec.specs.PolicyText.{row_form, row_actions, row_line}
 use Rattle.dp_spec.specs.CertificateText.{certificate_text}
 
 -- the text of lines and further lines is their texts, one after the other
@@ -25,6 +28,13 @@ spelled_items-replicate low high (n ∷ ns) = ap (λ (items : List (List ℕ)). 
 -- the first stage has one action
 pub row_line-zero : (b n : ℕ) (q : PolicyTree) → row_line b n q 0 ≡ record { form = plain 0 (b - 1) ∷ []; numbers = pos (root_action q) ∷ [] }
 row_line-zero b n q = rw (pow-zero n) refl
+
+-- a row is the actions with one space between each two
+pub line_text-row : (b n t : ℕ) (q : PolicyTree) → line_text (row_form b n t) (map pos (row_actions n q t)) ≡ join_with_byte 32 (map decimal (row_actions n q t))
+line_text-row b n t q =
+    subst (λ (k : ℕ). line_text (replicate k (plain 0 (b - 1))) (map pos (row_actions n q t)) ≡ join_with_byte 32 (map decimal (row_actions n q t)))
+    (length-map-range_with_len (λ x. root_action (tree_at n q t x)) 0 (n ^ t))
+    (ap (join_with_byte 32) (spelled_items-replicate 0 (b - 1) (row_actions n q t)))
 
 -- whatever its numbers are, a certificate of one step and one agent with one leaf is these lines
 pub one_leaf : (b n look inner action : ℕ) (unit lower upper bound : ℤ)

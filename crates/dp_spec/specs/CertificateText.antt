@@ -1,11 +1,12 @@
--- The text of a certificate: its head, its policy, and its bound tree with one line for each node.
-use Rattle.std.specs.Prelude.{◌≡◌, ℕ, ◌+◌, ℤ, pos, Bool, if◌then◌else◌, List, [], ◌∷◌, ◌++◌, codes}
+-- The text of a certificate: its head, its policy, and its bound tree with one line for each node. (Own.)
+use Rattle.std.specs.Prelude.{◌≡◌, ℕ, ◌+◌, ℤ, pos, FitsSigned, Bool, if◌then◌else◌, List, [], ◌∷◌, ◌++◌, codes}
+use Rattle.std.specs.Int.{w128}
 use Rattle.dp_spec.specs.Model.{Model}
 use Rattle.dp_spec.specs.PolicyTree.{IsPolicyOf}
 use Rattle.dp_spec.specs.BoundTree.{BoundTree, BoundTrees, leaf, branch, merge, no_bound_trees, more_bound_trees}
 use Rattle.dp_spec.specs.Certificate.{Certificate}
-use Rattle.dp_spec.specs.TextLines.{Item, fixed, plain, signed, any_plain, Line, fixed_line, text_of_lines, AllAllowed}
-use Rattle.dp_spec.specs.PolicyText.{title_form, end_form, horizon_line, policy_rows, agent_lines}
+use Rattle.dp_spec.specs.TextLines.{Item, fixed, plain, signed, any_plain, Line, fixed_line, text_of_lines, Allows, AllAllowed}
+use Rattle.dp_spec.specs.PolicyText.{title_form, horizon_form, end_form, horizon_line, policy_rows, agent_lines}
 
 -- ---- the forms of the lines
 
@@ -82,6 +83,16 @@ certificate_lines bs ns c =
 
 unfoldable pub certificate_text : List ℕ → List ℕ → Certificate → List ℕ
 certificate_text bs ns c = text_of_lines (certificate_lines bs ns c)
+
+-- the lines of a certificate allow its numbers
+pub record HasTextNumbers (c : Certificate) : Type 0 where
+  pub horizon : Allows horizon_form (pos c.horizon ∷ [])
+  pub look : Allows look_form (pos c.look ∷ [])
+  pub unit : FitsSigned w128 c.unit
+  pub lower : FitsSigned w128 c.lower
+  pub upper : FitsSigned w128 c.upper
+  pub inner : Allows inner_form (pos c.inner ∷ [])
+  pub tree : AllAllowed (node_lines c.tree)
 
 -- These bytes are the text of a certificate with a joint policy for a model, and each line has numbers that it allows.
 pub record IsCertificateText (m : Model) (bytes : List ℕ) (c : Certificate) : Type 0 where

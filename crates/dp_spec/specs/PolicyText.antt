@@ -1,4 +1,4 @@
--- The text of a joint policy: for each agent the actions after its own histories, one line for each stage.
+-- The text of a joint policy: for each agent the actions after its own histories, one line for each stage. (Own.)
 use Rattle.std.specs.Prelude.{◌≡◌, ℕ, ◌+◌, ◌-◌, ◌^◌, pos, List, [], ◌∷◌, ◌++◌, map, replicate, codes}
 use Rattle.std.specs.List.{range_with_len}
 use Rattle.std.specs.Fmt.{decimal}

@@ -1,4 +1,4 @@
--- The lines of policy and certificate texts: a line's form as data, and what a line of that form is.
+-- The lines of policy and certificate texts: a line's form as data, and what a line of that form is. (Own.)
 use Rattle.std.specs.Prelude.{ℕ, ◌-◌, ◌^◌, ◌<◌, ◌≤◌, ℤ, pos, FitsSigned, List, [], ◌∷◌, ◌++◌}
 use Rattle.std.specs.Int.{w128}
 use Rattle.std.specs.List.{join_with_byte, AllByRecursion}
