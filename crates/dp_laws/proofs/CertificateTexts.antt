@@ -9,7 +9,7 @@ use Rattle.dp_spec.specs.TextLines.{Item, fixed, plain, Line, fixed_line, line_t
 use Rattle.dp_spec.specs.PolicyText.{end_form, policy_rows, agent_lines}
 use Rattle.dp_spec.specs.CertificateText.{mode_form, signed_form, leaf_form, branch_form, merge_form, child_count, node_lines, children_lines, certificate_lines, certificate_text, HasTextNumbers, IsCertificateText}
 use Rattle.dp_laws.proofs.LineTexts.{HasItems, AreLines, bytes_of, first_of_list, rest_of_list, line_text_injective, text_of_lines_injective}
-use Rattle.dp_laws.proofs.WholeTexts.{AreLines-append, AllAllowed-append, agents_are_lines, actions_small, horizon_line_injective, all_agent_lines_injective, allowed_of, AllAllowed-join}
+use Rattle.dp_laws.proofs.WholeTexts.{AreLines-append, AllAllowed-parts, agents_are_lines, actions_small, horizon_line_injective, all_agent_lines_injective, allowed_of, AllAllowed-append}
 
 -- ---- nodes
 
@@ -20,16 +20,18 @@ mutual
   nodes_are_lines (branch i c ks) allowed = ((assumption, allowed.0), children_are_lines ks allowed.1)
   nodes_are_lines (merge i a b k) allowed = ((assumption, allowed.0), nodes_are_lines k allowed.1)
 
+  -- and those of their children
   children_are_lines : (ks : BoundTrees) → AllAllowed (children_lines ks) → AreLines (children_lines ks)
   children_are_lines no_bound_trees allowed = tt
   children_are_lines (more_bound_trees k ks) allowed =
-      let each = AllAllowed-append (node_lines k) (children_lines ks) allowed in
+      let each = AllAllowed-parts (node_lines k) (children_lines ks) allowed in
       AreLines-append (node_lines k) (children_lines ks) (nodes_are_lines k each.0) (children_are_lines ks each.1)
 
 -- number i of a list that equals another
 number_at : (i : ℕ) (ys zs : List ℤ) → ys ≡ zs → get_or ys i (pos 0) ≡ get_or zs i (pos 0)
 number_at i ys zs e = ap (λ (l : List ℤ). get_or l i (pos 0)) e
 
+-- equal whole numbers without a sign are equal as natural numbers
 pos_injective : (m n : ℕ) → pos m ≡ pos n → m ≡ n
 pos_injective m n e = ap unsigned_abs e
 
@@ -66,14 +68,15 @@ mutual
       let child = node_lines_injective k l p.1 q.1 more others (rest_of_list _ _ _ _ e) in
       (rw (agent, first, second, child.0) refl, child.1)
 
+  -- the same of equally many children
   children_lines_injective : (ks ls : BoundTrees) → child_count ks ≡ child_count ls → AllAllowed (children_lines ks) → AllAllowed (children_lines ls) → (more others : List Line)
       → map bytes_of (children_lines ks ++ more) ≡ map bytes_of (children_lines ls ++ others) → (ks ≡ ls) × (map bytes_of more ≡ map bytes_of others)
   children_lines_injective no_bound_trees no_bound_trees count p q more others e = (refl, e)
   children_lines_injective no_bound_trees (more_bound_trees l ls) count p q more others e = absurd (omega (arith, count))
   children_lines_injective (more_bound_trees k ks) no_bound_trees count p q more others e = absurd (omega (arith, count))
   children_lines_injective (more_bound_trees k ks) (more_bound_trees l ls) count p q more others e =
-      let mine = AllAllowed-append (node_lines k) (children_lines ks) p in
-      let yours = AllAllowed-append (node_lines l) (children_lines ls) q in
+      let mine = AllAllowed-parts (node_lines k) (children_lines ks) p in
+      let yours = AllAllowed-parts (node_lines l) (children_lines ls) q in
       let grouped : map bytes_of (node_lines k ++ (children_lines ks ++ more)) ≡ map bytes_of (node_lines l ++ (children_lines ls ++ others)) =
       ap (map bytes_of) (sym (append_assoc (node_lines k) (children_lines ks) more)) ∙ e ∙ ap (map bytes_of) (append_assoc (node_lines l) (children_lines ls) others) in
       let first = node_lines_injective k l mine.0 yours.0 (children_lines ks ++ more) (children_lines ls ++ others) grouped in
@@ -82,6 +85,7 @@ mutual
 
 -- ---- certificates
 
+-- the word of each mode is an item
 mode_items : (is_exact : Bool) → HasItems (mode_form is_exact)
 mode_items true = assumption
 mode_items false = assumption
@@ -93,6 +97,7 @@ mode_line_injective false false e = refl
 mode_line_injective true false e = absurd (let at : 101 ≡ 111 = ap (λ (l : List ℕ). get_or l 5 0) e in omega (arith, at))
 mode_line_injective false true e = absurd (let at : 111 ≡ 101 = ap (λ (l : List ℕ). get_or l 5 0) e in omega (arith, at))
 
+-- the line before the tree
 abbrev tree_form : List Item
 tree_form = fixed (codes "tree") ∷ []
 
@@ -100,6 +105,7 @@ tree_form = fixed (codes "tree") ∷ []
 abbrev tree_lines : BoundTree → List Line
 tree_lines T = fixed_line tree_form ∷ (node_lines T ++ fixed_line end_form ∷ [])
 
+-- the lines of the tree are lines
 tree_are_lines : (T : BoundTree) → AllAllowed (node_lines T) → AreLines (tree_lines T)
 tree_are_lines T allowed = ((assumption, tt), AreLines-append (node_lines T) (fixed_line end_form ∷ []) (nodes_are_lines T allowed) ((assumption, tt), tt))
 
@@ -107,9 +113,10 @@ tree_are_lines T allowed = ((assumption, tt), AreLines-append (node_lines T) (fi
 nodes_allowed : (m : Model) (bytes : List ℕ) (c : Certificate) → IsCertificateText m bytes c → AllAllowed (node_lines c.tree)
 nodes_allowed m bytes c text =
     let behind_head = text.allowed.1.1.1.1.1.1.1.1.1 in
-    let behind_policy = AllAllowed-append (agent_lines 0 (policy_rows m.actions m.observations c.horizon c.policy)) (tree_lines c.tree) behind_head in
-    (AllAllowed-append (node_lines c.tree) (fixed_line end_form ∷ []) behind_policy.1.1).0
+    let behind_policy = AllAllowed-parts (agent_lines 0 (policy_rows m.actions m.observations c.horizon c.policy)) (tree_lines c.tree) behind_head in
+    (AllAllowed-parts (node_lines c.tree) (fixed_line end_form ∷ []) behind_policy.1.1).0
 
+-- the lines of the text of a certificate are lines
 certificate_are_lines : (m : Model) → IsModel m → (bytes : List ℕ) (c : Certificate) → IsCertificateText m bytes c → AreLines (certificate_lines m.actions m.observations c)
 certificate_are_lines m is bytes c text =
     let agents = is.sizes.agents_limit in
@@ -149,6 +156,7 @@ plain_line_injective : (word : List ℕ) (low high m n : ℕ) → HasItems (fixe
     → line_text (fixed word ∷ plain low high ∷ []) (pos m ∷ []) ≡ line_text (fixed word ∷ plain low high ∷ []) (pos n ∷ []) → m ≡ n
 plain_line_injective word low high m n are p q e = pos_injective m n (number_at 0 _ _ (line_text_injective (fixed word ∷ plain low high ∷ []) (pos m ∷ []) (pos n ∷ []) are p q e))
 
+-- the same of a signed number
 signed_line_injective : (word : List ℕ) (y z : ℤ) → HasItems (signed_form word) → Allows (signed_form word) (y ∷ []) → Allows (signed_form word) (z ∷ [])
     → line_text (signed_form word) (y ∷ []) ≡ line_text (signed_form word) (z ∷ []) → y ≡ z
 signed_line_injective word y z are p q e = number_at 0 _ _ (line_text_injective (signed_form word) (y ∷ []) (z ∷ []) are p q e)
@@ -208,9 +216,9 @@ certificate_has_text m is c numbers policy =
                       numbers.inner,
                       (
                         tt,
-                        AllAllowed-join (agent_lines 0 (policy_rows m.actions m.observations c.horizon c.policy)) (tree_lines c.tree)
+                        AllAllowed-append (agent_lines 0 (policy_rows m.actions m.observations c.horizon c.policy)) (tree_lines c.tree)
                             (allowed_of _ (agents_are_lines c.horizon m.actions m.observations c.policy (actions_small m is) policy 0 (omega (arith, agents))))
-                            (tt, AllAllowed-join (node_lines c.tree) (fixed_line end_form ∷ []) numbers.tree (tt, tt)),
+                            (tt, AllAllowed-append (node_lines c.tree) (fixed_line end_form ∷ []) numbers.tree (tt, tt)),
                       ),
                     ),
                   ),

@@ -19,10 +19,12 @@ use Rattle.dp_spec.specs.TextLines.{Item, fixed, plain, signed, Line, spelled_it
 abbrev pub IsItem : List ℕ → Type 0
 IsItem item = AllByRecursion (λ b. (eqb b 32 ≡ false) × (eqb b 10 ≡ false)) item
 
+-- digits are an item
 digits_item : (ds : List ℕ) → AllDigits 10 ds → IsItem ds
 digits_item [] h = tt
 digits_item (c ∷ ds) h = let in_digits = digit_from_value c h.0 in ((ne_eqb c 32 (omega arith), ne_eqb c 10 (omega arith)), digits_item ds h.1)
 
+-- a number that is written out is an item
 pub decimal_item : (n : ℕ) → n < 10 ^ 64 → IsItem (decimal n)
 decimal_item n small = digits_item (decimal n) (decimal_is_IsNumeral_wide n small).0.1
 
@@ -31,19 +33,23 @@ abbrev pub IsSmall : ℤ → Type 0
 IsSmall (pos n) = n < 10 ^ 64
 IsSmall (negsuc n) = suc n < 10 ^ 64
 
+-- so is one with a sign
 signed_item : (z : ℤ) → IsSmall z → IsItem (signed_decimal z)
 signed_item (pos n) small = decimal_item n small
 signed_item (negsuc n) small = ((refl, refl), decimal_item (suc n) small)
 
+-- numbers with the same digits are equal, also past 64 bits
 pub decimal_injective_wide : (m n : ℕ) → m < 10 ^ 64 → n < 10 ^ 64 → decimal m ≡ decimal n → m ≡ n
 decimal_injective_wide m n p q e = sym (decimal_is_IsNumeral_wide m p).1 ∙ ap (digits_value 10) e ∙ (decimal_is_IsNumeral_wide n q).1
 
+-- a number without a sign does not begin with `-`
 no_minus : (n : ℕ) (ds : List ℕ) → n < 10 ^ 64 → decimal n ≡ 45 ∷ ds → ⊥
 no_minus n ds small e =
     let numeral : AllDigits 10 (45 ∷ ds) = subst (AllDigits 10) e (decimal_is_IsNumeral_wide n small).0.1 in
     let in_digits = digit_from_value 45 numeral.0 in
     omega (arith, in_digits)
 
+-- the same of numbers with a sign
 pub signed_decimal_injective_wide : (y z : ℤ) → IsSmall y → IsSmall z → signed_decimal y ≡ signed_decimal z → y ≡ z
 signed_decimal_injective_wide (pos m) (pos n) p q e = ap pos (decimal_injective_wide m n p q e)
 signed_decimal_injective_wide (pos m) (negsuc n) p q e = absurd (no_minus m (decimal (suc n)) p e)
@@ -52,6 +58,7 @@ signed_decimal_injective_wide (negsuc m) (negsuc n) p q e =
     let same : suc m ≡ suc n = decimal_injective_wide (suc m) (suc n) p q (ap (drop 1) e) in
     let less : m ≡ n = omega arith in ap negsuc less
 
+-- a number of 128 bits is small
 signed_small : (z : ℤ) → FitsSigned w128 z → IsSmall z
 signed_small (pos n) fits = let f : n < 2 ^ 127 = fits.sfits in omega arith
 signed_small (negsuc n) fits = let f : n < 2 ^ 127 = fits.sfits in omega arith
@@ -65,6 +72,7 @@ HasItems (fixed text ∷ form) = IsItem text × HasItems form
 HasItems (plain low high ∷ form) = HasItems form
 HasItems (signed ∷ form) = HasItems form
 
+-- what a line of a form has between its spaces are items
 pub spelled_are_items : (form : List Item) (zs : List ℤ) → HasItems form → Allows form zs → AllByRecursion IsItem (spelled_items form zs)
 spelled_are_items [] zs are allowed = tt
 spelled_are_items (fixed text ∷ form) zs are allowed = (are.0, spelled_are_items form zs are.1 allowed)
@@ -74,9 +82,11 @@ spelled_are_items (plain low high ∷ form) (negsuc n ∷ zs) are allowed = absu
 spelled_are_items (signed ∷ form) [] are allowed = tt
 spelled_are_items (signed ∷ form) (z ∷ zs) are allowed = (signed_item z (signed_small z allowed.0), spelled_are_items form zs are allowed.1)
 
+-- equal lists have equal first elements
 pub first_of_list : {A : Type 0} (x y : A) (xs ys : List A) → x ∷ xs ≡ y ∷ ys → x ≡ y
 first_of_list {A = A} x y xs ys e = ap (λ (l : List A). get_or l 0 x) e
 
+-- and are equal behind them
 pub rest_of_list : {A : Type 0} (x y : A) (xs ys : List A) → x ∷ xs ≡ y ∷ ys → xs ≡ ys
 rest_of_list {A = A} x y xs ys e = ap (drop 1) e
 
@@ -101,6 +111,7 @@ spelled_items_injective (signed ∷ form) (y ∷ ys) (z ∷ zs) p q e =
 
 -- ---- one line
 
+-- an item has no space
 no_space : (item : List ℕ) → IsItem item → AllByRecursion (λ b. eqb b 32 ≡ false) item
 no_space [] h = tt
 no_space (b ∷ item) h = (h.0.0, no_space item h.1)
@@ -112,6 +123,7 @@ split_joined first (second ∷ items) h =
     slice_split_at (λ b. eqb b 32) first 32 (join_with_byte 32 (second ∷ items)) (All-from_recursion _ first (no_space first h.0)) refl
     ∙ ap (λ (l : List (List ℕ)). first ∷ l) (split_joined second items h.1)
 
+-- items that are equal once they are joined are equal
 joined_injective : (x y : List ℕ) (xs ys : List (List ℕ)) → AllByRecursion IsItem (x ∷ xs) → AllByRecursion IsItem (y ∷ ys) → join_with_byte 32 (x ∷ xs) ≡ join_with_byte 32 (y ∷ ys) → x ∷ xs ≡ y ∷ ys
 joined_injective x y xs ys p q e = sym (split_joined x xs p) ∙ ap (slice_split (λ b. eqb b 32)) e ∙ split_joined y ys q
 
@@ -133,13 +145,16 @@ line_text_injective (signed ∷ form) (y ∷ ys) (z ∷ zs) are p q e =
 
 -- ---- lines
 
+-- no byte is a line feed
 abbrev NoFeed : List ℕ → Type 0
 NoFeed line = AllByRecursion (λ b. eqb b 10 ≡ false) line
 
+-- an item before bytes without line feeds adds none
 NoFeed-append : (item rest : List ℕ) → IsItem item → NoFeed rest → NoFeed (item ++ rest)
 NoFeed-append [] rest h r = r
 NoFeed-append (b ∷ item) rest h r = (h.0.1, NoFeed-append item rest h.1 r)
 
+-- items that are joined by spaces have no line feed
 NoFeed-joined : (items : List (List ℕ)) → AllByRecursion IsItem items → NoFeed (join_with_byte 32 items)
 NoFeed-joined [] h = tt
 NoFeed-joined (item ∷ []) h = subst NoFeed (append-nil item) (NoFeed-append item [] h.0 tt)
@@ -149,9 +164,11 @@ NoFeed-joined (item ∷ second ∷ items) h = NoFeed-append item (32 ∷ join_wi
 abbrev pub AreLines : List Line → Type 0
 AreLines lines = AllByRecursion (λ (line : Line). HasItems line.form × Allows line.form line.numbers) lines
 
+-- the bytes of a line without its line feed
 unfoldable pub bytes_of : Line → List ℕ
 bytes_of line = line_text line.form line.numbers
 
+-- a text between its line feeds is its lines, and nothing behind the last one
 split_text : (lines : List Line) → AreLines lines → slice_split (λ b. eqb b 10) (text_of_lines lines) ≡ map bytes_of lines ++ [] ∷ []
 unfolding bytes_of
 split_text [] are = refl

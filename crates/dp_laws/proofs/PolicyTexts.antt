@@ -17,6 +17,7 @@ use Rattle.dp_laws.proofs.LineTexts.{HasItems, bytes_of, first_of_list, rest_of_
 
 -- ---- trees
 
+-- lists of equally many trees are equal where each tree is
 same_children : (b n r c : ℕ) (ks ls : PolicyTrees) → ArePolicyTrees b n r c ks → ArePolicyTrees b n r c ls → ((o : ℕ) → o < c → nth_tree ks o ≡ nth_tree ls o) → ks ≡ ls
 same_children b n r zero no_trees no_trees p q same = refl
 same_children b n r zero no_trees (more_trees l ls) p q same = absurd q
@@ -26,9 +27,11 @@ same_children b n r (suc c) (more_trees k ks) no_trees p q same = absurd q
 same_children b n r (suc c) (more_trees k ks) (more_trees l ls) p q same =
     rw (same 0 (omega arith), same_children b n r c ks ls p.1 q.1 (λ o lt. same (suc o) (omega arith))) refl
 
+-- trees of one step are equal where their actions are
 same_last : (b n : ℕ) (u v : PolicyTree) → IsPolicyTree b n 1 u → IsPolicyTree b n 1 v → root_action u ≡ root_action v → u ≡ v
 same_last b n (node a ks) (node c ls) p q same = rw (same, p.1, q.1) refl
 
+-- trees of more steps are equal where their actions and their subtrees are
 same_node : (b n r : ℕ) (u v : PolicyTree) → IsPolicyTree b n (suc (suc r)) u → IsPolicyTree b n (suc (suc r)) v → root_action u ≡ root_action v → ((o : ℕ) → o < n → subtree u o ≡ subtree v o) → u ≡ v
 same_node b n r (node a ks) (node c ls) p q same below = rw (same, same_children b n (suc r) n ks ls p.1 q.1 below) refl
 
@@ -65,6 +68,7 @@ row_allowed f high a (suc k) each =
     let here = each a (omega arith) (omega arith) in
     (here.1, omega arith, here.0, row_allowed f high (a + 1) k (λ x ge lt. each x (omega arith) (omega arith)))
 
+-- a form of plain numbers has no fixed text
 replicate_items : (k low high : ℕ) → HasItems (replicate k (plain low high))
 replicate_items zero low high = tt
 replicate_items (suc k) low high = replicate_items k low high
@@ -79,10 +83,12 @@ row_is b n h t q small lt is = (
       (omega arith, omega arith)),
 )
 
+-- the numbers of a row without a sign
 map-unsigned_abs-pos : (xs : List ℕ) → map unsigned_abs (map pos xs) ≡ xs
 map-unsigned_abs-pos [] = refl
 map-unsigned_abs-pos (x ∷ xs) = ap (λ l. x ∷ l) (map-unsigned_abs-pos xs)
 
+-- equal rows have equal actions
 same_row : (n t : ℕ) (q p : PolicyTree) → map pos (row_actions n q t) ≡ map pos (row_actions n p t) → (x : ℕ) → x < n ^ t → root_action (tree_at n q t x) ≡ root_action (tree_at n p t x)
 same_row n t q p e x lt =
     let rows : row_actions n q t ≡ row_actions n p t = sym (map-unsigned_abs-pos (row_actions n q t)) ∙ ap (map unsigned_abs) e ∙ map-unsigned_abs-pos (row_actions n p t) in

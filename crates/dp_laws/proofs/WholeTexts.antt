@@ -15,30 +15,34 @@ use Rattle.dp_laws.proofs.PolicyTexts.{AreSmall, row_is, agent_lines_injective}
 
 -- ---- lines
 
+-- lines and further lines are lines
 pub AreLines-append : (lines more : List Line) → AreLines lines → AreLines more → AreLines (lines ++ more)
 AreLines-append [] more p q = q
 AreLines-append (line ∷ lines) more p q = (p.0, AreLines-append lines more p.1 q)
 
 -- what is allowed of lines and further lines is allowed of each part
-pub AllAllowed-append : (lines more : List Line) → AllAllowed (lines ++ more) → AllAllowed lines × AllAllowed more
-AllAllowed-append [] more p = (tt, p)
-AllAllowed-append (line ∷ lines) more p = let rest = AllAllowed-append lines more p.1 in ((p.0, rest.0), rest.1)
+pub AllAllowed-parts : (lines more : List Line) → AllAllowed (lines ++ more) → AllAllowed lines × AllAllowed more
+AllAllowed-parts [] more p = (tt, p)
+AllAllowed-parts (line ∷ lines) more p = let rest = AllAllowed-parts lines more p.1 in ((p.0, rest.0), rest.1)
 
 -- lines have the numbers that their forms allow
 pub allowed_of : (lines : List Line) → AreLines lines → AllAllowed lines
 allowed_of [] are = tt
 allowed_of (line ∷ lines) are = (are.0.1, allowed_of lines are.1)
 
-pub AllAllowed-join : (lines more : List Line) → AllAllowed lines → AllAllowed more → AllAllowed (lines ++ more)
-AllAllowed-join [] more p q = q
-AllAllowed-join (line ∷ lines) more p q = (p.0, AllAllowed-join lines more p.1 q)
+-- what is allowed of each part is allowed of both together
+pub AllAllowed-append : (lines more : List Line) → AllAllowed lines → AllAllowed more → AllAllowed (lines ++ more)
+AllAllowed-append [] more p q = q
+AllAllowed-append (line ∷ lines) more p q = (p.0, AllAllowed-append lines more p.1 q)
 
 -- ---- the agents' lines
 
+-- the rows of k stages from a on are lines
 rows_are_lines : (b n h : ℕ) (q : PolicyTree) → b ≤ 2 ^ 32 → IsPolicyTree b n h q → (a k : ℕ) → a + k ≤ h → AreLines (map (row_line b n q) (range_with_len a k))
 rows_are_lines b n h q small is a zero within = tt
 rows_are_lines b n h q small is a (suc k) within = (row_is b n h a q small (omega arith) is, rows_are_lines b n h q small is (a + 1) k (omega arith))
 
+-- the lines of the agents from one on are lines
 pub agents_are_lines : (h : ℕ) (bs ns : List ℕ) (qs : List PolicyTree) → AreSmall bs → IsJointPolicy h bs ns qs → (agent : ℕ) → agent + length bs < 10 ^ 64 → AreLines (agent_lines agent (policy_rows bs ns h qs))
 agents_are_lines h _ _ _ small no_agents agent few = tt
 agents_are_lines h (b ∷ bs) (n ∷ ns) (q ∷ qs) small (and_agent is iss) agent few = (
@@ -47,6 +51,7 @@ agents_are_lines h (b ∷ bs) (n ∷ ns) (q ∷ qs) small (and_agent is iss) age
       (agents_are_lines h bs ns qs small.1 iss (agent + 1) (omega arith)),
 )
 
+-- no factor of a small product that is not 0 is large
 small_factors : (bs : List ℕ) (k : ℕ) → k ≤ 2 ^ 32 → 0 < product bs → product bs ≤ k → AreSmall bs
 small_factors [] k few some most = tt
 small_factors (b ∷ bs) k few some most =
@@ -64,6 +69,7 @@ actions_small m is = small_factors m.actions 256 (omega arith) is.sizes.some_act
 
 -- ---- policies
 
+-- the lines of the text of a joint policy are lines
 policy_are_lines : (m : Model) → IsModel m → (h : ℕ) (qs : List PolicyTree) → Allows horizon_form (pos h ∷ []) → IsPolicyOf m h qs → AreLines (policy_lines m.actions m.observations h qs)
 policy_are_lines m is h qs horizon policy =
     let agents = is.sizes.agents_limit in (

@@ -10,9 +10,11 @@ use Rattle.dp_spec.specs.PolicyText.{title_form, horizon_form, end_form, horizon
 
 -- ---- the forms of the lines
 
+-- the look, from 1 to 16
 abbrev pub look_form : List Item
 look_form = fixed (codes "look") ∷ plain 1 16 ∷ []
 
+-- the mode, as one of two words
 abbrev pub mode_form : Bool → List Item
 mode_form is_exact = fixed (codes "mode") ∷ fixed (if is_exact then codes "exact" else codes "outward") ∷ []
 
@@ -20,6 +22,7 @@ mode_form is_exact = fixed (codes "mode") ∷ fixed (if is_exact then codes "exa
 abbrev pub signed_form : List ℕ → List Item
 signed_form word = fixed word ∷ signed ∷ []
 
+-- the number of inner nodes
 abbrev pub inner_form : List Item
 inner_form = fixed (codes "inner") ∷ any_plain ∷ []
 
@@ -37,6 +40,7 @@ merge_form = fixed (codes "M") ∷ any_plain ∷ any_plain ∷ any_plain ∷ []
 
 -- ---- the lines
 
+-- the line of a word and a signed number
 abbrev pub signed_line : List ℕ → ℤ → Line
 signed_line word z = record { form = signed_form word; numbers = z ∷ [] }
 
@@ -53,13 +57,16 @@ head_lines c =
     ∷ record { form = inner_form; numbers = pos c.inner ∷ [] }
     ∷ []
 
+-- how many trees a list has
 abbrev pub child_count : BoundTrees → ℕ
 child_count no_bound_trees = 0
 child_count (more_bound_trees k ks) = child_count ks + 1
 
+-- the line of a branch
 abbrev pub branch_line : ℕ → ℕ → ℕ → Line
 branch_line agent class children = record { form = branch_form; numbers = pos agent ∷ pos class ∷ pos children ∷ [] }
 
+-- the line of a merge
 abbrev pub merge_line : ℕ → ℕ → ℕ → Line
 merge_line agent first second = record { form = merge_form; numbers = pos agent ∷ pos first ∷ pos second ∷ [] }
 
@@ -70,6 +77,7 @@ abbrev mutual
   node_lines (branch i c ks) = branch_line i c (child_count ks) ∷ children_lines ks
   node_lines (merge i a b k) = merge_line i a b ∷ node_lines k
 
+  -- the lines of the trees of a list, in order
   pub children_lines : BoundTrees → List Line
   children_lines no_bound_trees = []
   children_lines (more_bound_trees k ks) = node_lines k ++ children_lines ks
@@ -81,6 +89,7 @@ certificate_lines bs ns c =
     ++ fixed_line (fixed (codes "policy") ∷ [])
     ∷ (agent_lines 0 (policy_rows bs ns c.horizon c.policy) ++ fixed_line (fixed (codes "tree") ∷ []) ∷ (node_lines c.tree ++ fixed_line end_form ∷ []))
 
+-- the text of a certificate
 unfoldable pub certificate_text : List ℕ → List ℕ → Certificate → List ℕ
 certificate_text bs ns c = text_of_lines (certificate_lines bs ns c)
 

@@ -13,9 +13,11 @@ use Rattle.dp_spec.specs.TextLines.{Item, fixed, plain, Line, fixed_line, text_o
 abbrev pub title_form : List ℕ → List Item
 title_form kind = fixed (codes "decplan") ∷ fixed kind ∷ fixed (codes "1") ∷ []
 
+-- the horizon, at least 1
 abbrev pub horizon_form : List Item
 horizon_form = fixed (codes "horizon") ∷ plain 1 (2 ^ 32 - 1) ∷ []
 
+-- the line before the rows of an agent
 abbrev pub agent_form : ℕ → List Item
 agent_form agent = fixed (codes "agent") ∷ fixed (decimal agent) ∷ []
 
@@ -23,6 +25,7 @@ agent_form agent = fixed (codes "agent") ∷ fixed (decimal agent) ∷ []
 abbrev pub row_form : ℕ → ℕ → ℕ → List Item
 row_form b n t = replicate (n ^ t) (plain 0 (b - 1))
 
+-- the last line
 abbrev pub end_form : List Item
 end_form = fixed (codes "end") ∷ []
 
@@ -33,6 +36,7 @@ end_form = fixed (codes "end") ∷ []
 abbrev pub row_actions : ℕ → PolicyTree → ℕ → List ℕ
 row_actions n q t = map (λ x. root_action (tree_at n q t x)) (range_with_len 0 (n ^ t))
 
+-- the line of stage t
 abbrev pub row_line : ℕ → ℕ → PolicyTree → ℕ → Line
 row_line b n q t = record { form = row_form b n t; numbers = map pos (row_actions n q t) }
 
@@ -46,6 +50,7 @@ abbrev pub agent_lines : ℕ → List (List Line) → List Line
 agent_lines agent [] = []
 agent_lines agent (rows ∷ others) = fixed_line (agent_form agent) ∷ (rows ++ agent_lines (agent + 1) others)
 
+-- the line of a horizon
 abbrev pub horizon_line : ℕ → Line
 horizon_line horizon = record { form = horizon_form; numbers = pos horizon ∷ [] }
 
@@ -56,6 +61,7 @@ policy_lines bs ns horizon qs =
     ∷ horizon_line horizon
     ∷ (agent_lines 0 (policy_rows bs ns horizon qs) ++ fixed_line end_form ∷ [])
 
+-- the text of a joint policy
 unfoldable pub policy_text : List ℕ → List ℕ → ℕ → List PolicyTree → List ℕ
 policy_text bs ns horizon qs = text_of_lines (policy_lines bs ns horizon qs)
 
