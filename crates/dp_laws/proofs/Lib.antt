@@ -1,5 +1,6 @@
 pub mod AtScales
 pub mod Best
+pub mod CertificateTexts
 pub mod Checker
 pub mod ClassLists
 pub mod ExactLaws
@@ -9,13 +10,17 @@ pub mod Gain
 pub mod Graft
 pub mod Holds
 pub mod KeepsAllAgents
+pub mod Leaves
+pub mod LineTexts
 pub mod Look
 pub mod MergeSide
 pub mod Merging
+pub mod Modes
 pub mod OneStep
 pub mod OutwardLaws
 pub mod OwnHistories
 pub mod Pairs
+pub mod PolicyTexts
 pub mod Recursion
 pub mod RecursiveWorth
 pub mod Results
@@ -24,7 +29,5 @@ pub mod Sound
 pub mod StepSides
 pub mod Sums
 pub mod Trees
-pub mod LineTexts
-pub mod PolicyTexts
+pub mod ValidCertificates
 pub mod WholeTexts
-pub mod CertificateTexts

@@ -1,2 +1,3 @@
+pub mod CertificateLaws
 pub mod Following
 pub mod OneSpelling

@@ -1,0 +1,101 @@
+-- what a valid certificate claims is true
+use Rattle.std.proofs.Common.{◌≡◌, ℕ, zero, suc, ◌*◌, ◌^◌, ◌<◌, Bool, true, ℤ, pos, ◌*ℤ◌, ◌≤ℤ◌, length, sym, ap, ◌∙◌, subst, arith}
+use Rattle.std.proofs.lemmas.Int.{ints}
+use Rattle.std.proofs.lemmas.List.{length-map}
+use Rattle.std.proofs.Math.Nat.{pow-suc, pow-zero}
+use Rattle.dp_spec.specs.declared.span.Span.{Span}
+use Rattle.dp_laws.proofs.Checker.{checked_sound}
+use Rattle.dp_laws.proofs.Gain.{cancel}
+use Rattle.dp_laws.proofs.Leaves.{greatest_leaf-at_most, greatest_leaf_below}
+use Rattle.dp_laws.proofs.Modes.{arithmetic_sound, low_reads, mode_unit}
+use Rattle.dp_laws.proofs.Results.{exact_worth, worth_holds}
+use Rattle.dp_laws.proofs.Ring.{zmul_comm}
+use Rattle.dp_spec.specs.BoundTree.{LeavesAtMost}
+use Rattle.dp_spec.specs.Certificate.{Certificate, IsValid, arithmetic_for}
+use Rattle.dp_spec.specs.Claims.{BoundsEveryPolicy, ClaimsHold, IsOptimal}
+use Rattle.dp_spec.specs.Enclosure.{enclosure}
+use Rattle.dp_spec.specs.Arithmetic.{arithmetic}
+use Rattle.dp_spec.specs.Model.{IsModel, Model, step_scale, value_scale}
+use Rattle.dp_spec.specs.Qualities.{IsClosed}
+use Rattle.dp_spec.specs.Quantities.{forward_worth_in}
+use Rattle.dp_spec.specs.Steps.{root_agent, root_front}
+use Rattle.dp_spec.specs.Value.{policy_value}
+
+unit_of_valid : (m : Model) (c : Certificate) → IsValid m c → pos ((enclosure c.is_exact).unit (value_scale m c.horizon)) ≡ c.unit
+unit_of_valid m c v = ap (λ (n : ℕ). pos n) (sym (mode_unit m c.horizon c.is_exact v.mode)) ∙ sym v.unit
+
+-- what is at least each leaf bounds every joint policy
+bounds_every_policy : (m : Model) (c : Certificate) → IsModel m → IsValid m c → (u : ℤ) → LeavesAtMost u c.tree → BoundsEveryPolicy m c.horizon c.unit u
+bounds_every_policy m c is v u below =
+    subst (λ (z : ℤ). BoundsEveryPolicy m c.horizon z u) (unit_of_valid m c v)
+    (checked_sound (arithmetic_for m c) (enclosure c.is_exact) m is (arithmetic_sound m is c.is_exact) c.horizon c.look c.tree u v.tree below)
+
+-- no joint policy is worth more than the upper end
+upper_bounds : (m : Model) (c : Certificate) → IsModel m → IsValid m c → BoundsEveryPolicy m c.horizon c.unit c.upper
+upper_bounds m c is v = bounds_every_policy m c is v c.upper (subst (λ (u : ℤ). LeavesAtMost u c.tree) (sym v.upper) (greatest_leaf-at_most c.tree))
+
+-- the policy is worth at least the lower end
+lower_reached : (m : Model) (c : Certificate) → IsModel m → IsValid m c → (c.lower *ℤ pos (value_scale m c.horizon)) ≤ℤ (policy_value m c.horizon c.policy *ℤ c.unit)
+lower_reached m c is v =
+    let span = forward_worth_in (arithmetic_for m c) m c.horizon c.policy in
+    let low = low_reads c.is_exact (value_scale m c.horizon) _ span (worth_holds m (arithmetic_for m c) (enclosure c.is_exact) (arithmetic_sound m is c.is_exact) c.horizon c.policy) in
+    subst (λ (z : ℤ). (z *ℤ pos (value_scale m c.horizon)) ≤ℤ (policy_value m c.horizon c.policy *ℤ c.unit)) (sym v.lower)
+    (subst (λ (z : ℤ). (span.low *ℤ pos (value_scale m c.horizon)) ≤ℤ (policy_value m c.horizon c.policy *ℤ z)) (unit_of_valid m c v) low)
+
+pub claims_hold : (m : Model) (c : Certificate) → IsModel m → IsValid m c → ClaimsHold m c
+claims_hold m c is v =
+    let none_better = upper_bounds m c is v in
+    record { policy = v.policy; above_lower = lower_reached m c is v; below_upper = none_better c.policy v.policy; none_better = none_better }
+
+-- ---- in exact mode
+
+pub lower_is_value : (m : Model) (c : Certificate) → IsValid m c → c.is_exact ≡ true → c.lower ≡ policy_value m c.horizon c.policy
+lower_is_value m c v e =
+    v.lower
+    ∙ ap (λ (t : Bool). (forward_worth_in (arithmetic t m.scales) m c.horizon c.policy).low) e
+    ∙ ap (λ (s : Span). s.low) (exact_worth m c.horizon c.policy)
+
+product_positive : (a b : ℕ) → 0 < a → 0 < b → 0 < a * b
+product_positive zero b p q = absurd (omega arith)
+product_positive (suc a) zero p q = absurd (omega arith)
+product_positive (suc a) (suc b) p q = omega arith
+
+power_positive : (k h : ℕ) → 0 < k → 0 < k ^ h
+power_positive k zero p = rw pow-zero (omega arith)
+power_positive k (suc h) p = rw pow-suc (product_positive (k ^ h) k (power_positive k h p) p)
+
+pub value_scale_positive : (m : Model) (h : ℕ) → IsModel m → 0 < value_scale m h
+unfolding value_scale step_scale
+value_scale_positive m h is =
+    product_positive _ _ is.scales.start
+    (product_positive _ _ is.scales.reward (power_positive _ h (product_positive _ _ (product_positive _ _ is.scales.trans is.scales.obs) is.scales.discount)))
+
+over_scale : (n : ℕ) (x y : ℤ) → 0 < n → (x *ℤ pos n) ≤ℤ (y *ℤ pos n) → x ≤ℤ y
+over_scale n x y p h = cancel n x y p (rw (zmul_comm (pos n) x, zmul_comm (pos n) y) h)
+
+equal_of : (x y : ℤ) → x ≤ℤ y → y ≤ℤ x → x ≡ y
+equal_of x y p q = omega (arith, ints)
+
+exact_unit : (m : Model) (c : Certificate) → IsValid m c → c.is_exact ≡ true → c.unit ≡ pos (value_scale m c.horizon)
+exact_unit m c v e = sym (unit_of_valid m c v) ∙ ap (λ (t : Bool). pos ((enclosure t).unit (value_scale m c.horizon))) e
+
+-- in exact mode what bounds every policy is a number of the value scale
+exact_bound_of : (m : Model) (c : Certificate) → IsModel m → IsValid m c → c.is_exact ≡ true → (u : ℤ) → BoundsEveryPolicy m c.horizon c.unit u → BoundsEveryPolicy m c.horizon (pos (value_scale m c.horizon)) u
+exact_bound_of m c is v e u h = subst (λ (z : ℤ). BoundsEveryPolicy m c.horizon z u) (exact_unit m c v e) h
+
+pub closed_is_optimal : (m : Model) (c : Certificate) → IsModel m → IsValid m c → IsClosed m c → c.is_exact ≡ true → (c.lower ≡ c.upper) × IsOptimal m c.horizon c.policy
+unfolding root_front
+closed_is_optimal m c is v closed e =
+    let n = value_scale m c.horizon in
+    let some = value_scale_positive m c.horizon is in
+    let below = closed.exact_leaves e in
+    let agents : length m.observations ≡ length (root_front m).agents = is.sizes.alike ∙ sym (length-map m.actions (λ n. root_agent)) in
+    let top = greatest_leaf_below (arithmetic_for m c) m is c.horizon c.look c.lower c.tree (root_front m) _ agents v.tree below in
+    let upper_lower : c.upper ≤ℤ c.lower = subst (λ (u : ℤ). u ≤ℤ c.lower) (sym v.upper) top in
+    let value = lower_is_value m c v e in
+    let bound = exact_bound_of m c is v e c.upper (upper_bounds m c is v) c.policy v.policy in
+    let lower_upper : c.lower ≤ℤ c.upper = subst (λ (x : ℤ). x ≤ℤ c.upper) (sym value) (over_scale n _ _ some bound) in
+    let best = exact_bound_of m c is v e c.lower (bounds_every_policy m c is v c.lower below) in (
+      equal_of _ _ lower_upper upper_lower,
+      record { policy = v.policy; none_better = λ others policy. subst (λ (x : ℤ). policy_value m c.horizon others ≤ℤ x) value (over_scale n _ _ some (best others policy)) },
+    )
