@@ -1,7 +1,7 @@
-use Rattle.std.proofs.Common.{◌≡◌, ℕ, zero, suc, ◌+◌, ◌*◌, ◌/◌, ◌%◌, ◌^◌, ◌<◌, refl, ap, ◌∙◌, arith}
+use Rattle.std.proofs.Common.{◌≡◌, ℕ, zero, suc, ◌+◌, ◌*◌, ◌/◌, ◌%◌, ◌^◌, ◌<◌, refl, sym, ap, ◌∙◌, subst, arith}
 use Rattle.std.proofs.Math.Nat.{pow-suc, pow-zero}
 use Rattle.std.proofs.lemmas.Nat.{mod_below}
-use Rattle.dp_laws.proofs.Trees.{pos_of, part_below}
+use Rattle.dp_laws.proofs.Trees.{kid_fits, part_below, pos_of, root_in, row_below}
 use Rattle.dp_spec.specs.Keeping.{tree_at}
 use Rattle.dp_spec.specs.PolicyTree.{ArePolicyTrees, IsPolicyTree, PolicyTree, PolicyTrees, more_trees, no_trees, node, nth_tree, root_action, subtree}
 
@@ -41,3 +41,21 @@ tree_at-graft n q new (suc t) j k x y e h =
 make_fits : (b n r c : ℕ) (g : ℕ → PolicyTree) → ((o : ℕ) → o < c → IsPolicyTree b n r (g o)) → ArePolicyTrees b n r c (make c g)
 make_fits b n r zero g h = tt
 make_fits b n r (suc c) g h = (h 0 (omega arith), make_fits b n r c (λ o. g (suc o)) (λ o p. h (suc o) (omega arith)))
+
+shifted : (x n k o y : ℕ) → (x * n + o) * n ^ k + y ≡ x * n ^ suc k + (o * n ^ k + y)
+shifted x n k o y = rw pow-suc (omega arith)
+
+-- the new tree is one of as many steps, where steps are left below the graft
+pub graft_fits : (b n r k j x : ℕ) (q : PolicyTree) (new : ℕ → PolicyTree) → k + suc r ≡ j → IsPolicyTree b n j q → ((y : ℕ) → y < n ^ k → IsPolicyTree b n (suc r) (new (x * n ^ k + y))) → IsPolicyTree b n j (graft n k x q new)
+graft_fits b n r zero j x q new e fits news =
+    let e' : suc r ≡ j = omega arith in
+    let one = pow-zero n in
+    let at : x * n ^ 0 + 0 ≡ x = omega (arith, ap (λ (z : ℕ). x * z) one) in
+    subst (λ (i : ℕ). IsPolicyTree b n i (new x)) e' (subst (λ (z : ℕ). IsPolicyTree b n (suc r) (new z)) at (news 0 (omega arith)))
+graft_fits b n r (suc k) zero x q new e fits news = absurd (omega arith)
+graft_fits b n r (suc k) (suc zero) x q new e fits news = absurd (omega arith)
+graft_fits b n r (suc k) (suc (suc j)) x q new e fits news =
+    (root_in b n (suc j) q fits,
+     make_fits b n (suc j) n _ (λ o p.
+     graft_fits b n r k (suc j) (x * n + o) (subtree q o) new (omega arith) (kid_fits b n (suc j) q o p fits)
+     (λ y u. subst (λ (z : ℕ). IsPolicyTree b n (suc r) (new z)) (sym (shifted x n k o y)) (news (o * n ^ k + y) (rw pow-suc (let lt = row_below o n (n ^ k) y p u in omega arith))))))

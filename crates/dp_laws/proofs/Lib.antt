@@ -14,6 +14,7 @@ pub mod Leaves
 pub mod LineTexts
 pub mod Look
 pub mod MergeSide
+pub mod MergedKept
 pub mod Merging
 pub mod Modes
 pub mod OneStep

@@ -1,6 +1,6 @@
-use Rattle.std.proofs.Common.{◌≡◌, ◌≢◌, ◌⊎◌, inl, inr, ℕ, zero, suc, ◌-◌, ◌<◌, ◌≤◌, true, false, cond, eqb, ltb, List, [], ◌∷◌, map, length, get_or, Option, Some, None, refl, sym, ap, ◌∙◌, subst, arith}
+use Rattle.std.proofs.Common.{◌≡◌, ◌≢◌, ◌⊎◌, inl, inr, ℕ, zero, suc, ◌+◌, ◌*◌, ◌-◌, ◌^◌, ◌<◌, ◌≤◌, true, false, cond, eqb, ltb, List, [], ◌∷◌, map, length, get_or, Option, Some, None, refl, sym, ap, ◌∙◌, subst, arith}
 use Rattle.std.proofs.lemmas.Bool.Decides.{nat_tests}
-use Rattle.dp_laws.proofs.Graft.{graft, tree_at-graft}
+use Rattle.dp_laws.proofs.Graft.{graft, graft_fits, tree_at-graft}
 use Rattle.dp_laws.proofs.Sums.{dec_eq}
 use Rattle.dp_spec.specs.Front.{AgentFront}
 use Rattle.dp_laws.specs.Following.{FollowsAgentFront}
@@ -62,6 +62,10 @@ joined_all a b y us k P py pu c h =
       | false ↦ elim (ltb c b) as (λ t. P (cond t (us c) (us (suc c)))) [ true ↦ pu c (omega arith) | false ↦ pu (suc c) (omega arith) ]
     ]
 
+replaced_all : (a b : ℕ) (y : PolicyTree) (us : ℕ → PolicyTree) (P : PolicyTree → Type 0) (c : ℕ) → P y → P (us c) → P (replaced a b y us c)
+replaced_all a b y us P c py pu =
+    elim (eqb a c) as (λ t. P (cond t y (cond (eqb b c) y (us c)))) [ true ↦ py | false ↦ elim (eqb b c) as (λ t. P (cond t y (us c))) [ true ↦ py | false ↦ pu ] ]
+
 joined_low : (a b : ℕ) (y : PolicyTree) (us : ℕ → PolicyTree) (c : ℕ) → a ≢ c → c < b → joined a b y us c ≡ us c
 joined_low a b y us c ne h = grind (arith, nat_tests)
 
@@ -101,3 +105,16 @@ keeps_side bs n f r d q us k a b h g na y is =
       of_stage = k.of_stage;
       in_range = λ x u. rw (get_or-renumbered a b d.class_of x h) (renumbered_below a b _ _ h (omega arith) (let c_in = k.in_range x u in omega arith));
     }
+
+-- the tree of an agent whose classes were merged is one of as many steps
+pub new_tree_fits : (bs n f r h : ℕ) (d : AgentFront) (q : PolicyTree) (us : ℕ → PolicyTree) → FollowsAgentFront bs n f r d q us → (a b : ℕ) → a < b → b < length d.chosen → (y : PolicyTree) → (y ≡ us a) ⊎ (y ≡ us b) →
+    f + r ≡ h → 0 < r → IsPolicyTree bs n h q → IsPolicyTree bs n h (new_tree n f d a b y q us)
+unfolding new_tree
+new_tree_fits bs n f zero h d q us k a b lt b_in y is e some fits = absurd (omega arith)
+new_tree_fits bs n f (suc r) h d q us k a b lt b_in y is e some fits =
+    graft_fits bs n r f h 0 q _ e fits (λ x u.
+    let c = get_or d.class_of x 0 in
+    let at : 0 * n ^ f + x ≡ x = omega arith in
+    subst (λ (z : ℕ). IsPolicyTree bs n (suc r) (joined a b y us (renumbered a b (get_or d.class_of z 0)))) (sym at)
+    (subst (IsPolicyTree bs n (suc r)) (sym (joined-renumbered a b y us c lt))
+    (replaced_all a b y us (IsPolicyTree bs n (suc r)) c (one_of (IsPolicyTree bs n (suc r)) y (us a) (us b) is (k.are_trees a (omega arith)) (k.are_trees b b_in)) (k.are_trees c (k.in_range x u)))))

@@ -7,7 +7,7 @@ use Rattle.dp_laws.proofs.OwnHistories.{Within, Below, joint_below, parts-joint,
 use Rattle.dp_laws.proofs.KeepsAllAgents.{trees_of, rests_are, at_stage, class_in}
 use Rattle.dp_laws.proofs.Sound.{int_history_sum_group, eq_of, does_fixed}
 use Rattle.dp_laws.proofs.Gain.{better_tree}
-use Rattle.dp_laws.proofs.MergeSide.{joined, replaced, joined-renumbered, new_tree, keeps_side, get_or-renumbered}
+use Rattle.dp_laws.proofs.MergeSide.{joined, replaced, joined-renumbered, new_tree, new_tree_fits, keeps_side, get_or-renumbered}
 use Rattle.dp_spec.specs.Front.{AgentFront, Front, class_counts, fixed_actions, fixed_joint_action, own_classes, own_histories}
 use Rattle.dp_spec.specs.JointHistory.{IsJointHistory, earned_reward, history_weight, int_history_sum, trees_after_history}
 use Rattle.dp_spec.specs.JointNumbers.{joint_number, parts_of, product}
@@ -15,7 +15,8 @@ use Rattle.dp_laws.specs.Following.{FollowsAgentFronts}
 use Rattle.dp_laws.specs.Following.FollowsAgentFronts.{and_agent, no_agents}
 use Rattle.dp_spec.specs.Merge.{AreEquivalent, class_of_agent, class_of_others, class_total, inserted, merged_agents, merged_front, place_weight, without}
 use Rattle.dp_spec.specs.Model.{Model, joint_observations}
-use Rattle.dp_spec.specs.PolicyTree.{PolicyTree, node, no_trees}
+use Rattle.dp_spec.specs.PolicyTree.IsJointPolicy.{and_agent as and_policy}
+use Rattle.dp_spec.specs.PolicyTree.{IsJointPolicy, IsPolicyOf, IsPolicyTree, PolicyTree, node, no_trees}
 use Rattle.dp_spec.specs.Sums.{int_sum}
 use Rattle.dp_spec.specs.Value.{backward_value, policy_value}
 
@@ -34,12 +35,17 @@ join_at i a b y [] = []
 join_at zero a b y (us ∷ uss) = joined a b y us ∷ uss
 join_at (suc i) a b y (us ∷ uss) = us ∷ join_at i a b y uss
 
+first_fits : {h b n : ℕ} {bs ns : List ℕ} {q : PolicyTree} {qs : List PolicyTree} → IsJointPolicy h (b ∷ bs) (n ∷ ns) (q ∷ qs) → IsPolicyTree b n h q × IsJointPolicy h bs ns qs
+first_fits (and_policy fits more) = (fits, more)
+
 keeps_all : {f r : ℕ} {bs ns : List ℕ} {ds : List AgentFront} {qs : List PolicyTree} {uss : List (ℕ → PolicyTree)} → FollowsAgentFronts f r bs ns ds qs uss → (i a b : ℕ) → a < b → CanJoin i a b ds → (y : PolicyTree) → (y ≡ tree_for i uss a) ⊎ (y ≡ tree_for i uss b) →
-    (qs' : List PolicyTree) × FollowsAgentFronts f r bs ns (merged_agents i a b ds) qs' (join_at i a b y uss)
-keeps_all no_agents i a b h can y is = absurd can
-keeps_all {f} {r} (and_agent {b = bb} {n = n} {d = d} {q = q} {qs = qs} {us = us} k ks) zero a b h can y is =
-    (new_tree n f d a b y q us ∷ qs, and_agent (keeps_side bb n f r d q us k a b h can.0 can.1 y is) ks)
-keeps_all (and_agent {q = q} k ks) (suc i) a b h can y is = let more = keeps_all ks i a b h can y is in (q ∷ more.0, and_agent k more.1)
+    (qs' : List PolicyTree) × FollowsAgentFronts f r bs ns (merged_agents i a b ds) qs' (join_at i a b y uss) × ((h : ℕ) → f + r ≡ h → 0 < r → IsJointPolicy h bs ns qs → IsJointPolicy h bs ns qs')
+keeps_all no_agents i a b lt can y is = absurd can
+keeps_all {f} {r} (and_agent {b = bb} {n = n} {d = d} {q = q} {qs = qs} {us = us} k ks) zero a b lt can y is =
+    (new_tree n f d a b y q us ∷ qs, and_agent (keeps_side bb n f r d q us k a b lt can.0 can.1 y is) ks,
+     λ h e some fits. let both = first_fits fits in and_policy (new_tree_fits bb n f r h d q us k a b lt can.0 y is e some both.0) both.1)
+keeps_all (and_agent {q = q} k ks) (suc i) a b lt can y is =
+    let more = keeps_all ks i a b lt can y is in (q ∷ more.0, and_agent k more.1, λ h e some fits. let both = first_fits fits in and_policy both.0 (more.2 h e some both.1))
 
 fixed_same : (i a b : ℕ) (ds : List AgentFront) (t : ℕ) (xs : List ℕ) → fixed_actions (merged_agents i a b ds) t xs ≡ fixed_actions ds t xs
 fixed_same i a b [] t xs = refl
@@ -166,6 +172,7 @@ add_le a b c h = omega (arith, ints)
 pub merging : (m : Model) (F : Front) (r : ℕ) (qs : List PolicyTree) (uss : List (ℕ → PolicyTree)) → FollowsAgentFronts F.stage r m.actions m.observations F.agents qs uss →
     (i a b : ℕ) → a < b → CanJoin i a b F.agents → AreEquivalent m F i a b →
     (qs' : List PolicyTree) × (uss' : List (ℕ → PolicyTree)) × FollowsAgentFronts F.stage r m.actions m.observations (merged_agents i a b F.agents) qs' uss' × (policy_value m (F.stage + r) qs ≤ℤ policy_value m (F.stage + r) qs')
+    × ((h : ℕ) → F.stage + r ≡ h → 0 < r → IsPolicyOf m h qs → IsPolicyOf m h qs')
 unfolding place_weight class_total
 merging m F r qs uss ks i a b lt can eq =
     let O = joint_observations m in
@@ -181,4 +188,4 @@ merging m F r qs uss ks i a b lt can eq =
     let more = int_sum_two k a b (λ c. earns m F r i uss c (us c)) (λ c. earns m F r i uss c (replaced a b y us c)) (omega arith) b_lt (omega arith)
     (λ c p na nb. ap (earns m F r i uss c) (replaced_other a b y us c na nb))
     (rw (← replaced_first a b y us, ← replaced_second a b y us) better.2) in
-    (new.0, join_at i a b y uss, new.1, rw (old_value, new_value) (add_le _ _ _ more))
+    (new.0, join_at i a b y uss, new.1, rw (old_value, new_value) (add_le _ _ _ more), new.2)
