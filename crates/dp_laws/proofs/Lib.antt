@@ -9,6 +9,7 @@ pub mod Forward
 pub mod Gain
 pub mod Graft
 pub mod Holds
+pub mod Keeping
 pub mod KeepsAllAgents
 pub mod Leaves
 pub mod LineTexts
@@ -20,7 +21,6 @@ pub mod Modes
 pub mod OneStep
 pub mod OutwardLaws
 pub mod OwnHistories
-pub mod Pairs
 pub mod PolicyTexts
 pub mod Recursion
 pub mod RecursiveWorth
