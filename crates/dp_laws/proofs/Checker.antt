@@ -54,7 +54,7 @@ action_in no_agents i c free = absurd free
 action_in (and_agent k ks) zero c free = root_in _ _ _ _ (k.are_trees c free.0)
 action_in (and_agent k ks) (suc i) c free = action_in ks i c free
 
-can_join : (i a b : ℕ) (ds : List AgentFront) → IsUnassigned i a ds → IsUnassigned i b ds → CanJoin i a b ds
+pub can_join : (i a b : ℕ) (ds : List AgentFront) → IsUnassigned i a ds → IsUnassigned i b ds → CanJoin i a b ds
 can_join i a b [] p q = p
 can_join zero a b (d ∷ ds) p q = (q.0, p.1, q.1)
 can_join (suc i) a b (d ∷ ds) p q = can_join i a b ds p q

@@ -54,8 +54,9 @@ graft_fits b n r zero j x q new e fits news =
     subst (λ (i : ℕ). IsPolicyTree b n i (new x)) e' (subst (λ (z : ℕ). IsPolicyTree b n (suc r) (new z)) at (news 0 (omega arith)))
 graft_fits b n r (suc k) zero x q new e fits news = absurd (omega arith)
 graft_fits b n r (suc k) (suc zero) x q new e fits news = absurd (omega arith)
-graft_fits b n r (suc k) (suc (suc j)) x q new e fits news =
-    (root_in b n (suc j) q fits,
-     make_fits b n (suc j) n _ (λ o p.
-     graft_fits b n r k (suc j) (x * n + o) (subtree q o) new (omega arith) (kid_fits b n (suc j) q o p fits)
-     (λ y u. subst (λ (z : ℕ). IsPolicyTree b n (suc r) (new z)) (sym (shifted x n k o y)) (news (o * n ^ k + y) (rw pow-suc (let lt = row_below o n (n ^ k) y p u in omega arith))))))
+graft_fits b n r (suc k) (suc (suc j)) x q new e fits news = (
+  root_in b n (suc j) q fits,
+  make_fits b n (suc j) n _ (λ o p.
+      graft_fits b n r k (suc j) (x * n + o) (subtree q o) new (omega arith) (kid_fits b n (suc j) q o p fits)
+      (λ y u. subst (λ (z : ℕ). IsPolicyTree b n (suc r) (new z)) (sym (shifted x n k o y)) (news (o * n ^ k + y) (rw pow-suc (let lt = row_below o n (n ^ k) y p u in omega arith))))),
+)

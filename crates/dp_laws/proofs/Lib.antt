@@ -14,6 +14,7 @@ pub mod KeepsAllAgents
 pub mod Leaves
 pub mod LineTexts
 pub mod Look
+pub mod LosslessMerging
 pub mod MergeSide
 pub mod MergedKept
 pub mod Merging

@@ -1,10 +1,10 @@
 -- whoever keeps a merged front keeps the old one
-use Rattle.std.proofs.Common.{◌≡◌, ◌≢◌, ◌⊎◌, inl, inr, ℕ, zero, suc, ◌-◌, ◌<◌, ◌≤◌, List, [], ◌∷◌, get_or, Option, Some, None, sym, ap, ◌∙◌, subst, arith}
+use Rattle.std.proofs.Common.{◌≡◌, ◌≢◌, ◌⊎◌, inl, inr, ℕ, zero, suc, ◌-◌, ◌<◌, List, [], ◌∷◌, get_or, Option, Some, None, sym, ap, ◌∙◌, subst, arith}
 use Rattle.std.proofs.lemmas.Bool.Decides.{nat_tests}
 use Rattle.dp_laws.proofs.MergeSide.{get_or-renumbered, get_or-without_above, get_or-without_below}
 use Rattle.dp_spec.specs.Front.{AgentFront}
 use Rattle.dp_spec.specs.Keeping.{KeepAgentFronts, KeepsAgentFront}
-use Rattle.dp_spec.specs.Keeping.KeepAgentFronts.{and_agent, no_agents}
+use Rattle.dp_spec.specs.Keeping.KeepAgentFronts.{and_agent}
 use Rattle.dp_spec.specs.Merge.{merged_agent, merged_agents, renumbered, without}
 use Rattle.dp_spec.specs.PolicyTree.{PolicyTree}
 use Rattle.dp_spec.specs.Steps.{IsUnassigned}

@@ -41,9 +41,11 @@ first_fits (and_policy fits more) = (fits, more)
 keeps_all : {f r : ℕ} {bs ns : List ℕ} {ds : List AgentFront} {qs : List PolicyTree} {uss : List (ℕ → PolicyTree)} → FollowsAgentFronts f r bs ns ds qs uss → (i a b : ℕ) → a < b → CanJoin i a b ds → (y : PolicyTree) → (y ≡ tree_for i uss a) ⊎ (y ≡ tree_for i uss b) →
     (qs' : List PolicyTree) × FollowsAgentFronts f r bs ns (merged_agents i a b ds) qs' (join_at i a b y uss) × ((h : ℕ) → f + r ≡ h → 0 < r → IsJointPolicy h bs ns qs → IsJointPolicy h bs ns qs')
 keeps_all no_agents i a b lt can y is = absurd can
-keeps_all {f} {r} (and_agent {b = bb} {n = n} {d = d} {q = q} {qs = qs} {us = us} k ks) zero a b lt can y is =
-    (new_tree n f d a b y q us ∷ qs, and_agent (keeps_side bb n f r d q us k a b lt can.0 can.1 y is) ks,
-     λ h e some fits. let both = first_fits fits in and_policy (new_tree_fits bb n f r h d q us k a b lt can.0 y is e some both.0) both.1)
+keeps_all {f} {r} (and_agent {b = bb} {n = n} {d = d} {q = q} {qs = qs} {us = us} k ks) zero a b lt can y is = (
+  new_tree n f d a b y q us ∷ qs,
+  and_agent (keeps_side bb n f r d q us k a b lt can.0 can.1 y is) ks,
+  λ h e some fits. let both = first_fits fits in and_policy (new_tree_fits bb n f r h d q us k a b lt can.0 y is e some both.0) both.1,
+)
 keeps_all (and_agent {q = q} k ks) (suc i) a b lt can y is =
     let more = keeps_all ks i a b lt can y is in (q ∷ more.0, and_agent k more.1, λ h e some fits. let both = first_fits fits in and_policy both.0 (more.2 h e some both.1))
 

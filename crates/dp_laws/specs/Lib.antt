@@ -1,3 +1,4 @@
 pub mod CertificateLaws
 pub mod Following
+pub mod MergingLaws
 pub mod OneSpelling

@@ -1,0 +1,14 @@
+ghost use Rattle.dp_laws.specs.MergingLaws.{MergingLosesNothing, KeepingTheMergedKeepsTheFront};
+
+/// Where two equivalent classes without an action are merged, each joint policy that keeps the
+/// front has one that keeps the merged front and is worth at least as much.
+#[tactic(auto, using(crate::proofs::LosslessMerging::merging_loses_nothing))]
+pub fn merging_loses_nothing()
+    ensures { MergingLosesNothing }
+{}
+
+/// A joint policy that keeps a merged front keeps the front.
+#[tactic(auto, using(crate::proofs::LosslessMerging::merged_keeps_front))]
+pub fn keeping_the_merged_keeps_the_front()
+    ensures { KeepingTheMergedKeepsTheFront }
+{}
