@@ -1,7 +1,7 @@
 use Rattle.std.proofs.Common.{◌≡◌, ◌⊎◌, inl, inr, ℕ, zero, suc, ◌+◌, ◌-◌, ◌/◌, ◌%◌, ◌^◌, ◌<◌, ◌≤◌, Bool, true, false, cond, ◌&&◌, ℤ, pos, ◌+ℤ◌, ◌*ℤ◌, ◌≤ℤ◌, List, [], ◌∷◌, map, get_or, Some, None, refl, sym, ◌∙◌, subst, arith}
 use Rattle.std.specs.Int.{int_min}
 use Rattle.std.proofs.lemmas.Int.{ints}
-use Rattle.dp_laws.proofs.Holds.{bound_holds}
+use Rattle.dp_laws.proofs.EnclosedQuantities.{bound_enclosed}
 use Rattle.dp_laws.proofs.ExactLaws.{exact_sound}
 use Rattle.dp_laws.proofs.OutwardLaws.{Over, mul_le_right, smaller_over, outward_sound}
 use Rattle.std.proofs.Math.Nat.{pow-zero}
@@ -82,7 +82,7 @@ under_bound A R m is ok h look F qs uss le ks =
     subst (λ (n : ℕ). (policy_value m n qs *ℤ pos (R.unit (value_scale m n))) ≤ℤ (bound_in A m (h - F.stage) F look *ℤ pos (value_scale m n))) e
     (zle_trans _ _ _
     (mul_le_right (R.unit (value_scale m (F.stage + (h - F.stage)))) _ _ (within m is look F (h - F.stage) qs uss ks))
-    (ok.reads _ _ _ (bound_holds m A R ok is (h - F.stage) F look)))
+    (ok.reads _ _ _ (bound_enclosed m A R ok is (h - F.stage) F look)))
 
 next_if : (m : Model) (h : ℕ) (G : Front) (qs : List PolicyTree) (uss : List (ℕ → PolicyTree)) → G.stage < h → FollowsAgentFronts G.stage (h - G.stage) m.actions m.observations G.agents qs uss → (t : Bool) → is_complete G.agents ≡ t →
     (uss' : List (ℕ → PolicyTree)) × ((advanced_if m G t).stage ≤ h) × FollowsAgentFronts (advanced_if m G t).stage (h - (advanced_if m G t).stage) m.actions m.observations (advanced_if m G t).agents qs uss'

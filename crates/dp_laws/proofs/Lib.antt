@@ -1,14 +1,13 @@
-pub mod AtScales
 pub mod Best
 pub mod CertificateTexts
 pub mod Checker
 pub mod ClassLists
+pub mod EnclosedQuantities
 pub mod ExactLaws
 pub mod Floors
 pub mod Forward
 pub mod Gain
 pub mod Graft
-pub mod Holds
 pub mod Keeping
 pub mod KeepsAllAgents
 pub mod Leaves
@@ -23,9 +22,9 @@ pub mod OneStep
 pub mod OutwardLaws
 pub mod OwnHistories
 pub mod PolicyTexts
+pub mod QuantityLaws
 pub mod Recursion
 pub mod RecursiveWorth
-pub mod Results
 pub mod Ring
 pub mod Sound
 pub mod StepSides

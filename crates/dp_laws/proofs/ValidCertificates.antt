@@ -1,20 +1,21 @@
 -- what a valid certificate claims is true
-use Rattle.std.proofs.Common.{◌≡◌, ℕ, zero, suc, ◌*◌, ◌^◌, ◌<◌, Bool, true, ℤ, pos, ◌*ℤ◌, ◌≤ℤ◌, length, sym, ap, ◌∙◌, subst, arith}
+use Rattle.std.proofs.Common.{◌≡◌, ℕ, zero, suc, ◌*◌, ◌<◌, Bool, true, ℤ, pos, ◌*ℤ◌, ◌≤ℤ◌, length, sym, ap, ◌∙◌, subst, arith}
 use Rattle.std.proofs.lemmas.Int.{ints}
 use Rattle.std.proofs.lemmas.List.{length-map}
-use Rattle.std.proofs.Math.Nat.{pow-suc, pow-zero}
+use Rattle.std.proofs.Math.Nat.{one-le-pow}
 use Rattle.dp_spec.specs.declared.span.Span.{Span}
 use Rattle.dp_laws.proofs.Checker.{checked_sound}
+use Rattle.dp_laws.proofs.ExactLaws.{exact_sound}
 use Rattle.dp_laws.proofs.Gain.{cancel}
 use Rattle.dp_laws.proofs.Leaves.{greatest_leaf-at_most, greatest_leaf_below}
 use Rattle.dp_laws.proofs.Modes.{arithmetic_sound, low_reads, mode_unit}
-use Rattle.dp_laws.proofs.Results.{exact_worth, worth_holds}
+use Rattle.dp_laws.proofs.QuantityLaws.{worth_enclosed}
 use Rattle.dp_laws.proofs.Ring.{zmul_comm}
 use Rattle.dp_spec.specs.BoundTree.{LeavesAtMost}
 use Rattle.dp_spec.specs.Certificate.{Certificate, IsValid, arithmetic_for}
 use Rattle.dp_spec.specs.Claims.{BoundsEveryPolicy, ClaimsHold, IsOptimal}
-use Rattle.dp_spec.specs.Enclosure.{enclosure}
-use Rattle.dp_spec.specs.Arithmetic.{arithmetic}
+use Rattle.dp_spec.specs.Enclosure.{enclosure, equality}
+use Rattle.dp_spec.specs.Arithmetic.{arithmetic, exact}
 use Rattle.dp_spec.specs.Model.{IsModel, Model, step_scale, value_scale}
 use Rattle.dp_spec.specs.Qualities.{IsClosed}
 use Rattle.dp_spec.specs.Quantities.{forward_worth_in}
@@ -38,7 +39,7 @@ upper_bounds m c is v = bounds_every_policy m c is v c.upper (subst (λ (u : ℤ
 lower_reached : (m : Model) (c : Certificate) → IsModel m → IsValid m c → (c.lower *ℤ pos (value_scale m c.horizon)) ≤ℤ (policy_value m c.horizon c.policy *ℤ c.unit)
 lower_reached m c is v =
     let span = forward_worth_in (arithmetic_for m c) m c.horizon c.policy in
-    let low = low_reads c.is_exact (value_scale m c.horizon) _ span (worth_holds m (arithmetic_for m c) (enclosure c.is_exact) (arithmetic_sound m is c.is_exact) c.horizon c.policy) in
+    let low = low_reads c.is_exact (value_scale m c.horizon) _ span (worth_enclosed m (arithmetic_for m c) (enclosure c.is_exact) (arithmetic_sound m is c.is_exact) c.horizon c.policy) in
     subst (λ (z : ℤ). (z *ℤ pos (value_scale m c.horizon)) ≤ℤ (policy_value m c.horizon c.policy *ℤ c.unit)) (sym v.lower)
     (subst (λ (z : ℤ). (span.low *ℤ pos (value_scale m c.horizon)) ≤ℤ (policy_value m c.horizon c.policy *ℤ z)) (unit_of_valid m c v) low)
 
@@ -53,22 +54,18 @@ pub lower_is_value : (m : Model) (c : Certificate) → IsValid m c → c.is_exac
 lower_is_value m c v e =
     v.lower
     ∙ ap (λ (t : Bool). (forward_worth_in (arithmetic t m.scales) m c.horizon c.policy).low) e
-    ∙ ap (λ (s : Span). s.low) (exact_worth m c.horizon c.policy)
+    ∙ ap (λ (s : Span). s.low) (worth_enclosed m (exact m.scales) equality (exact_sound m) c.horizon c.policy)
 
 product_positive : (a b : ℕ) → 0 < a → 0 < b → 0 < a * b
 product_positive zero b p q = absurd (omega arith)
 product_positive (suc a) zero p q = absurd (omega arith)
 product_positive (suc a) (suc b) p q = omega arith
 
-power_positive : (k h : ℕ) → 0 < k → 0 < k ^ h
-power_positive k zero p = rw pow-zero (omega arith)
-power_positive k (suc h) p = rw pow-suc (product_positive (k ^ h) k (power_positive k h p) p)
-
 pub value_scale_positive : (m : Model) (h : ℕ) → IsModel m → 0 < value_scale m h
 unfolding value_scale step_scale
 value_scale_positive m h is =
     product_positive _ _ is.scales.start
-    (product_positive _ _ is.scales.reward (power_positive _ h (product_positive _ _ (product_positive _ _ is.scales.trans is.scales.obs) is.scales.discount)))
+    (product_positive _ _ is.scales.reward (one-le-pow h _ (product_positive _ _ (product_positive _ _ is.scales.trans is.scales.obs) is.scales.discount)))
 
 over_scale : (n : ℕ) (x y : ℤ) → 0 < n → (x *ℤ pos n) ≤ℤ (y *ℤ pos n) → x ≤ℤ y
 over_scale n x y p h = cancel n x y p (rw (zmul_comm (pos n) x, zmul_comm (pos n) y) h)

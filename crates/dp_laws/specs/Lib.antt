@@ -1,3 +1,4 @@
+pub mod ArithmeticLaws
 pub mod CertificateLaws
 pub mod Following
 pub mod MergingLaws
