@@ -10,7 +10,7 @@ use Rattle.dp_laws.proofs.Sums.{int_sum_weigh}
 use Rattle.dp_laws.proofs.Forward.{int_history_sum_ext, forward}
 use Rattle.dp_laws.proofs.Trees.{root_in}
 use Rattle.dp_laws.proofs.Sound.{sound, does_fixed}
-use Rattle.dp_laws.proofs.Gain.{int_history_sum_zero}
+use Rattle.dp_laws.proofs.HistorySums.{int_history_sum_zero}
 use Rattle.dp_laws.proofs.Merging.{CanJoin, tree_for, merging}
 use Rattle.dp_laws.proofs.StepSides.{chosen_side, advanced_side}
 use Rattle.dp_spec.specs.Arithmetic.{Arithmetic, arithmetic, exact, outward}

@@ -1,7 +1,7 @@
 -- the greatest leaf of a bound tree
 use Rattle.std.proofs.Common.{◌≡◌, ℕ, zero, suc, ◌*◌, ◌<◌, ◌≤◌, Bool, true, false, ℤ, ◌≤ℤ◌, List, [], ◌∷◌, length, get_or, refl, sym, ap, ◌∙◌, arith}
 use Rattle.std.specs.Int.{int_max}
-use Rattle.std.proofs.lemmas.Int.{ints, clamps}
+use Rattle.dp_laws.proofs.Order.{le_max_left, le_max_right, max_le}
 use Rattle.dp_laws.proofs.Ring.{zle_trans, zle_of}
 use Rattle.dp_spec.specs.Arithmetic.{Arithmetic}
 use Rattle.dp_spec.specs.BoundTree.{AllLeavesAtMost, BoundTree, BoundTrees, LeavesAtMost, branch, greatest_leaf, greatest_leaf_of, leaf, merge, more_bound_trees, no_bound_trees}
@@ -11,15 +11,6 @@ use Rattle.dp_spec.specs.JointNumbers.{product}
 use Rattle.dp_spec.specs.Merge.{merged_agents, merged_front}
 use Rattle.dp_spec.specs.Model.{IsModel, Model, joint_actions}
 use Rattle.dp_spec.specs.Steps.{IsUnassigned, advanced_agents, advanced_if, front_after_choice, is_complete, with_choice}
-
-max_left : (a b : ℤ) → a ≤ℤ int_max a b
-max_left a b = omega (arith, ints, clamps)
-
-max_right : (a b : ℤ) → b ≤ℤ int_max a b
-max_right a b = omega (arith, ints, clamps)
-
-max_at_most : (a b x : ℤ) → a ≤ℤ x → b ≤ℤ x → int_max a b ≤ℤ x
-max_at_most a b x p q = omega (arith, ints, clamps)
 
 mutual
   -- what is at least each leaf may grow
@@ -45,8 +36,8 @@ mutual
   greatest_leaf_of-at_most (more_bound_trees T (more_bound_trees T' Ts)) =
       let here = greatest_leaf T in
       let rest = greatest_leaf_of (more_bound_trees T' Ts) in (
-        leaves_below here (int_max here rest) T (max_left here rest) (greatest_leaf-at_most T),
-        all_leaves_below rest (int_max here rest) (more_bound_trees T' Ts) (max_right here rest) (greatest_leaf_of-at_most (more_bound_trees T' Ts)),
+        leaves_below here (int_max here rest) T (le_max_left here rest) (greatest_leaf-at_most T),
+        all_leaves_below rest (int_max here rest) (more_bound_trees T' Ts) (le_max_right here rest) (greatest_leaf_of-at_most (more_bound_trees T' Ts)),
       )
 
 -- ---- a tree that fits a front has a leaf below each branch
@@ -118,6 +109,6 @@ module _ (A : Arithmetic) (m : Model) (ok : IsModel m) (h look : ℕ) (u : ℤ) 
     greatest_leaf_of_below no_bound_trees F i c a least e p fits below = absurd (omega arith)
     greatest_leaf_of_below (more_bound_trees T no_bound_trees) F i c a least e p fits below = greatest_leaf_below T (front_after_choice m F i c a) _ (e ∙ sym (length-front_after_choice m F i c a e)) fits.0 below.0
     greatest_leaf_of_below (more_bound_trees T (more_bound_trees T' Ts)) F i c a least e p fits below =
-        max_at_most _ _ u
+        max_le _ _ u
         (greatest_leaf_below T (front_after_choice m F i c a) _ (e ∙ sym (length-front_after_choice m F i c a e)) fits.0 below.0)
         (greatest_leaf_of_below (more_bound_trees T' Ts) F i c (suc a) least e (actions_left Ts F i c (suc (suc a)) least fits.1.1) fits.1 below.1)

@@ -2,12 +2,13 @@ pub mod Best
 pub mod CertificateTexts
 pub mod Checker
 pub mod ClassLists
+pub mod ClassValue
 pub mod EnclosedQuantities
 pub mod ExactLaws
 pub mod Floors
 pub mod Forward
-pub mod Gain
 pub mod Graft
+pub mod HistorySums
 pub mod Keeping
 pub mod KeepsAllAgents
 pub mod Leaves
@@ -19,6 +20,7 @@ pub mod MergedKept
 pub mod Merging
 pub mod Modes
 pub mod OneStep
+pub mod Order
 pub mod OutwardLaws
 pub mod OwnHistories
 pub mod PolicyTexts

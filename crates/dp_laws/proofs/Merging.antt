@@ -6,7 +6,7 @@ use Rattle.dp_laws.proofs.Forward.{int_history_sum_ext, forward}
 use Rattle.dp_laws.proofs.OwnHistories.{Within, Below, joint_below, parts-joint, owns_within, base}
 use Rattle.dp_laws.proofs.KeepsAllAgents.{trees_of, rests_are, at_stage, class_in}
 use Rattle.dp_laws.proofs.Sound.{int_history_sum_group, eq_of, does_fixed}
-use Rattle.dp_laws.proofs.Gain.{better_tree}
+use Rattle.dp_laws.proofs.ClassValue.{better_for_both}
 use Rattle.dp_laws.proofs.MergeSide.{joined, replaced, joined-renumbered, new_tree, new_tree_fits, keeps_side, get_or-renumbered}
 use Rattle.dp_spec.specs.Front.{AgentFront, Front, class_counts, fixed_actions, fixed_joint_action, own_classes, own_histories}
 use Rattle.dp_spec.specs.JointHistory.{IsJointHistory, earned_reward, history_weight, int_history_sum, trees_after_history}
@@ -181,7 +181,7 @@ merging m F r qs uss ks i a b lt can eq =
     let k = get_or (class_counts F.agents) i 0 in
     let us = tree_for i uss in
     let b_lt = b_in i a b F.agents can in
-    let better = better_tree O F.stage m.states (product (without i (class_counts F.agents))) (W m F r i uss) (class_of_agent m F i) (class_of_others m F i) PolicyTree (val m F r i uss) (others_in_range m F r qs uss ks i) a b (us a) (us b) eq.same in
+    let better = better_for_both O F.stage m.states (product (without i (class_counts F.agents))) (W m F r i uss) (class_of_agent m F i) (class_of_others m F i) PolicyTree (val m F r i uss) (others_in_range m F r qs uss ks i) a b (us a) (us b) eq.same in
     let y = better.0 in
     let new = keeps_all ks i a b lt can y better.1 in
     let in_range = class_in_range m F r qs uss ks i a b can in

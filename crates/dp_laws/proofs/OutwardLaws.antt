@@ -4,7 +4,7 @@ use Rattle.std.proofs.lemmas.Int.{ints, clamps}
 use Rattle.std.specs.Int.{int_min, int_max}
 use Rattle.dp_laws.proofs.Ring.{v, nat, ◌⊗◌, by_ring, by_order, zmul_comm, zle_of, zle_trans, zmul_le, zadd_le, zadd_mul}
 use Rattle.dp_laws.proofs.Floors.{mul_down_le, le_mul_up}
-use Rattle.dp_laws.proofs.Gain.{cancel, le_either}
+use Rattle.dp_laws.proofs.Order.{le_of_mul_le_left, le_total}
 use Rattle.dp_spec.specs.Arithmetic.{outward}
 use Rattle.dp_spec.specs.Enclosure.{IsSound, containment}
 use Rattle.dp_spec.specs.Model.{IsModel, Model, step_scale}
@@ -59,7 +59,7 @@ gain_under : (T u e k d c w : ℕ) (l h r : ℤ) → 0 < c → 0 < c * d → u �
 gain_under T u e k d c w l h r some some' is p q =
     let x = by_sign r l h in
     let y = mul_down x r (c * d) in
-    cancel c _ _ some
+    le_of_mul_le_left c _ _ some
     (zle_trans _ _ _ (zle_of _ _ (by_ring (nat c ⊗ (v y ⊗ nat (T * k * d))) (nat (T * k) ⊗ (v y ⊗ nat (c * d))) (omega arith)))
     (zle_trans _ _ _ (zmul_le (T * k) _ _ (mul_down_le x r (c * d) some'))
     (zle_trans _ _ _ (zle_of _ _ (by_ring (nat (T * k) ⊗ (v x ⊗ v r)) (nat k ⊗ (v x ⊗ nat T ⊗ v r)) (omega arith)))
@@ -70,7 +70,7 @@ gain_over : (T u e k d c w : ℕ) (l h r : ℤ) → 0 < c → 0 < c * d → u �
 gain_over T u e k d c w l h r some some' is p q =
     let x = by_sign r h l in
     let y = mul_up x r (c * d) in
-    cancel c _ _ some
+    le_of_mul_le_left c _ _ some
     (zle_trans _ _ _ (zle_of _ _ (by_ring (nat c ⊗ (nat w ⊗ (v r ⊗ nat k) ⊗ nat e)) (nat k ⊗ (nat w ⊗ nat (c * e) ⊗ v r)) (omega arith) ∙ ap (λ (n : ℕ). pos k *ℤ (pos w *ℤ pos n *ℤ r)) (sym is)))
     (zle_trans _ _ _ (zmul_le k _ _ (signed_over T u (pos w) l h r p q))
     (zle_trans _ _ _ (zle_of _ _ (by_ring (nat k ⊗ (v x ⊗ nat T ⊗ v r)) (nat (T * k) ⊗ (v x ⊗ v r)) (omega arith)))
@@ -81,7 +81,7 @@ tail_over : (T F u e w : ℕ) (l h x z : ℤ) → 0 < u → Under T u (pos w) l 
 tail_over T F u e w l h x z some p q o =
     let y = by_sign z h l in
     let a = mul_up y z u in
-    cancel u _ _ some
+    le_of_mul_le_left u _ _ some
     (zle_trans _ _ _ (zle_of _ _ (by_ring (nat u ⊗ (nat w ⊗ v x ⊗ nat e)) (nat (w * u) ⊗ (v x ⊗ nat e)) (omega arith)))
     (zle_trans _ _ _ (zmul_le (w * u) _ _ o)
     (zle_trans _ _ _ (zle_of _ _ (by_ring (nat (w * u) ⊗ (v z ⊗ nat F)) (nat F ⊗ (nat w ⊗ nat u ⊗ v z)) (omega arith)))
@@ -125,10 +125,10 @@ le_max : (a b : ℤ) → (a ≤ℤ int_max a b) × (b ≤ℤ int_max a b)
 le_max a b = (omega (arith, ints, clamps), omega (arith, ints, clamps))
 
 one_max : (x y : ℤ) → (int_max x y ≡ x) ⊎ (int_max x y ≡ y)
-one_max x y = elim (le_either x y) [ inl le ↦ inr (omega (arith, ints, clamps)) | inr le ↦ inl (omega (arith, ints, clamps)) ]
+one_max x y = elim (le_total x y) [ inl le ↦ inr (omega (arith, ints, clamps)) | inr le ↦ inl (omega (arith, ints, clamps)) ]
 
 one_min : (x y : ℤ) → (int_min x y ≡ x) ⊎ (int_min x y ≡ y)
-one_min x y = elim (le_either x y) [ inl le ↦ inl (omega (arith, ints, clamps)) | inr le ↦ inr (omega (arith, ints, clamps)) ]
+one_min x y = elim (le_total x y) [ inl le ↦ inl (omega (arith, ints, clamps)) | inr le ↦ inr (omega (arith, ints, clamps)) ]
 
 greater_over : (F u : ℕ) (x y a b : ℤ) → Over F u x a → Over F u y b → Over F u (int_max x y) (int_max a b)
 greater_over F u x y a b p q =

@@ -1,16 +1,14 @@
 -- what a valid certificate claims is true
 use Rattle.std.proofs.Common.{◌≡◌, ℕ, zero, suc, ◌*◌, ◌<◌, Bool, true, ℤ, pos, ◌*ℤ◌, ◌≤ℤ◌, length, sym, ap, ◌∙◌, subst, arith}
-use Rattle.std.proofs.lemmas.Int.{ints}
 use Rattle.std.proofs.lemmas.List.{length-map}
 use Rattle.std.proofs.Math.Nat.{one-le-pow}
 use Rattle.dp_spec.specs.declared.span.Span.{Span}
 use Rattle.dp_laws.proofs.Checker.{checked_sound}
 use Rattle.dp_laws.proofs.ExactLaws.{exact_sound}
-use Rattle.dp_laws.proofs.Gain.{cancel}
+use Rattle.dp_laws.proofs.Order.{equal_of_le, le_of_mul_le_right}
 use Rattle.dp_laws.proofs.Leaves.{greatest_leaf-at_most, greatest_leaf_below}
 use Rattle.dp_laws.proofs.Modes.{arithmetic_sound, low_reads, mode_unit}
 use Rattle.dp_laws.proofs.QuantityLaws.{worth_enclosed}
-use Rattle.dp_laws.proofs.Ring.{zmul_comm}
 use Rattle.dp_spec.specs.BoundTree.{LeavesAtMost}
 use Rattle.dp_spec.specs.Certificate.{Certificate, IsValid, arithmetic_for}
 use Rattle.dp_spec.specs.Claims.{BoundsEveryPolicy, ClaimsHold, IsOptimal}
@@ -67,12 +65,6 @@ value_scale_positive m h is =
     product_positive _ _ is.scales.start
     (product_positive _ _ is.scales.reward (one-le-pow h _ (product_positive _ _ (product_positive _ _ is.scales.trans is.scales.obs) is.scales.discount)))
 
-over_scale : (n : ℕ) (x y : ℤ) → 0 < n → (x *ℤ pos n) ≤ℤ (y *ℤ pos n) → x ≤ℤ y
-over_scale n x y p h = cancel n x y p (rw (zmul_comm (pos n) x, zmul_comm (pos n) y) h)
-
-equal_of : (x y : ℤ) → x ≤ℤ y → y ≤ℤ x → x ≡ y
-equal_of x y p q = omega (arith, ints)
-
 exact_unit : (m : Model) (c : Certificate) → IsValid m c → c.is_exact ≡ true → c.unit ≡ pos (value_scale m c.horizon)
 exact_unit m c v e = sym (unit_of_valid m c v) ∙ ap (λ (t : Bool). pos ((enclosure t).unit (value_scale m c.horizon))) e
 
@@ -91,8 +83,8 @@ closed_is_optimal m c is v closed e =
     let upper_lower : c.upper ≤ℤ c.lower = subst (λ (u : ℤ). u ≤ℤ c.lower) (sym v.upper) top in
     let value = lower_is_value m c v e in
     let bound = exact_bound_of m c is v e c.upper (upper_bounds m c is v) c.policy v.policy in
-    let lower_upper : c.lower ≤ℤ c.upper = subst (λ (x : ℤ). x ≤ℤ c.upper) (sym value) (over_scale n _ _ some bound) in
+    let lower_upper : c.lower ≤ℤ c.upper = subst (λ (x : ℤ). x ≤ℤ c.upper) (sym value) (le_of_mul_le_right n _ _ some bound) in
     let best = exact_bound_of m c is v e c.lower (bounds_every_policy m c is v c.lower below) in (
-      equal_of _ _ lower_upper upper_lower,
-      record { policy = v.policy; none_better = λ others policy. subst (λ (x : ℤ). policy_value m c.horizon others ≤ℤ x) value (over_scale n _ _ some (best others policy)) },
+      equal_of_le _ _ lower_upper upper_lower,
+      record { policy = v.policy; none_better = λ others policy. subst (λ (x : ℤ). policy_value m c.horizon others ≤ℤ x) value (le_of_mul_le_right n _ _ some (best others policy)) },
     )
