@@ -11,7 +11,7 @@ use Rattle.dp_laws.proofs.Forward.{int_history_sum_ext, forward}
 use Rattle.dp_laws.proofs.Trees.{root_in}
 use Rattle.dp_laws.proofs.Sound.{sound, does_fixed}
 use Rattle.dp_laws.proofs.HistorySums.{int_history_sum_zero}
-use Rattle.dp_laws.proofs.Merging.{CanJoin, tree_for, merging}
+use Rattle.dp_laws.proofs.Merging.{tree_for, merging_keeps_value}
 use Rattle.dp_laws.proofs.StepSides.{chosen_side, advanced_side}
 use Rattle.dp_spec.specs.Arithmetic.{Arithmetic, arithmetic, exact, outward}
 use Rattle.dp_spec.specs.Bound.{bound_of}
@@ -53,11 +53,6 @@ action_in : {f r : ℕ} {bs ns : List ℕ} {ds : List AgentFront} {qs : List Pol
 action_in no_agents i c free = absurd free
 action_in (and_agent k ks) zero c free = root_in _ _ _ _ (k.are_trees c free.0)
 action_in (and_agent k ks) (suc i) c free = action_in ks i c free
-
-pub can_join : (i a b : ℕ) (ds : List AgentFront) → IsUnassigned i a ds → IsUnassigned i b ds → CanJoin i a b ds
-can_join i a b [] p q = p
-can_join zero a b (d ∷ ds) p q = (q.0, p.1, q.1)
-can_join (suc i) a b (d ∷ ds) p q = can_join i a b ds p q
 
 zero_right : (a b : ℤ) → b ≡ pos 0 → (a +ℤ b) ≤ℤ a
 zero_right a b e = omega (arith, ints)
@@ -114,7 +109,7 @@ mutual
   plan_sound A R m is ok h look v u (branch i c Ts) F cap qs uss fits le ks best capped below =
       plans_sound A R m is ok h look v u Ts F i c 0 cap qs uss fits.2 fits.0 fits.1 ks best capped (omega arith) below
   plan_sound A R m is ok h look v u (merge i a b T) F cap qs uss fits le ks best capped below =
-      let new = merging m F (h - F.stage) qs uss ks i a b fits.1 (can_join i a b F.agents fits.2 fits.3) fits.4 in
+      let new = merging_keeps_value m F (h - F.stage) qs uss ks i a b fits.1 fits.2 fits.3 fits.4 in
       let e : F.stage + (h - F.stage) ≡ h = omega arith in
       let better : v ≤ℤ policy_value m h new.0 = zle_trans _ _ _ best (subst (λ (n : ℕ). policy_value m n qs ≤ℤ policy_value m n new.0) e new.3) in
       plan_sound A R m is ok h look v u T (merged_front F i a b) _ new.0 new.1 fits.5 le new.2 better

@@ -15,7 +15,7 @@ pub mod Leaves
 pub mod LineTexts
 pub mod Look
 pub mod LosslessMerging
-pub mod MergeSide
+pub mod MergedAgents
 pub mod MergedKept
 pub mod Merging
 pub mod Modes
