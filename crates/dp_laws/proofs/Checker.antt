@@ -11,7 +11,8 @@ use Rattle.dp_laws.proofs.Forward.{int_history_sum_ext, forward}
 use Rattle.dp_laws.proofs.Trees.{root_in}
 use Rattle.dp_laws.proofs.Sound.{sound, does_fixed}
 use Rattle.dp_laws.proofs.HistorySums.{int_history_sum_zero}
-use Rattle.dp_laws.proofs.Merging.{tree_for, merging_keeps_value}
+use Rattle.dp_laws.proofs.MergedTrees.{tree_for}
+use Rattle.dp_laws.proofs.Merging.{merging_keeps_value}
 use Rattle.dp_laws.proofs.StepSides.{chosen_side, advanced_side}
 use Rattle.dp_spec.specs.Arithmetic.{Arithmetic, arithmetic, exact, outward}
 use Rattle.dp_spec.specs.Bound.{bound_of}

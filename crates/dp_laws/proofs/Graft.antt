@@ -11,6 +11,7 @@ abbrev pub trees_from : ℕ → (ℕ → PolicyTree) → PolicyTrees
 trees_from zero g = no_trees
 trees_from (suc c) g = more_trees (g 0) (trees_from c (λ o. g (suc o)))
 
+-- the tree at place o
 nth_tree-trees_from : (c : ℕ) (g : ℕ → PolicyTree) (o : ℕ) → o < c → nth_tree (trees_from c g) o ≡ g o
 nth_tree-trees_from zero g o h = absurd (omega arith)
 nth_tree-trees_from (suc c) g zero h = refl
@@ -21,6 +22,7 @@ abbrev pub graft : ℕ → ℕ → ℕ → PolicyTree → (ℕ → PolicyTree) �
 graft n zero x q new = new x
 graft n (suc k) x q new = node (root_action q) (trees_from n (λ o. graft n k (x * n + o) (subtree q o) new))
 
+-- the number of a history one step longer
 next_number : (n t y x : ℕ) → (x * n ^ t + y / n) * n + y % n ≡ x * n ^ suc t + y
 next_number n t y x = rw pow-suc (omega arith)
 
@@ -44,6 +46,7 @@ trees_from_fit : (b n r c : ℕ) (g : ℕ → PolicyTree) → ((o : ℕ) → o <
 trees_from_fit b n r zero g h = tt
 trees_from_fit b n r (suc c) g h = (h 0 (omega arith), trees_from_fit b n r c (λ o. g (suc o)) (λ o p. h (suc o) (omega arith)))
 
+-- the same where the first of k + 1 steps is o
 grafted_number : (x n k o y : ℕ) → (x * n + o) * n ^ k + y ≡ x * n ^ suc k + (o * n ^ k + y)
 grafted_number x n k o y = rw pow-suc (omega arith)
 

@@ -17,6 +17,7 @@ pub mod Look
 pub mod LosslessMerging
 pub mod MergedAgents
 pub mod MergedKept
+pub mod MergedTrees
 pub mod Merging
 pub mod Modes
 pub mod OneStep

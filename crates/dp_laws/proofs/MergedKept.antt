@@ -12,9 +12,11 @@ use Rattle.dp_spec.specs.Steps.{IsUnassigned}
 below_or_above : (c b : ℕ) → c ≢ b → (c < b) ⊎ (b < c)
 below_or_above c b ne = grind arith
 
+-- a lower class keeps its number
 renumbered_low : (a b c : ℕ) → c < b → renumbered a b c ≡ c
 renumbered_low a b c h = grind (arith, nat_tests)
 
+-- a higher one is called one less
 renumbered_high : (a b c : ℕ) → b < c → renumbered a b c ≡ c - 1
 renumbered_high a b c h = grind (arith, nat_tests)
 
@@ -29,9 +31,11 @@ get_or-without_renumbered a b os c ne =
           ∙ ap (λ (k : ℕ). get_or os k None) (omega arith)
     ]
 
+-- a class with an action is not one without
 has_action : (b c e : ℕ) (os : List (Option ℕ)) → get_or os b None ≡ None → get_or os c None ≡ Some e → c ≢ b
 has_action b c e os none some same = let at : get_or os c None ≡ None = subst (λ (k : ℕ). get_or os k None ≡ None) (sym same) none in cc
 
+-- a tree that keeps the merged front of one agent keeps the old one
 merged_agent_kept : (n f : ℕ) (d : AgentFront) (q : PolicyTree) (a b : ℕ) → a < b → get_or d.chosen b None ≡ None → KeepsAgentFront n f (merged_agent a b d) q → KeepsAgentFront n f d q
 merged_agent_kept n f d q a b lt none k = record {
   does_fixed = k.does_fixed;
@@ -41,7 +45,7 @@ merged_agent_kept n f d q a b lt none k = record {
       k.does_chosen x e u (ap (λ (z : ℕ). get_or (without b d.chosen) z None) (get_or-renumbered a b d.class_of x lt) ∙ get_or-without_renumbered a b d.chosen c (has_action b c e d.chosen none some) ∙ some);
 }
 
--- each agent's tree that keeps the merged front keeps the old one
+-- the trees that keep the merged fronts keep the old ones
 pub merged_agents_kept : {f : ℕ} {ns : List ℕ} (i a b : ℕ) (ds : List AgentFront) {qs : List PolicyTree} → a < b → IsUnassigned i b ds → KeepAgentFronts f ns (merged_agents i a b ds) qs → KeepAgentFronts f ns ds qs
 merged_agents_kept i a b [] lt free ks = ks
 merged_agents_kept zero a b (d ∷ ds) lt free (and_agent k ks) = and_agent (merged_agent_kept _ _ d _ a b lt free.1 k) ks
