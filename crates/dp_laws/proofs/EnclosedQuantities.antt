@@ -1,8 +1,7 @@
--- in a sound arithmetic spans hold the true numbers
-use Rattle.std.proofs.Common.{◌≡◌, ℕ, zero, suc, ◌+◌, ◌-◌, ◌*◌, ◌^◌, ◌<◌, ◌≤◌, Bool, true, false, cond, eqb, ℤ, pos, ◌*ℤ◌, List, [], ◌∷◌, refl, sym, ap, ◌∙◌, subst, arith}
-use Rattle.std.proofs.Math.Nat.{pow-suc, pow-zero}
-use Rattle.std.proofs.lemmas.Nat.{pow-add}
+-- In a sound arithmetic what is computed for each quantity encloses its exact definition.
+use Rattle.std.proofs.Common.{◌≡◌, ℕ, zero, suc, ◌+◌, ◌-◌, ◌*◌, ◌^◌, ◌<◌, ◌≤◌, Bool, true, false, cond, eqb, ℤ, pos, ◌*ℤ◌, List, [], ◌∷◌, refl, ap, ◌∙◌, subst, arith}
 use Rattle.dp_spec.specs.declared.span.Span.{Span}
+use Rattle.dp_laws.proofs.Scales.{scale_after_carry, scale_after_reward, scale_after_step, scale_after_tail, scale_at_stage, scale_of_first, scale_of_next}
 use Rattle.dp_laws.proofs.Look.{look_le}
 use Rattle.dp_spec.specs.Arithmetic.{Arithmetic, point}
 use Rattle.dp_spec.specs.Bound.{agreeing_actions, bound_of}
@@ -16,56 +15,21 @@ use Rattle.dp_spec.specs.Model.{IsModel, Model, joint_actions, joint_observation
 use Rattle.dp_spec.specs.Quantities.{action_look_ahead_in, bound_in, class_weight_in, earned_reward_in, history_weight_in, look_ahead_in, mdp_table_in, span_history_sum, span_sum, weighted_reward_in, weighted_table_in, weights_after_in}
 use Rattle.dp_spec.specs.Sums.{greatest, int_sum, nat_sum, numbers_below}
 
--- ---- scales
-step_scale_is : (m : Model) → m.scales.trans * m.scales.obs * m.scales.discount ≡ step_scale m
-unfolding step_scale
-step_scale_is m = refl
-
-times_step : (T K a b c : ℕ) → a * b * c ≡ K → T * (a * b) * c ≡ T * K
-times_step T K a b c e = omega (arith, ap (λ (n : ℕ). T * n) e)
-
-pub scale_after_step : (m : Model) (T : ℕ) → T * (m.scales.trans * m.scales.obs) * m.scales.discount ≡ T * step_scale m
-scale_after_step m T = times_step T (step_scale m) m.scales.trans m.scales.obs m.scales.discount (step_scale_is m)
-
-times_gain : (T K a b c p d : ℕ) → a * b * c ≡ K → T * (a * b) * (c * p) * d ≡ T * (d * (p * K))
-times_gain T K a b c p d e = omega (arith, ap (λ (n : ℕ). T * (d * (p * n))) e)
-
--- a reward of one step more
-pub scale_after_reward : (m : Model) (T r : ℕ) → T * (m.scales.trans * m.scales.obs) * (m.scales.discount * step_scale m ^ r) * m.scales.reward ≡ T * (m.scales.reward * step_scale m ^ suc r)
-scale_after_reward m T r =
-    times_gain T (step_scale m) m.scales.trans m.scales.obs m.scales.discount (step_scale m ^ r) m.scales.reward (step_scale_is m)
-    ∙ ap (λ (n : ℕ). T * (m.scales.reward * n)) (sym (pow-suc (step_scale m) r))
-
-scale_after_carry : (m : Model) (r : ℕ) → m.scales.reward * step_scale m ^ r * step_scale m ≡ m.scales.reward * step_scale m ^ suc r
-scale_after_carry m r = omega (arith, ap (λ (n : ℕ). m.scales.reward * n) (pow-suc (step_scale m) r))
-
-times_tail : (T d K p q : ℕ) → q ≡ p * K → T * K * (d * p) ≡ T * (d * q)
-times_tail T d K p q e = omega (arith, ap (λ (n : ℕ). T * (d * n)) e)
-
-scale_after_tail : (m : Model) (T r : ℕ) → T * step_scale m * (m.scales.reward * step_scale m ^ r) ≡ T * (m.scales.reward * step_scale m ^ suc r)
-scale_after_tail m T r = times_tail T m.scales.reward (step_scale m) (step_scale m ^ r) (step_scale m ^ suc r) (pow-suc (step_scale m) r)
-
-pub scale_at_stage : (m : Model) (t r : ℕ) → m.scales.start * step_scale m ^ t * (m.scales.reward * step_scale m ^ r) ≡ value_scale m (t + r)
-unfolding value_scale
-scale_at_stage m t r = omega (arith, ap (λ (n : ℕ). m.scales.start * (m.scales.reward * n)) (pow-add (step_scale m) t r))
-
-scale_of_next : (m : Model) (t : ℕ) → m.scales.start * step_scale m ^ t * step_scale m ≡ m.scales.start * step_scale m ^ suc t
-scale_of_next m t = omega (arith, ap (λ (n : ℕ). m.scales.start * n) (pow-suc (step_scale m) t))
-
-scale_of_first : (m : Model) → m.scales.start ≡ m.scales.start * step_scale m ^ 0
-scale_of_first m = rw pow-zero (omega arith)
-
 module _ (m : Model) (A : Arithmetic) (R : Enclosure) (ok : IsSound m A R) where
+  -- equal scales and equal weights
   weighs_same : (T T' w w' : ℕ) (s : Span) → T ≡ T' → w ≡ w' → R.Weighs T w s → R.Weighs T' w' s
   weighs_same T T' w w' s e f h = subst (λ (t : ℕ). R.Weighs t w' s) e (subst (λ (x : ℕ). R.Weighs T x s) f h)
 
+  -- equal scales
   earns_same : (T T' : ℕ) (x : ℤ) (s : Span) → T ≡ T' → R.Earns T x s → R.Earns T' x s
   earns_same T T' x s e h = subst (λ (t : ℕ). R.Earns t x s) e h
 
+  -- equal scales, from above
   tops_same : (T T' : ℕ) (x v : ℤ) → T ≡ T' → R.Tops T x v → R.Tops T' x v
   tops_same T T' x v e h = subst (λ (t : ℕ). R.Tops t x v) e h
 
   -- ---- sums
+  -- sums over the numbers below n
   pub weighs_sum : (T n : ℕ) (w : ℕ → ℕ) (s : ℕ → Span) → ((i : ℕ) → i < n → R.Weighs T (w i) (s i)) → R.Weighs T (nat_sum n w) (span_sum n s)
   weighs_sum T zero w s h = ok.no_weight T
   weighs_sum T (suc n) w s h = ok.more_weight T _ _ _ _ (weighs_sum T n w s (λ i p. h i (omega arith))) (h n (omega arith))
@@ -78,11 +42,13 @@ module _ (m : Model) (A : Arithmetic) (R : Enclosure) (ok : IsSound m A R) where
   tops_sum F zero x u h = ok.no_top F
   tops_sum F (suc n) x u h = ok.more_top F _ _ _ _ (tops_sum F n x u (λ i p. h i (omega arith))) (h n (omega arith))
 
+  -- the greatest over a list
   pub tops_greatest : (F : ℕ) (x u : ℕ → ℤ) (xs : List ℕ) → ((a : ℕ) → R.Tops F (x a) (u a)) → R.Tops F (greatest x xs) (greatest u xs)
   tops_greatest F x u [] h = ok.no_top F
   tops_greatest F x u (a ∷ []) h = h a
   tops_greatest F x u (a ∷ (b ∷ as')) h = ok.greater F _ _ _ _ (h a) (tops_greatest F x u (b ∷ as') h)
 
+  -- sums over joint histories
   pub weighs_history_sum : (T n t : ℕ) (w : List ℕ → ℕ) (s : List ℕ → Span) → ((H : List ℕ) → IsJointHistory n t H → R.Weighs T (w H) (s H)) → R.Weighs T (nat_history_sum n t w) (span_history_sum n t s)
   weighs_history_sum T n zero w s h = h [] tt
   weighs_history_sum T n (suc t) w s h = weighs_history_sum T n t _ _ (λ H p. weighs_sum T n _ _ (λ o q. h (o ∷ H) (q, p)))
@@ -92,14 +58,13 @@ module _ (m : Model) (A : Arithmetic) (R : Enclosure) (ok : IsSound m A R) where
   earns_history_sum F n (suc t) x s h = earns_history_sum F n t _ _ (λ H p. earns_sum F n _ _ (λ o q. h (o ∷ H) (q, p)))
 
   -- ---- weights and rewards
-  Hold : ℕ → (ℕ → ℕ) → (ℕ → Span) → Type 0
-  Hold T w ws = (s : ℕ) → s < m.states → R.Weighs T (w s) (ws s)
-
+  -- the weights one step on
   pub weights_after_enclosed : (T : ℕ) (w : ℕ → ℕ) (ws : ℕ → Span) (a o t : ℕ) → ((s : ℕ) → s < m.states → R.Weighs T (w s) (ws s)) → R.Weighs (T * step_scale m) (weights_after m w a o t) (weights_after_in A m ws a o t)
   unfolding weights_after weights_after_in
   weights_after_enclosed T w ws a o t h =
       weighs_sum _ m.states _ _ (λ s p. weighs_same _ _ _ _ _ (scale_after_step m T) (omega arith) (ok.later _ _ _ (ok.chance _ _ (trans_at m a s t) (obs_at m a t o) _ (h s p))))
 
+  -- the reward of a joint action
   pub weighted_reward_enclosed : (T r : ℕ) (w : ℕ → ℕ) (ws : ℕ → Span) (a : ℕ) → ((s : ℕ) → s < m.states → R.Weighs T (w s) (ws s)) →
       R.Earns (T * (m.scales.reward * step_scale m ^ suc r)) (weighted_reward m r w a) (weighted_reward_in A m r ws a)
   unfolding weighted_reward weighted_reward_in
@@ -108,42 +73,49 @@ module _ (m : Model) (A : Arithmetic) (R : Enclosure) (ok : IsSound m A R) where
       earns_same _ _ _ _ (scale_after_reward m T r) (ok.gain _ _ r (reward_at m a s t o) _ (ok.chance _ _ (trans_at m a s t) (obs_at m a t o) _ (h s p))))))
 
   -- ---- tables
-  unit_gain : (r p z : ℕ) (x : ℤ) → R.Earns (m.scales.reward * step_scale m ^ suc r) (pos (p * z) *ℤ (x *ℤ pos (m.scales.discount * step_scale m ^ r))) (A.gain (A.chance A.one p z) x r)
-  unit_gain r p z x =
+  -- a reward of the table, from the weight 1
+  table_reward_enclosed : (r p z : ℕ) (x : ℤ) → R.Earns (m.scales.reward * step_scale m ^ suc r) (pos (p * z) *ℤ (x *ℤ pos (m.scales.discount * step_scale m ^ r))) (A.gain (A.chance A.one p z) x r)
+  table_reward_enclosed r p z x =
       let e : 1 * (p * z) ≡ p * z = omega arith in
       let scale : 1 * (m.scales.trans * m.scales.obs) * (m.scales.discount * step_scale m ^ r) * m.scales.reward ≡ m.scales.reward * step_scale m ^ suc r = scale_after_reward m 1 r ∙ omega arith in
       subst (λ (n : ℕ). R.Earns (m.scales.reward * step_scale m ^ suc r) (pos n *ℤ (x *ℤ pos (m.scales.discount * step_scale m ^ r))) (A.gain (A.chance A.one p z) x r)) e
       (earns_same _ _ _ _ scale (ok.gain _ _ r x _ (ok.chance _ _ p z _ ok.one)))
 
+  -- the table
   pub mdp_table_enclosed : (r s : ℕ) → R.Tops (m.scales.reward * step_scale m ^ r) (mdp_table m r s) (mdp_table_in A m r s)
   mdp_table_enclosed zero s = ok.no_top _
   mdp_table_enclosed (suc r) s =
       tops_greatest _ _ _ (numbers_below (joint_actions m)) (λ a.
       ok.more_top _ _ _ _ _
-      (ok.top _ _ _ (earns_sum _ m.states _ _ (λ t q. earns_sum _ (joint_observations m) _ _ (λ o u. unit_gain r (trans_at m a s t) (obs_at m a t o) (reward_at m a s t o)))))
+      (ok.top _ _ _ (earns_sum _ m.states _ _ (λ t q. earns_sum _ (joint_observations m) _ _ (λ o u. table_reward_enclosed r (trans_at m a s t) (obs_at m a t o) (reward_at m a s t o)))))
       (tops_sum _ m.states _ _ (λ t q. tops_same _ _ _ _ (scale_after_carry m r) (ok.carry _ (trans_at m a s t) _ _ (mdp_table_enclosed r t)))))
 
+  -- weights against the table
   pub weighted_table_enclosed : (T r : ℕ) (w : ℕ → ℕ) (ws : ℕ → Span) → ((s : ℕ) → s < m.states → R.Weighs T (w s) (ws s)) →
       R.Tops (T * (m.scales.reward * step_scale m ^ r)) (int_sum m.states (λ s. pos (w s) *ℤ mdp_table m r s)) (weighted_table_in A m r ws)
   unfolding weighted_table_in
   weighted_table_enclosed T r w ws h = tops_sum _ m.states _ _ (λ s p. ok.tail _ _ _ _ _ _ (h s p) (mdp_table_enclosed r s))
 
-  -- ---- the history_weight of a history and of a class, and what is earned_reward
+  -- ---- weights of histories and of classes, and what is earned
+  -- the weight of a joint history and a state
   pub history_weight_enclosed : (act : List ℕ → ℕ) (t : ℕ) (H : List ℕ) (s : ℕ) → IsJointHistory (joint_observations m) t H → R.Weighs (m.scales.start * step_scale m ^ t) (history_weight m act H s) (history_weight_in A m act H s)
   history_weight_enclosed act zero [] s h = weighs_same _ _ _ _ _ (scale_of_first m) refl (ok.start (start_at m s))
   history_weight_enclosed act zero (o ∷ H) s h = absurd h
   history_weight_enclosed act (suc t) [] s h = absurd h
   history_weight_enclosed act (suc t) (o ∷ H) s h = weighs_same _ _ _ _ _ (scale_of_next m t) refl (weights_after_enclosed _ _ _ (act H) o s (λ s p. history_weight_enclosed act t H s h.1))
 
-  picked : (T w : ℕ) (s : Span) (b : Bool) → R.Weighs T w s → R.Weighs T (cond b w 0) (cond b s (point (pos 0)))
-  picked T w s true h = h
-  picked T w s false h = ok.no_weight T
+  -- a weight where a test holds
+  weighs_where : (T w : ℕ) (s : Span) (b : Bool) → R.Weighs T w s → R.Weighs T (cond b w 0) (cond b s (point (pos 0)))
+  weighs_where T w s true h = h
+  weighs_where T w s false h = ok.no_weight T
 
+  -- the weight of a joint class and a state
   pub class_weight_enclosed : (F : Front) (C s : ℕ) → R.Weighs (m.scales.start * step_scale m ^ F.stage) (class_weight m F C s) (class_weight_in A m F C s)
   unfolding class_weight class_weight_in
   class_weight_enclosed F C s =
-      weighs_history_sum _ (joint_observations m) F.stage _ _ (λ H p. picked _ _ _ (eqb (joint_class m F H) C) (history_weight_enclosed (fixed_joint_action m F) F.stage H s p))
+      weighs_history_sum _ (joint_observations m) F.stage _ _ (λ H p. weighs_where _ _ _ (eqb (joint_class m F H) C) (history_weight_enclosed (fixed_joint_action m F) F.stage H s p))
 
+  -- what is earned before a time
   pub earned_reward_enclosed : (act : List ℕ → ℕ) (h f : ℕ) → f ≤ h → R.Earns (value_scale m h) (earned_reward m act h f) (earned_reward_in A m act h f)
   earned_reward_enclosed act h zero le = ok.no_gain _
   earned_reward_enclosed act h (suc f) le =
@@ -153,6 +125,7 @@ module _ (m : Model) (A : Arithmetic) (R : Enclosure) (ok : IsSound m A R) where
       (weighted_reward_enclosed _ (h - suc f) _ _ (act H) (λ s q. history_weight_enclosed act f H s p))))
 
   -- ---- look-ahead and bounds
+  -- look-ahead
   pub look_ahead_enclosed : IsModel m → (T r k : ℕ) (w : ℕ → ℕ) (ws : ℕ → Span) → ((s : ℕ) → s < m.states → R.Weighs T (w s) (ws s)) → R.Tops (T * (m.scales.reward * step_scale m ^ r)) (look_ahead m r w k) (look_ahead_in A m r ws k)
   look_ahead_enclosed is T zero k w ws h = ok.no_top _
   look_ahead_enclosed is T (suc r) zero w ws h = weighted_table_enclosed T (suc r) w ws h
@@ -163,12 +136,14 @@ module _ (m : Model) (A : Arithmetic) (R : Enclosure) (ok : IsSound m A R) where
       (tops_sum _ (joint_observations m) _ _ (λ o p. tops_same _ _ _ _ (scale_after_tail m T r) (look_ahead_enclosed is (T * step_scale m) r k (weights_after m w a o) (weights_after_in A m ws a o) (λ t q. weights_after_enclosed T w ws a o t h))))))
       (weighted_table_enclosed T (suc r) w ws h)
 
+  -- look-ahead of a joint action
   pub action_look_ahead_enclosed : IsModel m → (T r k : ℕ) (w : ℕ → ℕ) (ws : ℕ → Span) (a : ℕ) → ((s : ℕ) → s < m.states → R.Weighs T (w s) (ws s)) → R.Tops (T * (m.scales.reward * step_scale m ^ suc r)) (action_look_ahead m r w a k) (action_look_ahead_in A m r ws a k)
   unfolding action_look_ahead action_look_ahead_in
   action_look_ahead_enclosed is T r k w ws a h =
       ok.more_top _ _ _ _ _ (ok.top _ _ _ (weighted_reward_enclosed T r w ws a h))
       (tops_sum _ (joint_observations m) _ _ (λ o p. tops_same _ _ _ _ (scale_after_tail m T r) (look_ahead_enclosed is (T * step_scale m) r (k - 1) (weights_after m w a o) (weights_after_in A m ws a o) (λ t q. weights_after_enclosed T w ws a o t h))))
 
+  -- the bound of a front
   pub bound_enclosed : IsModel m → (r : ℕ) (F : Front) (look : ℕ) → R.Tops (value_scale m (F.stage + r)) (bound_of m r F look) (bound_in A m r F look)
   bound_enclosed is zero F look = ok.top _ _ _ (earned_reward_enclosed (fixed_joint_action m F) (F.stage + 0) F.stage (omega arith))
   bound_enclosed is (suc r) F look =

@@ -2,8 +2,8 @@
 use Rattle.std.proofs.Common.{◌≡◌, ℕ, ◌^◌, Bool, true, false, ℤ, pos, ◌*ℤ◌, ◌≤ℤ◌, refl, sym, ap, ◌∙◌}
 use Rattle.std.specs.Prelude.{if◌then◌else◌}
 use Rattle.dp_spec.specs.declared.span.Span.{Span}
-use Rattle.dp_laws.proofs.ExactLaws.{exact_sound}
-use Rattle.dp_laws.proofs.OutwardLaws.{outward_sound}
+use Rattle.dp_laws.proofs.ExactArithmetic.{exact_sound}
+use Rattle.dp_laws.proofs.OutwardArithmetic.{outward_sound}
 use Rattle.dp_laws.proofs.Ring.{zle_of}
 use Rattle.dp_spec.specs.Arithmetic.{arithmetic}
 use Rattle.dp_spec.specs.Enclosure.{IsSound, enclosure}

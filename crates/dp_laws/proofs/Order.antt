@@ -1,10 +1,10 @@
 -- the order of whole numbers
-use Rattle.std.proofs.Common.{◌≡◌, ◌⊎◌, ℕ, suc, ◌+◌, ◌*◌, ◌<◌, ℤ, pos, ◌+ℤ◌, ◌*ℤ◌, ◌≤ℤ◌, arith}
-use Rattle.std.specs.Int.{int_max}
+use Rattle.std.proofs.Common.{◌≡◌, ◌⊎◌, inl, inr, ℕ, suc, ◌+◌, ◌*◌, ◌<◌, ℤ, pos, ◌+ℤ◌, ◌*ℤ◌, ◌≤ℤ◌, arith}
+use Rattle.std.specs.Int.{int_max, int_min}
 use Rattle.std.proofs.lemmas.Int.{ints, clamps, by_lt_z}
 use Rattle.std.proofs.Math.Nat.{mul-le-mul_left}
 use borrow.Author.Differences.{up, down, product_is, le_out, lt_out}
-use Rattle.dp_laws.proofs.Ring.{zmul_comm}
+use Rattle.dp_laws.proofs.Ring.{zle_of, zle_trans, zmul_comm, zmul_le}
 
 pub le_total : (a b : ℤ) → (a ≤ℤ b) ⊎ (b ≤ℤ a)
 le_total a b = grind (arith, ints)
@@ -36,3 +36,13 @@ le_max_right a b = omega (arith, ints, clamps)
 
 pub max_le : (a b x : ℤ) → a ≤ℤ x → b ≤ℤ x → int_max a b ≤ℤ x
 max_le a b x p q = omega (arith, ints, clamps)
+
+pub mul_le_right : (n : ℕ) (a b : ℤ) → a ≤ℤ b → (a *ℤ pos n) ≤ℤ (b *ℤ pos n)
+mul_le_right n a b h = zle_trans _ _ _ (zle_of _ _ (zmul_comm a (pos n))) (zle_trans _ _ _ (zmul_le n a b h) (zle_of _ _ (zmul_comm (pos n) b)))
+
+-- the greater of two is one of them, and so is the smaller
+pub max_is_either : (a b : ℤ) → (int_max a b ≡ a) ⊎ (int_max a b ≡ b)
+max_is_either a b = elim (le_total a b) [ inl le ↦ inr (omega (arith, ints, clamps)) | inr le ↦ inl (omega (arith, ints, clamps)) ]
+
+pub min_is_either : (a b : ℤ) → (int_min a b ≡ a) ⊎ (int_min a b ≡ b)
+min_is_either a b = elim (le_total a b) [ inl le ↦ inl (omega (arith, ints, clamps)) | inr le ↦ inr (omega (arith, ints, clamps)) ]

@@ -1,20 +1,20 @@
 -- what a valid certificate claims is true
-use Rattle.std.proofs.Common.{◌≡◌, ℕ, zero, suc, ◌*◌, ◌<◌, Bool, true, ℤ, pos, ◌*ℤ◌, ◌≤ℤ◌, length, sym, ap, ◌∙◌, subst, arith}
+use Rattle.std.proofs.Common.{◌≡◌, ℕ, Bool, true, ℤ, pos, ◌*ℤ◌, ◌≤ℤ◌, length, sym, ap, ◌∙◌, subst}
 use Rattle.std.proofs.lemmas.List.{length-map}
-use Rattle.std.proofs.Math.Nat.{one-le-pow}
 use Rattle.dp_spec.specs.declared.span.Span.{Span}
-use Rattle.dp_laws.proofs.Checker.{checked_sound}
-use Rattle.dp_laws.proofs.ExactLaws.{exact_sound}
+use Rattle.dp_laws.proofs.FittingTrees.{fitting_root_bounds}
+use Rattle.dp_laws.proofs.ExactArithmetic.{exact_sound}
 use Rattle.dp_laws.proofs.Order.{equal_of_le, le_of_mul_le_right}
 use Rattle.dp_laws.proofs.Leaves.{greatest_leaf-at_most, greatest_leaf_below}
 use Rattle.dp_laws.proofs.Modes.{arithmetic_sound, low_reads, mode_unit}
+use Rattle.dp_laws.proofs.Scales.{value_scale_positive}
 use Rattle.dp_laws.proofs.QuantityLaws.{worth_enclosed}
 use Rattle.dp_spec.specs.BoundTree.{LeavesAtMost}
 use Rattle.dp_spec.specs.Certificate.{Certificate, IsValid, arithmetic_for}
 use Rattle.dp_spec.specs.Claims.{BoundsEveryPolicy, ClaimsHold, IsOptimal}
 use Rattle.dp_spec.specs.Enclosure.{enclosure, equality}
 use Rattle.dp_spec.specs.Arithmetic.{arithmetic, exact}
-use Rattle.dp_spec.specs.Model.{IsModel, Model, step_scale, value_scale}
+use Rattle.dp_spec.specs.Model.{IsModel, Model, value_scale}
 use Rattle.dp_spec.specs.Qualities.{IsClosed}
 use Rattle.dp_spec.specs.Quantities.{forward_worth_in}
 use Rattle.dp_spec.specs.Steps.{root_agent, root_front}
@@ -27,7 +27,7 @@ unit_of_valid m c v = ap (λ (n : ℕ). pos n) (sym (mode_unit m c.horizon c.is_
 bounds_every_policy : (m : Model) (c : Certificate) → IsModel m → IsValid m c → (u : ℤ) → LeavesAtMost u c.tree → BoundsEveryPolicy m c.horizon c.unit u
 bounds_every_policy m c is v u below =
     subst (λ (z : ℤ). BoundsEveryPolicy m c.horizon z u) (unit_of_valid m c v)
-    (checked_sound (arithmetic_for m c) (enclosure c.is_exact) m is (arithmetic_sound m is c.is_exact) c.horizon c.look c.tree u v.tree below)
+    (fitting_root_bounds (arithmetic_for m c) (enclosure c.is_exact) m is (arithmetic_sound m is c.is_exact) c.horizon c.look c.tree u v.tree below)
 
 -- no joint policy is worth more than the upper end
 upper_bounds : (m : Model) (c : Certificate) → IsModel m → IsValid m c → BoundsEveryPolicy m c.horizon c.unit c.upper
@@ -53,17 +53,6 @@ lower_is_value m c v e =
     v.lower
     ∙ ap (λ (t : Bool). (forward_worth_in (arithmetic t m.scales) m c.horizon c.policy).low) e
     ∙ ap (λ (s : Span). s.low) (worth_enclosed m (exact m.scales) equality (exact_sound m) c.horizon c.policy)
-
-product_positive : (a b : ℕ) → 0 < a → 0 < b → 0 < a * b
-product_positive zero b p q = absurd (omega arith)
-product_positive (suc a) zero p q = absurd (omega arith)
-product_positive (suc a) (suc b) p q = omega arith
-
-pub value_scale_positive : (m : Model) (h : ℕ) → IsModel m → 0 < value_scale m h
-unfolding value_scale step_scale
-value_scale_positive m h is =
-    product_positive _ _ is.scales.start
-    (product_positive _ _ is.scales.reward (one-le-pow h _ (product_positive _ _ (product_positive _ _ is.scales.trans is.scales.obs) is.scales.discount)))
 
 exact_unit : (m : Model) (c : Certificate) → IsValid m c → c.is_exact ≡ true → c.unit ≡ pos (value_scale m c.horizon)
 exact_unit m c v e = sym (unit_of_valid m c v) ∙ ap (λ (t : Bool). pos ((enclosure t).unit (value_scale m c.horizon))) e

@@ -1,7 +1,7 @@
 ghost use Rattle.dp_laws.specs.ArithmeticLaws.{ExactArithmeticIsSound, OutwardArithmeticIsSound, ArithmeticIsSound, ExactArithmeticGivesTheNumbers, OutwardArithmeticEnclosesTheNumbers, ArithmeticEnclosesTheNumbers, RecursionGivesForwardWorth};
 
 /// Each operation of the exact arithmetic gives the true number.
-#[tactic(auto, using(crate::proofs::ExactLaws::exact_sound))]
+#[tactic(auto, using(crate::proofs::ExactArithmetic::exact_sound))]
 pub fn exact_arithmetic_is_sound()
     ensures { ExactArithmeticIsSound }
 {}
@@ -37,7 +37,7 @@ pub fn arithmetic_encloses_the_numbers()
 
 /// In any arithmetic the recursion that pushes weights forwards along the trees gives the
 /// forward worth.
-#[tactic(auto, using(crate::proofs::Recursion::pushed_worth))]
+#[tactic(auto, using(crate::proofs::Recursion::recursive_worth_is_forward))]
 pub fn recursion_gives_forward_worth()
     ensures { RecursionGivesForwardWorth }
 {}
