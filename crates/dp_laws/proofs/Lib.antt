@@ -1,6 +1,5 @@
 pub mod Best
 pub mod CertificateTexts
-pub mod ClassLists
 pub mod ClassValue
 pub mod EnclosedQuantities
 pub mod ExactArithmetic
