@@ -13,9 +13,9 @@ use Rattle.dp_spec.specs.PolicyTree.{IsJointPolicy, IsPolicyTree, PolicyTree, ro
 use Rattle.dp_spec.specs.Steps.{IsUnassigned, advanced_agents, advanced_if, front_after_choice, is_complete, root_agent, with_choice}
 
 -- both parts of a true conjunction
-pub both_true : (a b : Bool) → a && b ≡ true → (a ≡ true) × (b ≡ true)
-both_true true b h = (refl, h)
-both_true false b h = cc
+pub parts_of_true : (a b : Bool) → a && b ≡ true → (a ≡ true) × (b ≡ true)
+parts_of_true true b h = (refl, h)
+parts_of_true false b h = cc
 
 -- after the choice of what the tree of a class does
 pub choice_follows : {f r : ℕ} {bs ns : List ℕ} {ds : List AgentFront} {qs : List PolicyTree} {uss : List (ℕ → PolicyTree)} → FollowsAgentFronts f r bs ns ds qs uss → (i c a : ℕ) → IsUnassigned i c ds → root_action (tree_for i uss c) ≡ a → FollowsAgentFronts f r bs ns (with_choice i c a ds) qs uss
@@ -27,7 +27,7 @@ choice_follows (and_agent k ks) (suc i) c a free e = and_agent k (choice_follows
 pub advance_follows : {f r : ℕ} {bs ns : List ℕ} {ds : List AgentFront} {qs : List PolicyTree} {uss : List (ℕ → PolicyTree)} → FollowsAgentFronts f (suc r) bs ns ds qs uss → is_complete ds ≡ true → (uss' : List (ℕ → PolicyTree)) × FollowsAgentFronts (suc f) r bs ns (advanced_agents ns f ds) qs uss'
 advance_follows no_agents all = ([], no_agents)
 advance_follows (and_agent {n = n} {us = us} k ks) all =
-    let both = both_true _ _ all in
+    let both = parts_of_true _ _ all in
     let more = advance_follows ks both.1 in
     ((λ c. subtree (us (c / n)) (c % n)) ∷ more.0, and_agent (advanced_side _ _ _ _ _ _ us k both.0) more.1)
 
