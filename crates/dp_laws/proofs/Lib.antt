@@ -1,6 +1,7 @@
 pub mod Best
 pub mod CertificateTexts
 pub mod ClassValue
+pub mod EmptyClasses
 pub mod EnclosedQuantities
 pub mod ExactArithmetic
 pub mod FittingTrees

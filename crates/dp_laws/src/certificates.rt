@@ -1,10 +1,16 @@
-ghost use Rattle.dp_laws.specs.CertificateLaws.{ValidCertificatesHold, LowerEndIsTheValue, ClosedCertificatesAreOptimal};
+ghost use Rattle.dp_laws.specs.CertificateLaws.{ValidCertificatesHold, EndsAreInOrder, LowerEndIsTheValue, ClosedCertificatesAreOptimal};
 
 /// The true value of a valid certificate's policy lies in its interval, and no joint policy is
 /// worth more than its upper end, in both modes and with merges.
 #[tactic(auto, using(crate::proofs::ValidCertificates::claims_hold))]
 pub fn valid_certificates_hold()
     ensures { ValidCertificatesHold }
+{}
+
+/// The lower end of a valid certificate is at most its upper end.
+#[tactic(auto, using(crate::proofs::ValidCertificates::ends_in_order))]
+pub fn ends_are_in_order()
+    ensures { EndsAreInOrder }
 {}
 
 /// In exact mode the lower end of a valid certificate is the value of its policy.
