@@ -8,6 +8,7 @@ pub mod Forward
 pub mod Gain
 pub mod Graft
 pub mod Holds
+pub mod Keeping
 pub mod KeepsAllAgents
 pub mod Look
 pub mod MergeSide
@@ -15,7 +16,6 @@ pub mod Merging
 pub mod OneStep
 pub mod OutwardLaws
 pub mod OwnHistories
-pub mod Pairs
 pub mod Recursion
 pub mod RecursiveWorth
 pub mod Results
