@@ -20,7 +20,9 @@ pub mod Recursion
 pub mod RecursiveWorth
 pub mod Results
 pub mod Ring
+pub mod RootFront
 pub mod Sound
 pub mod StepSides
 pub mod Sums
+pub mod TreeActions
 pub mod Trees
