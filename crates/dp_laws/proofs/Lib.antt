@@ -5,11 +5,14 @@ pub mod ClassLists
 pub mod ExactLaws
 pub mod Floors
 pub mod Forward
+pub mod FullPolicies
 pub mod Gain
 pub mod Graft
 pub mod Holds
 pub mod Keeping
 pub mod KeepsAllAgents
+pub mod KeptActions
+pub mod KeptValue
 pub mod Look
 pub mod MergeSide
 pub mod Merging

@@ -1,7 +1,7 @@
 -- what the arithmetics come to
 use Rattle.std.proofs.Common.{◌≡◌, ℕ, ◌+◌, ◌*◌, ◌^◌, ◌<◌, ℤ, pos, ◌*ℤ◌, ◌≤ℤ◌, List, sym, subst, arith}
 use Rattle.dp_spec.specs.declared.span.Span.{Span}
-use Rattle.dp_laws.proofs.RecursiveWorth.{full_worth}
+use Rattle.dp_laws.proofs.RecursiveWorth.{value_is_earned}
 use Rattle.dp_laws.proofs.ExactLaws.{exact_sound}
 use Rattle.dp_laws.proofs.OutwardLaws.{outward_sound}
 use Rattle.dp_laws.proofs.Holds.{weight_holds, earned_holds, class_holds, table_holds, tail_holds, action_holds, bound_holds}
@@ -21,7 +21,7 @@ use Rattle.dp_spec.specs.Value.{joint_root_action, policy_value}
 pub worth_holds : (m : Model) (A : Arithmetic) (R : Enclosure) → IsSound m A R → (h : ℕ) (qs : List PolicyTree) → R.Earns (value_scale m h) (policy_value m h qs) (forward_worth_in A m h qs)
 unfolding forward_worth_in
 worth_holds m A R ok h qs =
-    subst (λ (x : ℤ). R.Earns (value_scale m h) x (earned_reward_in A m (λ H. joint_root_action m (trees_after_history m qs H)) h h)) (sym (full_worth m h qs))
+    subst (λ (x : ℤ). R.Earns (value_scale m h) x (earned_reward_in A m (λ H. joint_root_action m (trees_after_history m qs H)) h h)) (sym (value_is_earned m h qs))
     (earned_holds m A R ok (λ H. joint_root_action m (trees_after_history m qs H)) h h (omega arith))
 
 -- ---- in exact arithmetic
