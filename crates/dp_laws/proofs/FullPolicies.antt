@@ -1,7 +1,6 @@
 -- A full front is kept by exactly one joint policy.
 use Rattle.std.proofs.Common.{◌≡◌, ℕ, ◌<◌, List, [], get_or, None, refl, sym, ◌∙◌, subst, arith}
-use Rattle.std.proofs.Math.Nat.{pow-zero}
-use Rattle.dp_laws.proofs.TreeActions.{does-tree_doing, equal_by_actions, is-tree_doing, tree_at-tree_doing}
+use Rattle.dp_laws.proofs.TreeActions.{does-tree_doing, equal_by_actions, tree_at-tree_doing, tree_of_actions}
 use Rattle.dp_spec.specs.Front.{AgentFront, Front}
 use Rattle.dp_spec.specs.FullPolicy.{full_policy, tree_doing, trees_doing_fixed}
 use Rattle.dp_spec.specs.Keeping.{KeepAgentFronts, KeepsAgentFront, KeepsFront}
@@ -16,10 +15,10 @@ use Rattle.dp_spec.specs.WellFormed.AreAgentFronts.{and_agent as and_front, no_a
 abbrev fixed_at : AgentFront → ℕ → ℕ → ℕ
 fixed_at d t x = get_or (get_or d.fixed t []) x 0
 
-full_tree : (b n f : ℕ) (d : AgentFront) → IsAgentFront b n f d → IsPolicyTree b n f (tree_doing n (fixed_at d) f 0 0)
-full_tree b n f d front = is-tree_doing b n f (fixed_at d) front.fixed_below f 0 0 (omega arith) (omega (arith, pow-zero n))
+full_tree : (b n f : ℕ) (d : AgentFront) → IsAgentFront b n f d → IsPolicyTree b n f (tree_doing n (fixed_at d) f)
+full_tree b n f d front = (tree_of_actions b n f (fixed_at d) front.fixed_below).0
 
-full_tree_keeps : (n f : ℕ) (d : AgentFront) → ((c : ℕ) → get_or d.chosen c None ≡ None) → KeepsAgentFront n f d (tree_doing n (fixed_at d) f 0 0)
+full_tree_keeps : (n f : ℕ) (d : AgentFront) → ((c : ℕ) → get_or d.chosen c None ≡ None) → KeepsAgentFront n f d (tree_doing n (fixed_at d) f)
 full_tree_keeps n f d none = record {
   does_fixed = does-tree_doing n (fixed_at d) f;
   alike = λ x y p s e. tree_at-tree_doing n (fixed_at d) f 0 f x (omega arith) p ∙ sym (tree_at-tree_doing n (fixed_at d) f 0 f y (omega arith) s);

@@ -2,8 +2,9 @@
 use Rattle.std.proofs.Common.{◌≡◌, ℕ, zero, suc, ◌+◌, ◌*◌, ◌-◌, ◌/◌, ◌%◌, ◌^◌, ◌<◌, refl, sym, ap, ◌∙◌, arith}
 use Rattle.std.proofs.Math.Nat.{pow-suc, pow-zero}
 use Rattle.std.proofs.lemmas.Nat.{div-mul-add, mod-mul-add, mod_below}
-use Rattle.dp_laws.proofs.Trees.{kid_is, part_below, pos_of, row_below}
-use Rattle.dp_spec.specs.FullPolicy.{tree_doing, trees_from}
+use Rattle.dp_laws.proofs.Keeping.{tree_at_fits}
+use Rattle.dp_laws.proofs.Trees.{kid_is, part_below, pos_of, root_in, row_below}
+use Rattle.dp_spec.specs.FullPolicy.{tree_doing, tree_doing_after, trees_from}
 use Rattle.dp_spec.specs.Keeping.{tree_at}
 use Rattle.dp_spec.specs.PolicyTree.{ArePolicyTrees, IsPolicyTree, PolicyTree, PolicyTrees, more_trees, no_trees, node, nth_tree, root_action, subtree}
 
@@ -71,18 +72,18 @@ next_below : (n t x o : ℕ) → x < n ^ t → o < n → x * n + o < n ^ suc t
 next_below n t x o h p = rw pow-suc (row_below x (n ^ t) n o h p)
 
 -- it is a tree where the actions exist
-pub is-tree_doing : (b n h : ℕ) (act : ℕ → ℕ → ℕ) → ((t x : ℕ) → t < h → x < n ^ t → act t x < b) → (r t x : ℕ) → t + r ≡ h → x < n ^ t → IsPolicyTree b n r (tree_doing n act r t x)
-is-tree_doing b n h act below zero t x e u = tt
-is-tree_doing b n h act below (suc zero) t x e u = (below t x (omega arith) u, refl)
-is-tree_doing b n h act below (suc (suc r)) t x e u =
-    (below t x (omega arith) u, are-trees_from b n (suc r) n _ (λ o p. is-tree_doing b n h act below (suc r) (suc t) (x * n + o) (omega arith) (next_below n t x o u p)))
+pub is-tree_doing_after : (b n h : ℕ) (act : ℕ → ℕ → ℕ) → ((t x : ℕ) → t < h → x < n ^ t → act t x < b) → (r t x : ℕ) → t + r ≡ h → x < n ^ t → IsPolicyTree b n r (tree_doing_after n act r t x)
+is-tree_doing_after b n h act below zero t x e u = tt
+is-tree_doing_after b n h act below (suc zero) t x e u = (below t x (omega arith) u, refl)
+is-tree_doing_after b n h act below (suc (suc r)) t x e u =
+    (below t x (omega arith) u, are-trees_from b n (suc r) n _ (λ o p. is-tree_doing_after b n h act below (suc r) (suc t) (x * n + o) (omega arith) (next_below n t x o u p)))
 
-subtree-tree_doing : (n : ℕ) (act : ℕ → ℕ → ℕ) (r t x o : ℕ) → o < n → subtree (tree_doing n act (suc r) t x) o ≡ tree_doing n act r (suc t) (x * n + o)
-subtree-tree_doing n act zero t x o p = refl
-subtree-tree_doing n act (suc r) t x o p = nth-trees_from n _ o p
+subtree-tree_doing_after : (n : ℕ) (act : ℕ → ℕ → ℕ) (r t x o : ℕ) → o < n → subtree (tree_doing_after n act (suc r) t x) o ≡ tree_doing_after n act r (suc t) (x * n + o)
+subtree-tree_doing_after n act zero t x o p = refl
+subtree-tree_doing_after n act (suc r) t x o p = nth-trees_from n _ o p
 
 -- what remains of it after an own history
-pub tree_at-tree_doing : (n : ℕ) (act : ℕ → ℕ → ℕ) (t r h x : ℕ) → t + r ≡ h → x < n ^ t → tree_at n (tree_doing n act h 0 0) t x ≡ tree_doing n act r t x
+pub tree_at-tree_doing : (n : ℕ) (act : ℕ → ℕ → ℕ) (t r h x : ℕ) → t + r ≡ h → x < n ^ t → tree_at n (tree_doing n act h) t x ≡ tree_doing_after n act r t x
 tree_at-tree_doing n act zero r h x e u =
     let e' : h ≡ r = omega arith in
     let x' : x ≡ 0 = under_one n x u in rw (e', x')
@@ -90,13 +91,22 @@ tree_at-tree_doing n act (suc t) r h x e u =
     let u' : x < n ^ t * n = rw pow-suc at u in
     let place : x / n * n + x % n ≡ x = omega arith in
     ap (λ z. subtree z (x % n)) (tree_at-tree_doing n act t (suc r) h (x / n) (omega arith) (part_below (n ^ t) n x u'))
-    ∙ subtree-tree_doing n act r t (x / n) (x % n) (mod_below x n (pos_of (n ^ t) n x u'))
-    ∙ ap (tree_doing n act r (suc t)) place
+    ∙ subtree-tree_doing_after n act r t (x / n) (x % n) (mod_below x n (pos_of (n ^ t) n x u'))
+    ∙ ap (tree_doing_after n act r (suc t)) place
 
-root-tree_doing : (n : ℕ) (act : ℕ → ℕ → ℕ) (r t x : ℕ) → root_action (tree_doing n act (suc r) t x) ≡ act t x
-root-tree_doing n act zero t x = refl
-root-tree_doing n act (suc r) t x = refl
+root-tree_doing_after : (n : ℕ) (act : ℕ → ℕ → ℕ) (r t x : ℕ) → root_action (tree_doing_after n act (suc r) t x) ≡ act t x
+root-tree_doing_after n act zero t x = refl
+root-tree_doing_after n act (suc r) t x = refl
 
 -- it does the actions
-pub does-tree_doing : (n : ℕ) (act : ℕ → ℕ → ℕ) (h t x : ℕ) → t < h → x < n ^ t → root_action (tree_at n (tree_doing n act h 0 0) t x) ≡ act t x
-does-tree_doing n act h t x p u = ap root_action (tree_at-tree_doing n act t (suc (h - suc t)) h x (omega arith) u) ∙ root-tree_doing n act (h - suc t) t x
+pub does-tree_doing : (n : ℕ) (act : ℕ → ℕ → ℕ) (h t x : ℕ) → t < h → x < n ^ t → root_action (tree_at n (tree_doing n act h) t x) ≡ act t x
+does-tree_doing n act h t x p u = ap root_action (tree_at-tree_doing n act t (suc (h - suc t)) h x (omega arith) u) ∙ root-tree_doing_after n act (h - suc t) t x
+
+-- the tree of given actions is a tree and does them
+pub tree_of_actions : (b n r : ℕ) (act : ℕ → ℕ → ℕ) → ((t x : ℕ) → t < r → x < n ^ t → act t x < b) →
+    IsPolicyTree b n r (tree_doing n act r) × ((t x : ℕ) → t < r → x < n ^ t → root_action (tree_at n (tree_doing n act r) t x) ≡ act t x)
+tree_of_actions b n r act below = (is-tree_doing_after b n r act below r 0 0 (omega arith) (omega (arith, pow-zero n)), does-tree_doing n act r)
+
+-- a tree of r steps does actions of its agent after each own history shorter than r
+pub action_below : (b n r : ℕ) (q : PolicyTree) → IsPolicyTree b n r q → (t x : ℕ) → t < r → x < n ^ t → root_action (tree_at n q t x) < b
+action_below b n r q tree t x p u = root_in b n (r - suc t) (tree_at n q t x) (tree_at_fits b n q t (suc (r - suc t)) r x (omega arith) u tree)

@@ -1,1 +1,5 @@
 pub mod Following
+pub mod TreeLaws
+pub mod RootFrontLaws
+pub mod ForwardLaws
+pub mod FullFrontLaws

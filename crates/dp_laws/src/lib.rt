@@ -1,2 +1,16 @@
 //! The theorems about the definitions of `dp_spec`, each the clause of a public function.
 #![tactic(auto)]
+
+mod forward_values;
+mod full_fronts;
+mod policy_trees;
+mod root_fronts;
+
+pub use forward_values::{value_is_earned, value_is_earned_and_remaining};
+pub use full_fronts::{
+    full_front_earns_the_value, full_front_has_one_policy, full_policy_keeps_its_front,
+};
+pub use policy_trees::{
+    actions_are_of_the_agent, tree_of_any_actions_exists, trees_with_equal_actions_are_equal,
+};
+pub use root_fronts::{every_policy_keeps_the_root_front, root_front_is_well_formed};
