@@ -28,4 +28,5 @@ pub mod Sound
 pub mod StepSides
 pub mod Sums
 pub mod TreeActions
+pub mod TreeDepth
 pub mod Trees

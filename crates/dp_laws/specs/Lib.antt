@@ -3,3 +3,4 @@ pub mod TreeLaws
 pub mod RootFrontLaws
 pub mod ForwardLaws
 pub mod FullFrontLaws
+pub mod TreeDepthLaws

@@ -5,6 +5,7 @@ mod forward_values;
 mod full_fronts;
 mod policy_trees;
 mod root_fronts;
+mod tree_depth;
 
 pub use forward_values::{value_is_earned, value_is_earned_and_remaining};
 pub use full_fronts::{
@@ -14,3 +15,4 @@ pub use policy_trees::{
     actions_are_of_the_agent, tree_of_any_actions_exists, trees_with_equal_actions_are_equal,
 };
 pub use root_fronts::{every_policy_keeps_the_root_front, root_front_is_well_formed};
+pub use tree_depth::{paths_are_within_own_histories, paths_of_valid_trees_are_short};
