@@ -1,6 +1,7 @@
 pub mod AtScales
 pub mod Best
 pub mod Checker
+pub mod ClassCounts
 pub mod ClassLists
 pub mod ExactLaws
 pub mod Floors

@@ -1,10 +1,12 @@
--- On a path of a tree that fits the root front there are at most as many inner nodes as own histories.
+-- On a path of a tree that fits a front there are at most as many inner nodes as own histories.
 -- Each choice and each merge leaves one unassigned class less, and an advance opens at most one class for each own history of the next length.
-use Rattle.std.proofs.Common.{◌≡◌, ◌⊎◌, inl, inr, ℕ, zero, suc, ◌+◌, ◌-◌, ◌*◌, ◌^◌, ◌<◌, ◌≤◌, Bool, true, false, ◌&&◌, ℤ, List, [], ◌∷◌, map, length, get_or, set, Option, Some, None, refl, ap, arith}
+use Rattle.std.proofs.Common.{◌≡◌, ◌⊎◌, inl, inr, ℕ, zero, suc, ◌+◌, ◌-◌, ◌*◌, ◌^◌, ◌<◌, ◌≤◌, Bool, true, false, ◌&&◌, ℤ, List, [], ◌∷◌, length, get_or, set, Option, Some, None, refl, ap, arith}
 use Rattle.std.proofs.lemmas.List.{length-replicate}
 use Rattle.std.proofs.Math.ListN.{length-set}
-use Rattle.std.proofs.Math.Nat.{mul-le-mul_right, pow-suc, pow-zero}
+use Rattle.std.proofs.Math.Nat.{mul-le-mul_right, pow-suc}
+use Rattle.dp_laws.proofs.ClassCounts.{classes_within_histories}
 use Rattle.dp_laws.proofs.MergeSide.{length-without}
+use Rattle.dp_laws.proofs.RootFront.{root_is_front}
 use Rattle.dp_spec.specs.Arithmetic.{Arithmetic}
 use Rattle.dp_spec.specs.BoundTree.{BoundTree, BoundTrees, branch, depth_of, greatest_depth, leaf, merge, more_bound_trees, no_bound_trees}
 use Rattle.dp_spec.specs.Certificate.{Certificate, FitsRoot, IsValid, arithmetic_for}
@@ -13,7 +15,9 @@ use Rattle.dp_spec.specs.Front.{AgentFront, Front}
 use Rattle.dp_spec.specs.Merge.{merged_agents, merged_front, without}
 use Rattle.dp_spec.specs.Mode.{own_history_count}
 use Rattle.dp_spec.specs.Model.{IsModel, Model}
-use Rattle.dp_spec.specs.Steps.{IsUnassigned, advanced_agent, advanced_agents, advanced_if, all_chosen, chosen_front, front_after_choice, is_complete, root_agent, root_front, with_choice}
+use Rattle.dp_spec.specs.Steps.{IsUnassigned, advanced_agent, advanced_agents, advanced_if, all_chosen, chosen_front, front_after_choice, is_complete, root_front, with_choice}
+use Rattle.dp_spec.specs.WellFormed.{AreAgentFronts, IsFront}
+use Rattle.dp_spec.specs.WellFormed.AreAgentFronts.{and_agent, no_agents}
 
 -- ---- how many classes have no action
 abbrev none_count : List (Option ℕ) → ℕ
@@ -173,21 +177,23 @@ mutual
       let rest = trees_depth A m h look Ts F i c (suc a) cap fits.1 free lt w in
       omega (arith, first, rest)
 
-root_within : (bs ns : List ℕ) → length ns ≡ length bs → ClassesWithin 0 ns (map (λ n. root_agent) bs)
-root_within [] ns e = tt
-root_within (b ∷ bs) [] e = absurd (omega arith)
-root_within (b ∷ bs) (n ∷ ns) e = (omega (arith, pow-zero n), root_within bs ns (omega arith))
+fronts_within : {f : ℕ} {bs ns : List ℕ} {ds : List AgentFront} → AreAgentFronts f bs ns ds → ClassesWithin f ns ds
+fronts_within no_agents = tt
+fronts_within {f} (and_agent {b = b} {n = n} {d = d} front fronts) = (classes_within_histories b n f d front, fronts_within fronts)
 
--- a path of a tree that fits the root front has at most as many inner nodes as there are own histories shorter than the horizon
-pub root_depth : (A : Arithmetic) (m : Model) (h look : ℕ) (T : BoundTree) → IsModel m → FitsRoot A m h look T → depth_of T ≤ own_history_count m.observations h
-unfolding root_front
-root_depth A m h look T model fits =
+-- a path of a tree that fits a well-formed front has at most as many inner nodes as there are own histories from the stage on
+pub depth_below : (A : Arithmetic) (m : Model) (h look : ℕ) (T : BoundTree) (F : Front) (cap : ℤ) → IsFront m h F → FitsFront A m h look T F cap → depth_of T + own_history_count m.observations F.stage ≤ own_history_count m.observations h
+depth_below A m h look T F cap front fits =
     let ns = m.observations in
-    let w = root_within m.actions ns model.sizes.alike in
-    elim (less_or_not 0 h) [
-      | inl lt ↦ omega (arith, tree_depth A m h look T (root_front m) _ fits lt w, unassigned_within 0 ns (map (λ n. root_agent) m.actions) w, shorter_histories ns 0)
-      | inr le ↦ omega (arith, no_inner_node A m h look T (root_front m) _ fits le)
+    let w = fronts_within front.agents in
+    elim (less_or_not F.stage h) [
+      | inl lt ↦ omega (arith, tree_depth A m h look T F cap fits lt w, unassigned_within F.stage ns F.agents w, shorter_histories ns F.stage)
+      | inr le ↦ omega (arith, no_inner_node A m h look T F cap fits le, history_count-le ns F.stage (h - F.stage) h (omega (arith, front.stage_limit)))
     ]
+
+-- a path of a tree that fits the root front has at most as many inner nodes as there are own histories
+pub root_depth : (A : Arithmetic) (m : Model) (h look : ℕ) (T : BoundTree) → IsModel m → FitsRoot A m h look T → depth_of T ≤ own_history_count m.observations h
+root_depth A m h look T model fits = omega (arith, depth_below A m h look T (root_front m) _ (root_is_front m h model) fits)
 
 -- so a path of a valid certificate's tree has at most 2048 inner nodes
 pub valid_depth : (m : Model) (c : Certificate) → IsModel m → IsValid m c → depth_of c.tree ≤ 2048

@@ -4,3 +4,4 @@ pub mod RootFrontLaws
 pub mod ForwardLaws
 pub mod FullFrontLaws
 pub mod TreeDepthLaws
+pub mod ClassCountLaws
