@@ -149,7 +149,7 @@ root_side_keeps b n h q fits = record {
   of_stage = refl;
 }
 
-pub root_keeps : {h : ℕ} {bs ns : List ℕ} {qs : List PolicyTree} → IsJointPolicy h bs ns qs → (uss : List (ℕ → PolicyTree)) × FollowsAgentFronts 0 h bs ns (map (λ n. root_agent) bs) qs uss
+root_keeps : {h : ℕ} {bs ns : List ℕ} {qs : List PolicyTree} → IsJointPolicy h bs ns qs → (uss : List (ℕ → PolicyTree)) × FollowsAgentFronts 0 h bs ns (map (λ n. root_agent) bs) qs uss
 root_keeps no_policies = ([], no_agents)
 root_keeps (and_policy {b = b} {n = n} {q = q} fits more) = let rest = root_keeps more in ((λ c. q) ∷ rest.0, and_agent (root_side_keeps b n _ q fits) rest.1)
 

@@ -47,15 +47,16 @@ parts-joint (n ∷ ns) (p ∷ ps) h =
     let rest : (p * product ns + joint_number ns ps) % product ns ≡ joint_number ns ps = mod-mul-add p (product ns) (joint_number ns ps) lt in
     rw (first, rest, parts-joint ns ps h.1)
 
-step_in : (x n t p : ℕ) → x < n ^ t → p < n → x * n + p < n ^ suc t
-step_in x n t p h g = rw pow-suc (row_below x (n ^ t) n p h g)
+-- an own history one step longer is a number below the next power
+pub next_history_below : (x n t p : ℕ) → x < n ^ t → p < n → x * n + p < n ^ suc t
+next_history_below x n t p h g = rw pow-suc (row_below x (n ^ t) n p h g)
 
 next_within : (ns : List ℕ) (t : ℕ) (xs ps : List ℕ) → Within ns t xs → Below ns ps → Within ns (suc t) (next_own_histories ns xs ps)
 next_within [] t [] ps h g = tt
 next_within [] t (x ∷ xs) ps h g = absurd h
 next_within (n ∷ ns) t [] ps h g = absurd h
 next_within (n ∷ ns) t (x ∷ xs) [] h g = absurd g
-next_within (n ∷ ns) t (x ∷ xs) (p ∷ ps) h g = (step_in x n t p h.0 g.0, next_within ns t xs ps h.1 g.1)
+next_within (n ∷ ns) t (x ∷ xs) (p ∷ ps) h g = (next_history_below x n t p h.0 g.0, next_within ns t xs ps h.1 g.1)
 
 none_within : (ns : List ℕ) → Within ns zero (map (λ n. 0) ns)
 none_within [] = tt

@@ -1,11 +1,11 @@
 -- The root front is well formed, and every joint policy keeps it.
 use Rattle.std.proofs.Common.{◌≡◌, ℕ, zero, suc, List, [], ◌∷◌, map, length, get_or, None, refl, sym, arith}
 use Rattle.std.proofs.Math.Nat.{pow-zero}
-use Rattle.dp_laws.proofs.Checker.{root_keeps}
-use Rattle.dp_laws.proofs.Keeping.{keep_agents}
-use Rattle.dp_spec.specs.Keeping.{KeepsFront}
+use Rattle.dp_spec.specs.Keeping.{KeepAgentFronts, KeepsAgentFront, KeepsFront}
+use Rattle.dp_spec.specs.Keeping.KeepAgentFronts.{and_agent as and_keeps, no_agents as none_keep}
 use Rattle.dp_spec.specs.Model.{IsModel, Model}
-use Rattle.dp_spec.specs.PolicyTree.{IsPolicyOf, PolicyTree}
+use Rattle.dp_spec.specs.PolicyTree.{IsJointPolicy, IsPolicyOf, PolicyTree}
+use Rattle.dp_spec.specs.PolicyTree.IsJointPolicy.{and_agent as and_policy, no_agents as no_policies}
 use Rattle.dp_spec.specs.Steps.{root_agent, root_front}
 use Rattle.dp_spec.specs.WellFormed.{AreAgentFronts, IsAgentFront, IsFront, NoneChosen}
 use Rattle.dp_spec.specs.WellFormed.AreAgentFronts.{and_agent, no_agents}
@@ -50,7 +50,18 @@ root_is_front m h model = record {
   none_at_end = λ e. nothing_chosen m.actions;
 }
 
+root_agent_keeps : (n : ℕ) (q : PolicyTree) → KeepsAgentFront n 0 root_agent q
+root_agent_keeps n q = record {
+  does_fixed = λ t x p u. absurd (omega arith);
+  alike = λ x y p u e. refl;
+  does_chosen = λ x a p e. let none = none_chosen (get_or root_agent.class_of x 0) in cc;
+}
+
+root_agents_keep : {h : ℕ} {bs ns : List ℕ} {qs : List PolicyTree} → IsJointPolicy h bs ns qs → KeepAgentFronts 0 ns (map (λ n. root_agent) bs) qs
+root_agents_keep no_policies = none_keep
+root_agents_keep (and_policy {n = n} {q = q} tree trees) = and_keeps (root_agent_keeps n q) (root_agents_keep trees)
+
 -- every joint policy keeps the root front
 pub policy_keeps_root : (m : Model) (h : ℕ) (qs : List PolicyTree) → IsPolicyOf m h qs → KeepsFront m (root_front m) qs
 unfolding root_front
-policy_keeps_root m h qs policy = keep_agents (root_keeps policy).1
+policy_keeps_root m h qs policy = root_agents_keep policy

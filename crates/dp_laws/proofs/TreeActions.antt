@@ -3,6 +3,7 @@ use Rattle.std.proofs.Common.{◌≡◌, ℕ, zero, suc, ◌+◌, ◌*◌, ◌-�
 use Rattle.std.proofs.Math.Nat.{pow-suc, pow-zero}
 use Rattle.std.proofs.lemmas.Nat.{div-mul-add, mod-mul-add, mod_below}
 use Rattle.dp_laws.proofs.Keeping.{tree_at_fits}
+use Rattle.dp_laws.proofs.OwnHistories.{next_history_below}
 use Rattle.dp_laws.proofs.Trees.{kid_is, part_below, pos_of, root_in, row_below}
 use Rattle.dp_spec.specs.FullPolicy.{tree_doing, tree_doing_after, trees_from}
 use Rattle.dp_spec.specs.Keeping.{tree_at}
@@ -68,15 +69,12 @@ are-trees_from : (b n r c : ℕ) (g : ℕ → PolicyTree) → ((o : ℕ) → o <
 are-trees_from b n r zero g h = tt
 are-trees_from b n r (suc c) g h = (h 0 (omega arith), are-trees_from b n r c (λ o. g (suc o)) (λ o p. h (suc o) (omega arith)))
 
-next_below : (n t x o : ℕ) → x < n ^ t → o < n → x * n + o < n ^ suc t
-next_below n t x o h p = rw pow-suc (row_below x (n ^ t) n o h p)
-
 -- it is a tree where the actions exist
 pub is-tree_doing_after : (b n h : ℕ) (act : ℕ → ℕ → ℕ) → ((t x : ℕ) → t < h → x < n ^ t → act t x < b) → (r t x : ℕ) → t + r ≡ h → x < n ^ t → IsPolicyTree b n r (tree_doing_after n act r t x)
 is-tree_doing_after b n h act below zero t x e u = tt
 is-tree_doing_after b n h act below (suc zero) t x e u = (below t x (omega arith) u, refl)
 is-tree_doing_after b n h act below (suc (suc r)) t x e u =
-    (below t x (omega arith) u, are-trees_from b n (suc r) n _ (λ o p. is-tree_doing_after b n h act below (suc r) (suc t) (x * n + o) (omega arith) (next_below n t x o u p)))
+    (below t x (omega arith) u, are-trees_from b n (suc r) n _ (λ o p. is-tree_doing_after b n h act below (suc r) (suc t) (x * n + o) (omega arith) (next_history_below x n t o u p)))
 
 subtree-tree_doing_after : (n : ℕ) (act : ℕ → ℕ → ℕ) (r t x o : ℕ) → o < n → subtree (tree_doing_after n act (suc r) t x) o ≡ tree_doing_after n act r (suc t) (x * n + o)
 subtree-tree_doing_after n act zero t x o p = refl
