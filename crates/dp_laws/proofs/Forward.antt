@@ -1,3 +1,4 @@
+-- Sums over joint histories, and the value of a joint policy computed forwards.
 use Rattle.std.proofs.Common.{◌≡◌, ℕ, zero, suc, ◌+◌, ◌<◌, ℤ, pos, ◌+ℤ◌, ◌*ℤ◌, ◌≤ℤ◌, List, [], ◌∷◌, refl, sym, ap, ◌∙◌, arith}
 use Rattle.std.proofs.Math.IntN.{+ℤ_idl, +ℤ_assoc}
 use Rattle.dp_laws.proofs.Sums.{int_sum_ext, int_sum_le, int_sum_add, int_sum_swap}
@@ -25,7 +26,7 @@ pub int_history_sum_swap : (n t k : ℕ) (f : List ℕ → ℕ → ℤ) → int_
 int_history_sum_swap n zero k f = refl
 int_history_sum_swap n (suc t) k f = int_history_sum_ext n t _ _ (λ H p. int_sum_swap n k (λ o c. f (o ∷ H) c)) ∙ int_history_sum_swap n t k _
 
--- forward is backward: what is earned_reward before time f, and the weights against what remains
+-- forward is backward: what is earned before time f, and the weights against what remains
 pub forward : (m : Model) (act : List ℕ → ℕ) (qs : List PolicyTree) (h f r : ℕ) → f + r ≡ h →
     ((t : ℕ) (H : List ℕ) → t < f → IsJointHistory (joint_observations m) t H → joint_root_action m (trees_after_history m qs H) ≡ act H) →
     policy_value m h qs ≡ earned_reward m act h f +ℤ int_history_sum (joint_observations m) f (λ H. int_sum m.states (λ s. pos (history_weight m act H s) *ℤ backward_value m r s (trees_after_history m qs H)))

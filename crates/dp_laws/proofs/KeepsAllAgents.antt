@@ -1,8 +1,8 @@
-use Rattle.std.proofs.Common.{◌≡◌, ℕ, zero, suc, ◌<◌, true, List, [], ◌∷◌, map, get_or, Option, Some, None, refl, sym, ap, ◌∙◌, arith}
+use Rattle.std.proofs.Common.{◌≡◌, ℕ, zero, suc, true, List, [], ◌∷◌, map, get_or, Option, Some, None, refl, sym, ap, ◌∙◌, arith}
 use Rattle.std.proofs.lemmas.Bool.Decides.{nat_tests}
 use Rattle.dp_laws.proofs.OwnHistories.{Within, Below, parts_below, trees_at, kids_next}
 use Rattle.dp_spec.specs.Bound.{all_agree, agrees}
-use Rattle.dp_spec.specs.Front.{AgentFront, class_counts, fixed_actions, own_classes, own_histories}
+use Rattle.dp_spec.specs.Front.{AgentFront, class_counts, own_classes, own_histories}
 use Rattle.dp_spec.specs.JointHistory.{IsJointHistory, trees_after_history}
 use Rattle.dp_spec.specs.JointNumbers.{parts_of}
 use Rattle.dp_laws.specs.Following.{FollowsAgentFronts}
@@ -34,11 +34,6 @@ at_stage no_agents [] h = refl
 at_stage no_agents (x ∷ xs) h = refl
 at_stage (and_agent k ks) [] h = absurd h
 at_stage (and_agent k ks) (x ∷ xs) h = let here = k.remains x h.0 in rw (here, at_stage ks xs h.1)
-
-pub does : {f r : ℕ} {bs ns : List ℕ} {ds : List AgentFront} {qs : List PolicyTree} {uss : List (ℕ → PolicyTree)} → FollowsAgentFronts f r bs ns ds qs uss → (t : ℕ) (xs : List ℕ) → t < f → Within ns t xs → map root_action (trees_at ns qs t xs) ≡ fixed_actions ds t xs
-does no_agents t xs p h = refl
-does (and_agent k ks) t [] p h = absurd h
-does (and_agent k ks) t (x ∷ xs) p h = let here = k.does_fixed t x p h.0 in rw (here, does ks t xs p h.1)
 
 pub class_in : {f r : ℕ} {bs ns : List ℕ} {ds : List AgentFront} {qs : List PolicyTree} {uss : List (ℕ → PolicyTree)} → FollowsAgentFronts f r bs ns ds qs uss → (xs : List ℕ) → Within ns f xs → Below (class_counts ds) (own_classes ds xs)
 class_in no_agents xs h = tt

@@ -1,5 +1,6 @@
 pub mod Best
 pub mod CertificateTexts
+pub mod ClassCounts
 pub mod ClassValue
 pub mod EmptyClasses
 pub mod EnclosedQuantities
@@ -8,10 +9,13 @@ pub mod FittingTrees
 pub mod Floors
 pub mod FollowedSteps
 pub mod Forward
+pub mod FullPolicies
 pub mod Graft
 pub mod HistorySums
 pub mod Keeping
 pub mod KeepsAllAgents
+pub mod KeptActions
+pub mod KeptValue
 pub mod Leaves
 pub mod LineTexts
 pub mod Look
@@ -30,10 +34,13 @@ pub mod QuantityLaws
 pub mod Recursion
 pub mod RecursiveWorth
 pub mod Ring
+pub mod RootFront
 pub mod Scales
 pub mod Sound
 pub mod StepSides
 pub mod Sums
+pub mod TreeActions
+pub mod TreeDepth
 pub mod Trees
 pub mod ValidCertificates
 pub mod WholeTexts

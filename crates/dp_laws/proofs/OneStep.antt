@@ -22,7 +22,7 @@ pushed : (m : Model) (w : ℕ → ℕ) (a o t : ℕ) (x : ℤ) → pos (weights_
 unfolding weights_after
 pushed m w a o t x = sym (int_sum_weigh m.states _ x)
 
--- one step forwards from weights, whatever comes trees_after
+-- one step forwards from weights, whatever comes after
 pub one_step_to : (m : Model) (r : ℕ) (w : ℕ → ℕ) (a : ℕ) (N : ℕ → ℕ → ℤ) →
     int_sum m.states (λ s. pos (w s) *ℤ int_sum m.states (λ t. int_sum (joint_observations m) (λ o.
     pos (trans_at m a s t * obs_at m a t o) *ℤ (reward_at m a s t o *ℤ pos (m.scales.discount * step_scale m ^ r) +ℤ pos m.scales.gain *ℤ N t o))))
@@ -42,7 +42,7 @@ one_step_to m r w a N =
     ∙ ap (λ x. int_sum S (λ s. int_sum S (λ t. int_sum O (λ o. B s t o))) +ℤ x)
     (rotate S S O C ∙ ext_two O S _ _ (λ o t p q. sym (pushed m w a o t (N t o))))
 
--- one step forwards: weights against the value are the reward and the pushed weights against the value trees_after
+-- one step forwards: weights against the value are the reward and the pushed weights against the value after it
 pub one_step : (m : Model) (r : ℕ) (w : ℕ → ℕ) (qs : List PolicyTree) →
     int_sum m.states (λ s. pos (w s) *ℤ backward_value m (suc r) s qs)
     ≡ weighted_reward m r w (joint_root_action m qs) +ℤ int_sum (joint_observations m) (λ o. int_sum m.states (λ t. pos (weights_after m w (joint_root_action m qs) o t) *ℤ backward_value m r t (trees_after m qs o)))
@@ -62,7 +62,7 @@ step_le p g x n b h =
     let e : pos p *ℤ (x +ℤ pos g *ℤ n) ≡ pos p *ℤ x +ℤ pos (p * g) *ℤ n = by_ring (nat p ⊗ (v x ⊕ nat g ⊗ v n)) (nat p ⊗ v x ⊕ nat (p * g) ⊗ v n) (omega arith) in
     rw e (omega (arith, ints))
 
--- an action with something trees_after it that the table bounds
+-- an action with something after it that the table bounds
 pub step_le_table : (m : Model) → IsModel m → (r s a : ℕ) (N : ℕ → ℕ → ℤ) → s < m.states → a < joint_actions m → ((t o : ℕ) → t < m.states → o < joint_observations m → N t o ≤ℤ mdp_table m r t) →
     int_sum m.states (λ t. int_sum (joint_observations m) (λ o.
     pos (trans_at m a s t * obs_at m a t o) *ℤ (reward_at m a s t o *ℤ pos (m.scales.discount * step_scale m ^ r) +ℤ pos m.scales.gain *ℤ N t o))) ≤ℤ mdp_table m (suc r) s

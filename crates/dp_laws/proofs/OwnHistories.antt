@@ -7,7 +7,9 @@ use Rattle.dp_spec.specs.JointHistory.{IsJointHistory}
 use Rattle.dp_spec.specs.JointNumbers.{joint_number, parts_of, product}
 use Rattle.dp_spec.specs.Keeping.{tree_at}
 use Rattle.dp_laws.specs.Following.{FollowsAgentFronts}
-use Rattle.dp_laws.specs.Following.FollowsAgentFronts.{and_agent, no_agents}
+use Rattle.dp_laws.proofs.Keeping.{keep_agents}
+use Rattle.dp_spec.specs.Keeping.{KeepAgentFronts}
+use Rattle.dp_spec.specs.Keeping.KeepAgentFronts.{and_agent as and_keeps, no_agents as none_keep}
 use Rattle.dp_spec.specs.PolicyTree.{PolicyTree}
 use Rattle.dp_spec.specs.Value.{subtrees_at}
 
@@ -45,15 +47,16 @@ parts-joint (n ∷ ns) (p ∷ ps) h =
     let rest : (p * product ns + joint_number ns ps) % product ns ≡ joint_number ns ps = mod-mul-add p (product ns) (joint_number ns ps) lt in
     rw (first, rest, parts-joint ns ps h.1)
 
-step_in : (x n t p : ℕ) → x < n ^ t → p < n → x * n + p < n ^ suc t
-step_in x n t p h g = rw pow-suc (row_below x (n ^ t) n p h g)
+-- an own history one step longer is a number below the next power
+pub next_history_below : (x n t p : ℕ) → x < n ^ t → p < n → x * n + p < n ^ suc t
+next_history_below x n t p h g = rw pow-suc (row_below x (n ^ t) n p h g)
 
 next_within : (ns : List ℕ) (t : ℕ) (xs ps : List ℕ) → Within ns t xs → Below ns ps → Within ns (suc t) (next_own_histories ns xs ps)
 next_within [] t [] ps h g = tt
 next_within [] t (x ∷ xs) ps h g = absurd h
 next_within (n ∷ ns) t [] ps h g = absurd h
 next_within (n ∷ ns) t (x ∷ xs) [] h g = absurd g
-next_within (n ∷ ns) t (x ∷ xs) (p ∷ ps) h g = (step_in x n t p h.0 g.0, next_within ns t xs ps h.1 g.1)
+next_within (n ∷ ns) t (x ∷ xs) (p ∷ ps) h g = (next_history_below x n t p h.0 g.0, next_within ns t xs ps h.1 g.1)
 
 none_within : (ns : List ℕ) → Within ns zero (map (λ n. 0) ns)
 none_within [] = tt
@@ -82,6 +85,10 @@ kids_next (n ∷ ns) (q ∷ qs) t (x ∷ xs) (p ∷ ps) h =
     let rest : (x * n + p) % n ≡ p = mod-mul-add x n p h.0 in
     rw (first, rest, kids_next ns qs t xs ps h.1)
 
+-- after no observations the trees are those of the start
+pub trees_at-start : {f : ℕ} {ns : List ℕ} {ds : List AgentFront} {qs : List PolicyTree} → KeepAgentFronts f ns ds qs → trees_at ns qs zero (map (λ n. 0) ns) ≡ qs
+trees_at-start none_keep = refl
+trees_at-start (and_keeps {q = q} k ks) = ap (λ x. q ∷ x) (trees_at-start ks)
+
 pub base : {f r : ℕ} {bs ns : List ℕ} {ds : List AgentFront} {qs : List PolicyTree} {uss : List (ℕ → PolicyTree)} → FollowsAgentFronts f r bs ns ds qs uss → trees_at ns qs zero (map (λ n. 0) ns) ≡ qs
-base no_agents = refl
-base (and_agent {q = q} k ks) = ap (λ x. q ∷ x) (base ks)
+base follows = trees_at-start (keep_agents follows)

@@ -4,7 +4,7 @@ use Rattle.dp_laws.proofs.EnclosedQuantities.{action_look_ahead_enclosed, bound_
 use Rattle.dp_laws.proofs.ExactArithmetic.{exact_sound}
 use Rattle.dp_laws.proofs.Modes.{arithmetic_sound}
 use Rattle.dp_laws.proofs.OutwardArithmetic.{outward_sound}
-use Rattle.dp_laws.proofs.RecursiveWorth.{full_worth}
+use Rattle.dp_laws.proofs.RecursiveWorth.{value_is_earned}
 use Rattle.dp_laws.specs.ArithmeticLaws.{EnclosesQuantities}
 use Rattle.dp_spec.specs.Arithmetic.{Arithmetic, arithmetic, exact, outward}
 use Rattle.dp_spec.specs.Enclosure.{Enclosure, IsSound, containment, enclosure, equality}
@@ -18,7 +18,7 @@ use Rattle.dp_spec.specs.Value.{joint_root_action, policy_value}
 pub worth_enclosed : (m : Model) (A : Arithmetic) (R : Enclosure) → IsSound m A R → (h : ℕ) (qs : List PolicyTree) → R.Earns (value_scale m h) (policy_value m h qs) (forward_worth_in A m h qs)
 unfolding forward_worth_in
 worth_enclosed m A R ok h qs =
-    subst (λ (x : ℤ). R.Earns (value_scale m h) x (earned_reward_in A m (λ H. joint_root_action m (trees_after_history m qs H)) h h)) (sym (full_worth m h qs))
+    subst (λ (x : ℤ). R.Earns (value_scale m h) x (earned_reward_in A m (λ H. joint_root_action m (trees_after_history m qs H)) h h)) (sym (value_is_earned m h qs))
     (earned_reward_enclosed m A R ok (λ H. joint_root_action m (trees_after_history m qs H)) h h (omega arith))
 
 -- a sound arithmetic encloses every quantity

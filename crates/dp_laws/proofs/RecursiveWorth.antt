@@ -4,7 +4,7 @@ use Rattle.dp_laws.proofs.Sums.{int_sum_ext, nat_sum_ext, int_sum_weigh}
 use Rattle.dp_laws.proofs.Forward.{forward, int_history_sum_ext}
 use Rattle.dp_laws.proofs.OneStep.{one_step}
 use Rattle.dp_laws.proofs.HistorySums.{int_history_sum_zero}
-use Rattle.dp_spec.specs.JointHistory.{earned_reward, trees_after_history}
+use Rattle.dp_spec.specs.JointHistory.{IsJointHistory, earned_reward, trees_after_history}
 use Rattle.dp_spec.specs.LookAhead.{look_ahead, weighted_reward, weights_after}
 use Rattle.dp_spec.specs.MdpTable.{mdp_table}
 use Rattle.dp_spec.specs.Model.{Model, joint_actions, joint_observations, obs_at, reward_at, start_at, step_scale, trans_at}
@@ -27,12 +27,18 @@ pub worth_is : (m : Model) (h : ℕ) (qs : List PolicyTree) → policy_value m h
 unfolding policy_value
 worth_is m h qs = sym (pushed_is m h (start_at m) qs)
 
--- a full front: the value is what was earned_reward
-pub full_worth : (m : Model) (h : ℕ) (qs : List PolicyTree) → policy_value m h qs ≡ earned_reward m (λ H. joint_root_action m (trees_after_history m qs H)) h h
-full_worth m h qs =
-    forward m (λ H. joint_root_action m (trees_after_history m qs H)) qs h h 0 (omega arith) (λ t H p q. refl)
-    ∙ ap (λ x. earned_reward m (λ H. joint_root_action m (trees_after_history m qs H)) h h +ℤ x) (int_history_sum_ext (joint_observations m) h _ (λ H. pos 0) (λ H p. int_sum_weigh m.states _ (pos 0) ∙ omega (arith, ints)) ∙ int_history_sum_zero (joint_observations m) h)
+-- the value is all that is earned, where act gives the joint actions of the policy
+pub all_is_earned : (m : Model) (act : List ℕ → ℕ) (qs : List PolicyTree) (h : ℕ) →
+    ((t : ℕ) (H : List ℕ) → t < h → IsJointHistory (joint_observations m) t H → joint_root_action m (trees_after_history m qs H) ≡ act H) →
+    policy_value m h qs ≡ earned_reward m act h h
+all_is_earned m act qs h does =
+    forward m act qs h h 0 (omega arith) does
+    ∙ ap (λ x. earned_reward m act h h +ℤ x) (int_history_sum_ext (joint_observations m) h _ (λ H. pos 0) (λ H p. int_sum_weigh m.states _ (pos 0) ∙ omega (arith, ints)) ∙ int_history_sum_zero (joint_observations m) h)
     ∙ omega (arith, ints)
+
+-- the value of a policy is what its own joint actions earn
+pub value_is_earned : (m : Model) (h : ℕ) (qs : List PolicyTree) → policy_value m h qs ≡ earned_reward m (λ H. joint_root_action m (trees_after_history m qs H)) h h
+value_is_earned m h qs = all_is_earned m (λ H. joint_root_action m (trees_after_history m qs H)) qs h (λ t H p q. refl)
 
 -- only the weights of the states count
 pub best_ext : (f g : ℕ → ℤ) (xs : List ℕ) → ((a : ℕ) → f a ≡ g a) → greatest f xs ≡ greatest g xs

@@ -1,4 +1,4 @@
-use Rattle.std.proofs.Common.{◌≡◌, ℕ, zero, suc, ◌+◌, ◌<◌, Bool, true, false, cond, eqb, ℤ, pos, ◌+ℤ◌, ◌*ℤ◌, ◌≤ℤ◌, List, [], ◌∷◌, map, length, refl, sym, ap, ◌∙◌, arith}
+use Rattle.std.proofs.Common.{◌≡◌, ℕ, zero, suc, ◌+◌, ◌<◌, Bool, true, false, cond, eqb, ℤ, pos, ◌+ℤ◌, ◌*ℤ◌, ◌≤ℤ◌, List, ◌∷◌, map, refl, sym, ap, ◌∙◌, arith}
 use Rattle.std.proofs.lemmas.Bool.Decides.{nat_tests}
 use Rattle.std.proofs.Math.IntN.{zero-*ℤ}
 use Rattle.dp_laws.proofs.Order.{add_le_right}
@@ -8,7 +8,9 @@ use Rattle.dp_laws.proofs.Best.{best_in, IsIn-below, IsIn-filter}
 use Rattle.dp_laws.proofs.OneStep.{value_le_action, root_below}
 use Rattle.dp_laws.proofs.Forward.{int_history_sum_ext, int_history_sum_swap, forward}
 use Rattle.dp_laws.proofs.OwnHistories.{joint_below, parts-joint, parts_below, owns_within, base}
-use Rattle.dp_laws.proofs.KeepsAllAgents.{trees_of, rests_are, at_stage, does, class_in, trees_fit, they_agree, acts_in}
+use Rattle.dp_laws.proofs.KeepsAllAgents.{trees_of, rests_are, at_stage, class_in, trees_fit, they_agree, acts_in}
+use Rattle.dp_laws.proofs.Keeping.{keeps_of_follows}
+use Rattle.dp_laws.proofs.KeptActions.{kept_joint_action}
 use Rattle.dp_spec.specs.Bound.{agreeing_actions, bound_of}
 use Rattle.dp_spec.specs.Front.{Front, class_counts, class_weight, fixed_joint_action, joint_class, own_classes, own_histories}
 use Rattle.dp_spec.specs.JointHistory.{IsJointHistory, earned_reward, history_weight, int_history_sum, nat_history_sum, trees_after_history}
@@ -35,20 +37,12 @@ pub pick : (t : Bool) (n : ℕ) (w : ℕ → ℕ) (N : List PolicyTree → ℕ �
 pick true n w N q q' h = ap (λ x. int_sum n (λ s. pos (w s) *ℤ N x s)) (h refl)
 pick false n w N q q' h = sym (int_sum_ext n _ (λ s. pos 0) (λ s p. zero-*ℤ (N q' s)) ∙ int_sum_zero n)
 
-length_is : (n t : ℕ) (H : List ℕ) → IsJointHistory n t H → length H ≡ t
-length_is n zero [] h = refl
-length_is n zero (o ∷ H) h = absurd h
-length_is n (suc t) [] h = absurd h
-length_is n (suc t) (o ∷ H) h = ap suc (length_is n t H h.1)
-
 pub eq_of : (a b : ℕ) → eqb a b ≡ true → a ≡ b
 eq_of a b e = grind (arith, nat_tests)
 
 pub does_fixed : (m : Model) (F : Front) (r : ℕ) (qs : List PolicyTree) (uss : List (ℕ → PolicyTree)) → FollowsAgentFronts F.stage r m.actions m.observations F.agents qs uss →
     (t : ℕ) (H : List ℕ) → t < F.stage → IsJointHistory (joint_observations m) t H → joint_root_action m (trees_after_history m qs H) ≡ fixed_joint_action m F H
-unfolding joint_root_action fixed_joint_action joint_observations
-does_fixed m F r qs uss ks t H p h =
-    rw (rests_are m qs (base ks) t H h, does ks t (own_histories m.observations H) p (owns_within m.observations t H h), length_is _ t H h)
+does_fixed m F r qs uss ks t H p h = kept_joint_action m F qs (keeps_of_follows m r F qs uss ks) t H p h
 
 rests_by_class : (m : Model) (F : Front) (r : ℕ) (qs : List PolicyTree) (uss : List (ℕ → PolicyTree)) → FollowsAgentFronts F.stage r m.actions m.observations F.agents qs uss →
     (H : List ℕ) → IsJointHistory (joint_observations m) F.stage H → trees_after_history m qs H ≡ trees_of uss (parts_of (class_counts F.agents) (joint_class m F H))

@@ -1,5 +1,11 @@
 pub mod ArithmeticLaws
 pub mod CertificateLaws
+pub mod ClassCountLaws
 pub mod Following
+pub mod ForwardLaws
+pub mod FullFrontLaws
 pub mod MergingLaws
 pub mod OneSpelling
+pub mod RootFrontLaws
+pub mod TreeDepthLaws
+pub mod TreeLaws

@@ -13,7 +13,7 @@ use Rattle.dp_spec.specs.Merge.{class_of_agent, class_of_others, place_weight, c
 use Rattle.dp_spec.specs.Rounding.{ceiling_of, mul_down, mul_up}
 use Rattle.dp_spec.specs.Arithmetic.{exact, outward, reward_factor}
 use Rattle.dp_spec.specs.Quantities.{weights_after_in, weighted_reward_in, forward_worth_in, weighted_table_in, action_look_ahead_in, class_weight_in}
-use Rattle.dp_spec.specs.BoundTree.{BoundTree, leaf, branch, no_bound_trees, more_bound_trees, inner_count, greatest_leaf}
+use Rattle.dp_spec.specs.BoundTree.{BoundTree, leaf, branch, no_bound_trees, more_bound_trees, inner_count, depth_of, greatest_leaf}
 use Rattle.dp_spec.specs.Fitting.{front_bound}
 use Rattle.dp_spec.specs.Qualities.{Place, Node, nodes_of, places_of, upper_weight, spread_of}
 use Rattle.dp_spec.proofs.SmallModels.{blind, decay, halved, solo, tiger}
@@ -78,6 +78,10 @@ both_actions = branch 0 0 (more_bound_trees (leaf (pos 1)) (more_bound_trees (le
 
 inner_of_both : inner_count both_actions ≡ 1
 inner_of_both = refl
+
+-- the longest path counts, and leaves do not
+depth_of_uneven : depth_of (branch 0 0 (more_bound_trees (leaf (pos 1)) (more_bound_trees both_actions (more_bound_trees (leaf (pos 2)) no_bound_trees)))) ≡ 2
+depth_of_uneven = refl
 
 greatest_of_both : greatest_leaf both_actions ≡ pos 3
 greatest_of_both = refl

@@ -1,5 +1,5 @@
 -- Bound trees: the tree of a certificate.
-use Rattle.std.specs.Prelude.{ℕ, suc, ◌+◌, ℤ, pos, ◌≤ℤ◌}
+use Rattle.std.specs.Prelude.{ℕ, suc, ◌+◌, max, ℤ, pos, ◌≤ℤ◌}
 use Rattle.std.specs.Int.{int_max}
 
 -- a leaf with its bound; a branch on the actions of an agent's class; two classes of an agent merged
@@ -34,6 +34,17 @@ abbrev mutual
   pub inner_counts : BoundTrees → ℕ
   inner_counts no_bound_trees = 0
   inner_counts (more_bound_trees k ks) = inner_count k + inner_counts ks
+
+abbrev mutual
+  -- the greatest number of branches and merges on a path from the root to a leaf
+  pub depth_of : BoundTree → ℕ
+  depth_of (leaf x) = 0
+  depth_of (branch i c ks) = suc (greatest_depth ks)
+  depth_of (merge i a b k) = suc (depth_of k)
+
+  pub greatest_depth : BoundTrees → ℕ
+  greatest_depth no_bound_trees = 0
+  greatest_depth (more_bound_trees k ks) = max (depth_of k) (greatest_depth ks)
 
 abbrev mutual
   -- the greatest bound that a leaf states

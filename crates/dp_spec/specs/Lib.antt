@@ -17,6 +17,7 @@ pub mod Enclosure
 pub mod BoundTree
 pub mod Fitting
 pub mod Keeping
+pub mod FullPolicy
 pub mod WellFormed
 pub mod Mode
 pub mod Certificate
