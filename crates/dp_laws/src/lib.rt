@@ -1,8 +1,10 @@
 //! The theorems about the definitions of `dp_spec`, each the clause of a public function.
 #![tactic(auto)]
 
+mod horizon_one;
 mod look_ahead;
 
+pub use horizon_one::{constant_policy_is_policy, root_bound_is_best_constant_action};
 pub use look_ahead::{
     action_look_ahead_bounds_every_policy, look_ahead_bounds_every_policy, more_look_never_raises,
     more_look_never_raises_action, table_bounds_every_policy,
