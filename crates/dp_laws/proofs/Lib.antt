@@ -27,3 +27,4 @@ pub mod Sound
 pub mod StepSides
 pub mod Sums
 pub mod Trees
+pub mod WellFormedSteps

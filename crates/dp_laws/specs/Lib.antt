@@ -1,3 +1,4 @@
 pub mod Following
 pub mod LookAheadLaws
 pub mod HorizonOneLaws
+pub mod FrontStepLaws
