@@ -1,10 +1,12 @@
 //! The theorems about the definitions of `dp_spec`, each the clause of a public function.
 #![tactic(auto)]
 
+mod choosing;
 mod front_steps;
 mod horizon_one;
 mod look_ahead;
 
+pub use choosing::{choosing_changes_no_weight, equivalence_ignores_choices};
 pub use front_steps::{
     advancing_keeps_well_formed, choosing_keeps_well_formed, front_after_choice_is_well_formed,
     merging_keeps_well_formed,
