@@ -1,7 +1,13 @@
+pub mod AdvancedBound
+pub mod AdvancedFronts
+pub mod AgreeingActions
 pub mod Best
 pub mod CertificateTexts
+pub mod ChosenBound
+pub mod ChosenFronts
 pub mod ClassCounts
 pub mod ClassValue
+pub mod ConstantPolicies
 pub mod EmptyClasses
 pub mod EnclosedQuantities
 pub mod ExactArithmetic
@@ -12,12 +18,19 @@ pub mod Forward
 pub mod FullPolicies
 pub mod Graft
 pub mod HistorySums
+pub mod JointPairs
+pub mod JointParts
+pub mod JointPlaces
 pub mod Keeping
 pub mod KeepsAllAgents
 pub mod KeptActions
+pub mod KeptBound
+pub mod KeptSteps
 pub mod KeptValue
 pub mod Leaves
 pub mod LineTexts
+pub mod LinearSteps
+pub mod LongerLook
 pub mod Look
 pub mod LosslessMerging
 pub mod MergedAgents
@@ -25,6 +38,7 @@ pub mod MergedKept
 pub mod MergedTrees
 pub mod Merging
 pub mod Modes
+pub mod NaturalSums
 pub mod OneStep
 pub mod Order
 pub mod OutwardArithmetic
@@ -43,4 +57,5 @@ pub mod TreeActions
 pub mod TreeDepth
 pub mod Trees
 pub mod ValidCertificates
+pub mod WellFormedSteps
 pub mod WholeTexts

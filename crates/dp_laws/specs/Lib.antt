@@ -1,9 +1,14 @@
 pub mod ArithmeticLaws
 pub mod CertificateLaws
+pub mod ChoosingLaws
 pub mod ClassCountLaws
 pub mod Following
 pub mod ForwardLaws
+pub mod FrontBoundLaws
+pub mod FrontStepLaws
 pub mod FullFrontLaws
+pub mod HorizonOneLaws
+pub mod LookAheadLaws
 pub mod MergingLaws
 pub mod OneSpelling
 pub mod RootFrontLaws
