@@ -1,11 +1,11 @@
 -- the joint actions that agree with a well-formed front's choices: there is one, and choosing leaves no new one
-use Rattle.std.proofs.Common.{◌≡◌, ◌⊎◌, inl, inr, ℕ, zero, suc, ◌*◌, ◌<◌, Bool, true, false, cond, ◌&&◌, ℤ, ◌≤ℤ◌, List, [], ◌∷◌, length, get_or, set, filter, Option, Some, None, refl, sym, ap, ◌∙◌, arith}
+use Rattle.std.proofs.Common.{◌≡◌, inl, inr, ℕ, zero, suc, ◌*◌, ◌<◌, Bool, true, false, cond, ℤ, ◌≤ℤ◌, List, [], ◌∷◌, length, get_or, set, filter, Option, Some, None, refl, sym, ap, ◌∙◌, arith}
 use Rattle.std.specs.Prelude.{unwrap_or}
 use Rattle.std.specs.Cmp.Derive.{both_true}
 use Rattle.std.proofs.lemmas.Bool.Decides.{nat_tests}
 use Rattle.std.proofs.lemmas.List.{get_or-set_other}
 use Rattle.dp_laws.proofs.Best.{IsIn, IsIn-below, IsIn-filter, best_in}
-use Rattle.dp_laws.proofs.FollowedSteps.{parts_of_true}
+use Rattle.dp_laws.proofs.CompleteFronts.{parts_of_true}
 use Rattle.dp_laws.proofs.LongerLook.{greatest_under}
 use Rattle.dp_laws.proofs.OwnHistories.{Below, joint_below, parts-joint, parts_below}
 use Rattle.dp_laws.proofs.Sums.{dec_eq}
@@ -15,7 +15,7 @@ use Rattle.dp_spec.specs.JointNumbers.{joint_number, parts_of, product}
 use Rattle.dp_spec.specs.Model.{IsModel, Model, joint_actions}
 use Rattle.dp_spec.specs.Steps.{IsUnassigned, with_choice}
 use Rattle.dp_spec.specs.Sums.{greatest, numbers_below}
-use Rattle.dp_spec.specs.WellFormed.{AreAgentFronts, IsAgentFront, IsFront}
+use Rattle.dp_spec.specs.WellFormed.{AreAgentFronts, IsFront}
 use Rattle.dp_spec.specs.WellFormed.AreAgentFronts.{and_agent, no_agents}
 
 -- ---- members of lists

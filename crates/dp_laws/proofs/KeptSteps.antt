@@ -6,9 +6,9 @@ use Rattle.std.proofs.lemmas.List.{get_or-set_other, get_or-set_same, get_or_app
 use Rattle.std.proofs.lemmas.List.FromFn.{get_or-map-range_with_len}
 use Rattle.std.proofs.lemmas.Nat.{div-mul-add, mod-mul-add, mod_below}
 use Rattle.std.proofs.Math.Nat.{pow-suc}
-use Rattle.dp_laws.proofs.FollowedSteps.{parts_of_true}
+use Rattle.dp_laws.proofs.CompleteFronts.{parts_of_true}
 use Rattle.dp_laws.proofs.Keeping.{tree_at_fits}
-use Rattle.dp_laws.proofs.StepSides.{new_class, some_at}
+use Rattle.dp_laws.proofs.CompleteFronts.{new_class, some_at}
 use Rattle.dp_laws.proofs.Sums.{dec_eq}
 use Rattle.dp_laws.proofs.Trees.{part_below, pos_of, root_in}
 use Rattle.dp_laws.proofs.WellFormedSteps.{before_or_at, chosen_is_front, no_choice}

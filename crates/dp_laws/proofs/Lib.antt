@@ -7,13 +7,13 @@ pub mod ChosenBound
 pub mod ChosenFronts
 pub mod ClassCounts
 pub mod ClassValue
+pub mod CompleteFronts
 pub mod ConstantPolicies
 pub mod EmptyClasses
 pub mod EnclosedQuantities
 pub mod ExactArithmetic
 pub mod FittingTrees
 pub mod Floors
-pub mod FollowedSteps
 pub mod Forward
 pub mod FullPolicies
 pub mod Graft
@@ -51,7 +51,6 @@ pub mod Ring
 pub mod RootFront
 pub mod Scales
 pub mod Sound
-pub mod StepSides
 pub mod Sums
 pub mod TreeActions
 pub mod TreeDepth

@@ -1,11 +1,11 @@
 -- On a path of a tree that fits a front there are at most as many inner nodes as own histories.
 -- Each choice and each merge leaves one unassigned class less, and an advance opens at most one class for each own history of the next length.
-use Rattle.std.proofs.Common.{◌≡◌, ◌⊎◌, inl, inr, ℕ, zero, suc, ◌+◌, ◌-◌, ◌*◌, ◌^◌, ◌<◌, ◌≤◌, Bool, true, false, ◌&&◌, ℤ, List, [], ◌∷◌, length, get_or, set, Option, Some, None, refl, ap, arith}
+use Rattle.std.proofs.Common.{◌≡◌, ◌⊎◌, inl, inr, ℕ, zero, suc, ◌+◌, ◌-◌, ◌*◌, ◌^◌, ◌<◌, ◌≤◌, Bool, true, false, ℤ, List, [], ◌∷◌, length, get_or, set, Option, Some, None, refl, ap, arith}
 use Rattle.std.proofs.lemmas.List.{length-replicate}
 use Rattle.std.proofs.Math.ListN.{length-set}
 use Rattle.std.proofs.Math.Nat.{mul-le-mul_right, pow-suc}
 use Rattle.dp_laws.proofs.ClassCounts.{classes_within_histories}
-use Rattle.dp_laws.proofs.FollowedSteps.{parts_of_true}
+use Rattle.dp_laws.proofs.CompleteFronts.{parts_of_true}
 use Rattle.dp_laws.proofs.MergedAgents.{length-without}
 use Rattle.dp_laws.proofs.RootFront.{root_is_front}
 use Rattle.dp_spec.specs.Arithmetic.{Arithmetic}

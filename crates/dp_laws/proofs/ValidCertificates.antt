@@ -1,6 +1,5 @@
 -- What a valid certificate claims is true.
-use Rattle.std.proofs.Common.{◌≡◌, ℕ, Bool, true, ℤ, pos, ◌*ℤ◌, ◌≤ℤ◌, length, sym, ap, ◌∙◌, subst}
-use Rattle.std.proofs.lemmas.List.{length-map}
+use Rattle.std.proofs.Common.{◌≡◌, ℕ, Bool, true, ℤ, pos, ◌*ℤ◌, ◌≤ℤ◌, sym, ap, ◌∙◌, subst}
 use Rattle.dp_spec.specs.declared.span.Span.{Span}
 use Rattle.dp_laws.proofs.FittingTrees.{fitting_root_bounds}
 use Rattle.dp_laws.proofs.ExactArithmetic.{exact_sound}
@@ -8,6 +7,7 @@ use Rattle.dp_laws.proofs.Order.{equal_of_le, le_of_mul_le_right}
 use Rattle.dp_laws.proofs.Leaves.{greatest_leaf-at_most, greatest_leaf_below}
 use Rattle.dp_laws.proofs.Modes.{arithmetic_sound, low_reads, mode_unit}
 use Rattle.dp_laws.proofs.Ring.{zle_trans}
+use Rattle.dp_laws.proofs.RootFront.{root_is_front}
 use Rattle.dp_laws.proofs.Scales.{value_scale_positive}
 use Rattle.dp_laws.proofs.QuantityLaws.{worth_enclosed}
 use Rattle.dp_spec.specs.BoundTree.{LeavesAtMost}
@@ -18,7 +18,7 @@ use Rattle.dp_spec.specs.Arithmetic.{arithmetic, exact}
 use Rattle.dp_spec.specs.Model.{IsModel, Model, value_scale}
 use Rattle.dp_spec.specs.Qualities.{IsClosed}
 use Rattle.dp_spec.specs.Quantities.{forward_worth_in}
-use Rattle.dp_spec.specs.Steps.{root_agent, root_front}
+use Rattle.dp_spec.specs.Steps.{root_front}
 use Rattle.dp_spec.specs.Value.{policy_value}
 
 -- the unit of a valid certificate is that of its mode
@@ -72,13 +72,11 @@ exact_bound_of m c is v e u h = subst (λ (z : ℤ). BoundsEveryPolicy m c.horiz
 
 -- a closed certificate has equal ends and an optimal policy
 pub closed_is_optimal : (m : Model) (c : Certificate) → IsModel m → IsValid m c → IsClosed m c → c.is_exact ≡ true → (c.lower ≡ c.upper) × IsOptimal m c.horizon c.policy
-unfolding root_front
 closed_is_optimal m c is v closed e =
     let n = value_scale m c.horizon in
     let some = value_scale_positive m c.horizon is in
     let below = closed.exact_leaves e in
-    let agents : length m.observations ≡ length (root_front m).agents = is.sizes.alike ∙ sym (length-map m.actions (λ n. root_agent)) in
-    let top = greatest_leaf_below (arithmetic_for m c) m is c.horizon c.look c.lower c.tree (root_front m) _ agents v.tree below in
+    let top = greatest_leaf_below (arithmetic_for m c) m is c.horizon c.look c.lower c.tree (root_front m) _ (root_is_front m c.horizon is) v.tree below in
     let upper_lower : c.upper ≤ℤ c.lower = subst (λ (u : ℤ). u ≤ℤ c.lower) (sym v.upper) top in
     let value = lower_is_value m c v e in
     let best = exact_bound_of m c is v e c.lower (bounds_every_policy m c is v c.lower below) in (

@@ -8,9 +8,9 @@ use Rattle.std.proofs.lemmas.List.FromFn.{get_or-map-range_with_len, length-map-
 use Rattle.std.proofs.lemmas.Nat.{div-mul-add, mod-mul-add, mod_below}
 use Rattle.std.proofs.Math.Nat.{pow-suc}
 use Rattle.std.proofs.Math.ListN.{length-set}
-use Rattle.dp_laws.proofs.FollowedSteps.{parts_of_true}
+use Rattle.dp_laws.proofs.CompleteFronts.{parts_of_true}
 use Rattle.dp_laws.proofs.MergedAgents.{get_or-renumbered, get_or-without_above, get_or-without_below, length-without, renumbered_below}
-use Rattle.dp_laws.proofs.StepSides.{new_class, some_at}
+use Rattle.dp_laws.proofs.CompleteFronts.{new_class, some_at}
 use Rattle.dp_laws.proofs.Sums.{dec_eq}
 use Rattle.dp_laws.proofs.Trees.{part_below, pos_of, row_below}
 use Rattle.dp_spec.specs.Front.{AgentFront, Front}

@@ -1,5 +1,5 @@
 -- The bound of a front is above every policy that keeps it, and never grows along a path of fronts.
-use Rattle.std.specs.Prelude.{ℕ, suc, ◌+◌, ◌<◌, ◌≤◌, ◌≡◌, true, ◌≤ℤ◌, List, get_or}
+use Rattle.std.specs.Prelude.{ℕ, suc, ◌+◌, ◌<◌, ◌≡◌, true, ◌≤ℤ◌, List, get_or}
 use Rattle.dp_spec.specs.Model.{Model, IsModel}
 use Rattle.dp_spec.specs.PolicyTree.{PolicyTree, IsPolicyOf}
 use Rattle.dp_spec.specs.Value.{policy_value}
@@ -8,7 +8,6 @@ use Rattle.dp_spec.specs.WellFormed.{IsFront}
 use Rattle.dp_spec.specs.Keeping.{KeepsFront}
 use Rattle.dp_spec.specs.Bound.{bound_of}
 use Rattle.dp_spec.specs.Steps.{IsUnassigned, is_complete, chosen_front, advanced_front}
-use Rattle.dp_spec.specs.Merge.{merged_front}
 
 -- no policy that keeps a front from whose stage on r steps are left is worth more than its bound, with any look
 abbrev pub NoKeepingPolicyAboveBound : Type 0
