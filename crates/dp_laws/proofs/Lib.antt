@@ -1,5 +1,6 @@
 pub mod AtScales
 pub mod Best
+pub mod CertificateTexts
 pub mod Checker
 pub mod ClassCounts
 pub mod ClassLists
@@ -14,12 +15,14 @@ pub mod Keeping
 pub mod KeepsAllAgents
 pub mod KeptActions
 pub mod KeptValue
+pub mod LineTexts
 pub mod Look
 pub mod MergeSide
 pub mod Merging
 pub mod OneStep
 pub mod OutwardLaws
 pub mod OwnHistories
+pub mod PolicyTexts
 pub mod Recursion
 pub mod RecursiveWorth
 pub mod Results
@@ -31,3 +34,4 @@ pub mod Sums
 pub mod TreeActions
 pub mod TreeDepth
 pub mod Trees
+pub mod WholeTexts

@@ -5,3 +5,4 @@ pub mod ForwardLaws
 pub mod FullFrontLaws
 pub mod TreeDepthLaws
 pub mod ClassCountLaws
+pub mod OneSpelling

@@ -2,3 +2,5 @@ mod NumberingRows
 mod SmallModels
 mod SmallRows
 mod TigerRows
+pub mod TextLemmas
+mod TextRows

@@ -23,3 +23,6 @@ pub mod Mode
 pub mod Certificate
 pub mod Qualities
 pub mod Claims
+pub mod TextLines
+pub mod PolicyText
+pub mod CertificateText

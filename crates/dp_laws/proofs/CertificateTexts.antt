@@ -1,0 +1,232 @@
+-- One spelling of certificates: a text is that of one certificate.
+use Rattle.std.proofs.Common.{◌≡◌, ℕ, ◌-◌, ◌^◌, ◌<◌, Bool, true, false, List, [], ◌∷◌, ◌++◌, get_or, drop, refl, sym, ap, ◌∙◌, append_assoc, arith}
+use Rattle.std.specs.Prelude.{ℤ, pos, unsigned_abs, map, codes}
+use Rattle.dp_spec.specs.Model.{Model, IsModel}
+use Rattle.dp_spec.specs.PolicyTree.{IsPolicyOf}
+use Rattle.dp_spec.specs.BoundTree.{BoundTree, BoundTrees, leaf, branch, merge, no_bound_trees, more_bound_trees}
+use Rattle.dp_spec.specs.Certificate.{Certificate}
+use Rattle.dp_spec.specs.TextLines.{Item, fixed, plain, Line, fixed_line, line_text, Allows, AllAllowed}
+use Rattle.dp_spec.specs.PolicyText.{end_form, policy_rows, agent_lines}
+use Rattle.dp_spec.specs.CertificateText.{mode_form, signed_form, leaf_form, branch_form, merge_form, child_count, node_lines, children_lines, certificate_lines, certificate_text, HasTextNumbers, IsCertificateText}
+use Rattle.dp_laws.proofs.LineTexts.{HasItems, AreLines, bytes_of, first_of_list, rest_of_list, line_text_injective, text_of_lines_injective}
+use Rattle.dp_laws.proofs.WholeTexts.{AreLines-append, AllAllowed-parts, agents_are_lines, actions_small, horizon_line_injective, all_agent_lines_injective, allowed_of, AllAllowed-append}
+
+-- ---- nodes
+
+mutual
+  -- the lines of nodes that are allowed are lines
+  nodes_are_lines : (T : BoundTree) → AllAllowed (node_lines T) → AreLines (node_lines T)
+  nodes_are_lines (leaf x) allowed = ((assumption, allowed.0), tt)
+  nodes_are_lines (branch i c ks) allowed = ((assumption, allowed.0), children_are_lines ks allowed.1)
+  nodes_are_lines (merge i a b k) allowed = ((assumption, allowed.0), nodes_are_lines k allowed.1)
+
+  -- and those of their children
+  children_are_lines : (ks : BoundTrees) → AllAllowed (children_lines ks) → AreLines (children_lines ks)
+  children_are_lines no_bound_trees allowed = tt
+  children_are_lines (more_bound_trees k ks) allowed =
+      let each = AllAllowed-parts (node_lines k) (children_lines ks) allowed in
+      AreLines-append (node_lines k) (children_lines ks) (nodes_are_lines k each.0) (children_are_lines ks each.1)
+
+-- number i of a list that equals another
+number_at : (i : ℕ) (ys zs : List ℤ) → ys ≡ zs → get_or ys i (pos 0) ≡ get_or zs i (pos 0)
+number_at i ys zs e = ap (λ (l : List ℤ). get_or l i (pos 0)) e
+
+-- equal whole numbers without a sign are equal as natural numbers
+pos_injective : (m n : ℕ) → pos m ≡ pos n → m ≡ n
+pos_injective m n e = ap unsigned_abs e
+
+-- lines that begin with different bytes are not equal
+other_byte : (b c : ℕ) (bs cs : List ℕ) → b < c → b ∷ bs ≡ c ∷ cs → ⊥
+other_byte b c bs cs less e = let same : b ≡ c = first_of_list b c bs cs e in omega arith
+
+mutual
+  unfolding bytes_of
+
+  -- the lines of the nodes determine the tree, and what follows them
+  node_lines_injective : (T U : BoundTree) → AllAllowed (node_lines T) → AllAllowed (node_lines U) → (more others : List Line)
+      → map bytes_of (node_lines T ++ more) ≡ map bytes_of (node_lines U ++ others) → (T ≡ U) × (map bytes_of more ≡ map bytes_of others)
+  node_lines_injective (leaf x) (leaf y) p q more others e =
+      let bound = line_text_injective leaf_form (x ∷ []) (y ∷ []) (assumption) p.0 q.0 (first_of_list _ _ _ _ e) in
+      (ap leaf (number_at 0 _ _ bound), rest_of_list _ _ _ _ e)
+  node_lines_injective (leaf x) (branch i c ks) p q more others e = absurd (other_byte _ _ _ _ (omega arith) (sym (first_of_list _ _ _ _ e)))
+  node_lines_injective (leaf x) (merge i a b k) p q more others e = absurd (other_byte _ _ _ _ (omega arith) (first_of_list _ _ _ _ e))
+  node_lines_injective (branch i c ks) (leaf y) p q more others e = absurd (other_byte _ _ _ _ (omega arith) (first_of_list _ _ _ _ e))
+  node_lines_injective (branch i c ks) (merge j a b k) p q more others e = absurd (other_byte _ _ _ _ (omega arith) (first_of_list _ _ _ _ e))
+  node_lines_injective (merge i a b k) (leaf y) p q more others e = absurd (other_byte _ _ _ _ (omega arith) (sym (first_of_list _ _ _ _ e)))
+  node_lines_injective (merge i a b k) (branch j c ks) p q more others e = absurd (other_byte _ _ _ _ (omega arith) (sym (first_of_list _ _ _ _ e)))
+  node_lines_injective (branch i c ks) (branch j d ls) p q more others e =
+      let numbers = line_text_injective branch_form (pos i ∷ pos c ∷ pos (child_count ks) ∷ []) (pos j ∷ pos d ∷ pos (child_count ls) ∷ []) (assumption) p.0 q.0 (first_of_list _ _ _ _ e) in
+      let agent : i ≡ j = pos_injective i j (number_at 0 _ _ numbers) in
+      let class : c ≡ d = pos_injective c d (number_at 1 _ _ numbers) in
+      let children = children_lines_injective ks ls (pos_injective _ _ (number_at 2 _ _ numbers)) p.1 q.1 more others (rest_of_list _ _ _ _ e) in
+      (rw (agent, class, children.0) refl, children.1)
+  node_lines_injective (merge i a b k) (merge j c d l) p q more others e =
+      let numbers = line_text_injective merge_form (pos i ∷ pos a ∷ pos b ∷ []) (pos j ∷ pos c ∷ pos d ∷ []) (assumption) p.0 q.0 (first_of_list _ _ _ _ e) in
+      let agent : i ≡ j = pos_injective i j (number_at 0 _ _ numbers) in
+      let first : a ≡ c = pos_injective a c (number_at 1 _ _ numbers) in
+      let second : b ≡ d = pos_injective b d (number_at 2 _ _ numbers) in
+      let child = node_lines_injective k l p.1 q.1 more others (rest_of_list _ _ _ _ e) in
+      (rw (agent, first, second, child.0) refl, child.1)
+
+  -- the same of equally many children
+  children_lines_injective : (ks ls : BoundTrees) → child_count ks ≡ child_count ls → AllAllowed (children_lines ks) → AllAllowed (children_lines ls) → (more others : List Line)
+      → map bytes_of (children_lines ks ++ more) ≡ map bytes_of (children_lines ls ++ others) → (ks ≡ ls) × (map bytes_of more ≡ map bytes_of others)
+  children_lines_injective no_bound_trees no_bound_trees count p q more others e = (refl, e)
+  children_lines_injective no_bound_trees (more_bound_trees l ls) count p q more others e = absurd (omega (arith, count))
+  children_lines_injective (more_bound_trees k ks) no_bound_trees count p q more others e = absurd (omega (arith, count))
+  children_lines_injective (more_bound_trees k ks) (more_bound_trees l ls) count p q more others e =
+      let mine = AllAllowed-parts (node_lines k) (children_lines ks) p in
+      let yours = AllAllowed-parts (node_lines l) (children_lines ls) q in
+      let grouped : map bytes_of (node_lines k ++ (children_lines ks ++ more)) ≡ map bytes_of (node_lines l ++ (children_lines ls ++ others)) =
+      ap (map bytes_of) (sym (append_assoc (node_lines k) (children_lines ks) more)) ∙ e ∙ ap (map bytes_of) (append_assoc (node_lines l) (children_lines ls) others) in
+      let first = node_lines_injective k l mine.0 yours.0 (children_lines ks ++ more) (children_lines ls ++ others) grouped in
+      let further = children_lines_injective ks ls (omega (arith, count)) mine.1 yours.1 more others first.1 in
+      (rw (first.0, further.0) refl, further.1)
+
+-- ---- certificates
+
+-- the word of each mode is an item
+mode_items : (is_exact : Bool) → HasItems (mode_form is_exact)
+mode_items true = assumption
+mode_items false = assumption
+
+-- the line of a mode determines it
+mode_line_injective : (a b : Bool) → line_text (mode_form a) [] ≡ line_text (mode_form b) [] → a ≡ b
+mode_line_injective true true e = refl
+mode_line_injective false false e = refl
+mode_line_injective true false e = absurd (let at : 101 ≡ 111 = ap (λ (l : List ℕ). get_or l 5 0) e in omega (arith, at))
+mode_line_injective false true e = absurd (let at : 111 ≡ 101 = ap (λ (l : List ℕ). get_or l 5 0) e in omega (arith, at))
+
+-- the line before the tree
+abbrev tree_form : List Item
+tree_form = fixed (codes "tree") ∷ []
+
+-- the lines of a certificate's tree and the line after them
+abbrev tree_lines : BoundTree → List Line
+tree_lines T = fixed_line tree_form ∷ (node_lines T ++ fixed_line end_form ∷ [])
+
+-- the lines of the tree are lines
+tree_are_lines : (T : BoundTree) → AllAllowed (node_lines T) → AreLines (tree_lines T)
+tree_are_lines T allowed = ((assumption, tt), AreLines-append (node_lines T) (fixed_line end_form ∷ []) (nodes_are_lines T allowed) ((assumption, tt), tt))
+
+-- what is allowed of a certificate's tree
+nodes_allowed : (m : Model) (bytes : List ℕ) (c : Certificate) → IsCertificateText m bytes c → AllAllowed (node_lines c.tree)
+nodes_allowed m bytes c text =
+    let behind_head = text.allowed.1.1.1.1.1.1.1.1.1 in
+    let behind_policy = AllAllowed-parts (agent_lines 0 (policy_rows m.actions m.observations c.horizon c.policy)) (tree_lines c.tree) behind_head in
+    (AllAllowed-parts (node_lines c.tree) (fixed_line end_form ∷ []) behind_policy.1.1).0
+
+-- the lines of the text of a certificate are lines
+certificate_are_lines : (m : Model) → IsModel m → (bytes : List ℕ) (c : Certificate) → IsCertificateText m bytes c → AreLines (certificate_lines m.actions m.observations c)
+certificate_are_lines m is bytes c text =
+    let agents = is.sizes.agents_limit in
+    let a = text.allowed in (
+      (assumption, tt),
+      (
+        (assumption, a.1.0),
+        (
+          (assumption, a.1.1.0),
+          (
+            (mode_items c.is_exact, tt),
+            (
+              (assumption, a.1.1.1.1.0),
+              (
+                (assumption, a.1.1.1.1.1.0),
+                (
+                  (assumption, a.1.1.1.1.1.1.0),
+                  (
+                    (assumption, a.1.1.1.1.1.1.1.0),
+                    (
+                      (assumption, tt),
+                      AreLines-append (agent_lines 0 (policy_rows m.actions m.observations c.horizon c.policy)) (tree_lines c.tree)
+                          (agents_are_lines c.horizon m.actions m.observations c.policy (actions_small m is) text.policy 0 (omega (arith, agents)))
+                          (tree_are_lines c.tree (nodes_allowed m bytes c text)),
+                    ),
+                  ),
+                ),
+              ),
+            ),
+          ),
+        ),
+      ),
+    )
+
+-- a line with one number determines it
+plain_line_injective : (word : List ℕ) (low high m n : ℕ) → HasItems (fixed word ∷ plain low high ∷ []) → Allows (fixed word ∷ plain low high ∷ []) (pos m ∷ []) → Allows (fixed word ∷ plain low high ∷ []) (pos n ∷ [])
+    → line_text (fixed word ∷ plain low high ∷ []) (pos m ∷ []) ≡ line_text (fixed word ∷ plain low high ∷ []) (pos n ∷ []) → m ≡ n
+plain_line_injective word low high m n are p q e = pos_injective m n (number_at 0 _ _ (line_text_injective (fixed word ∷ plain low high ∷ []) (pos m ∷ []) (pos n ∷ []) are p q e))
+
+-- the same of a signed number
+signed_line_injective : (word : List ℕ) (y z : ℤ) → HasItems (signed_form word) → Allows (signed_form word) (y ∷ []) → Allows (signed_form word) (z ∷ [])
+    → line_text (signed_form word) (y ∷ []) ≡ line_text (signed_form word) (z ∷ []) → y ≡ z
+signed_line_injective word y z are p q e = number_at 0 _ _ (line_text_injective (signed_form word) (y ∷ []) (z ∷ []) are p q e)
+
+-- a text is that of one certificate
+pub certificate_text_injective : (m : Model) → IsModel m → (bytes : List ℕ) (c d : Certificate) → IsCertificateText m bytes c → IsCertificateText m bytes d → c ≡ d
+unfolding certificate_text bytes_of
+certificate_text_injective m is bytes c d mine yours =
+    let a = mine.allowed in
+    let b = yours.allowed in
+    let lines = text_of_lines_injective (certificate_lines m.actions m.observations c) (certificate_lines m.actions m.observations d)
+    (certificate_are_lines m is bytes c mine) (certificate_are_lines m is bytes d yours) (sym mine.text ∙ yours.text) in
+    let line : (i : ℕ) → get_or (map bytes_of (certificate_lines m.actions m.observations c)) i [] ≡ get_or (map bytes_of (certificate_lines m.actions m.observations d)) i [] = λ i. ap (λ (l : List (List ℕ)). get_or l i []) lines in
+    let behind_head = ap (λ (l : List (List ℕ)). drop 9 l) lines in
+    let horizon : c.horizon ≡ d.horizon = horizon_line_injective c.horizon d.horizon a.1.0 b.1.0 (line 1) in
+    let look : c.look ≡ d.look = plain_line_injective (codes "look") 1 16 c.look d.look (assumption) a.1.1.0 b.1.1.0 (line 2) in
+    let mode : c.is_exact ≡ d.is_exact = mode_line_injective c.is_exact d.is_exact (line 3) in
+    let unit : c.unit ≡ d.unit = signed_line_injective (codes "unit") c.unit d.unit (assumption) a.1.1.1.1.0 b.1.1.1.1.0 (line 4) in
+    let lower : c.lower ≡ d.lower = signed_line_injective (codes "lower") c.lower d.lower (assumption) a.1.1.1.1.1.0 b.1.1.1.1.1.0 (line 5) in
+    let upper : c.upper ≡ d.upper = signed_line_injective (codes "upper") c.upper d.upper (assumption) a.1.1.1.1.1.1.0 b.1.1.1.1.1.1.0 (line 6) in
+    let inner : c.inner ≡ d.inner = plain_line_injective (codes "inner") 0 (2 ^ 32 - 1) c.inner d.inner (assumption) a.1.1.1.1.1.1.1.0 b.1.1.1.1.1.1.1.0 (line 7) in
+    let policies = all_agent_lines_injective m is c.horizon d.horizon c.policy d.policy horizon a.1.0.1 mine.policy yours.policy (tree_lines c.tree) (tree_lines d.tree) behind_head in
+    let trees = node_lines_injective c.tree d.tree (nodes_allowed m bytes c mine) (nodes_allowed m bytes d yours) (fixed_line end_form ∷ []) (fixed_line end_form ∷ []) (rest_of_list _ _ _ _ policies.1) in
+    λ i. record {
+      horizon = horizon i;
+      look = look i;
+      is_exact = mode i;
+      unit = unit i;
+      lower = lower i;
+      upper = upper i;
+      inner = inner i;
+      policy = policies.0 i;
+      tree = trees.0 i;
+    }
+
+-- a certificate whose numbers its lines allow has a text
+pub certificate_has_text : (m : Model) → IsModel m → (c : Certificate) → HasTextNumbers c → IsPolicyOf m c.horizon c.policy → IsCertificateText m (certificate_text m.actions m.observations c) c
+certificate_has_text m is c numbers policy =
+    let agents = is.sizes.agents_limit in
+    record {
+      policy = policy;
+      allowed = (
+        tt,
+        (
+          numbers.horizon,
+          (
+            numbers.look,
+            (
+              tt,
+              (
+                (numbers.unit, tt),
+                (
+                  (numbers.lower, tt),
+                  (
+                    (numbers.upper, tt),
+                    (
+                      numbers.inner,
+                      (
+                        tt,
+                        AllAllowed-append (agent_lines 0 (policy_rows m.actions m.observations c.horizon c.policy)) (tree_lines c.tree)
+                            (allowed_of _ (agents_are_lines c.horizon m.actions m.observations c.policy (actions_small m is) policy 0 (omega (arith, agents))))
+                            (tt, AllAllowed-append (node_lines c.tree) (fixed_line end_form ∷ []) numbers.tree (tt, tt)),
+                      ),
+                    ),
+                  ),
+                ),
+              ),
+            ),
+          ),
+        ),
+      );
+      text = refl;
+    }
