@@ -1,63 +1,16 @@
 -- One spelling of policies: no two joint policies have the same lines.
-use Rattle.std.proofs.Common.{◌≡◌, ℕ, zero, suc, ◌+◌, ◌-◌, ◌*◌, ◌/◌, ◌%◌, ◌^◌, ◌<◌, ◌≤◌, List, [], ◌∷◌, ◌++◌, get_or, refl, sym, ap, subst, ◌∙◌, append_assoc, arith, inl, inr}
+use Rattle.std.proofs.Common.{◌≡◌, ℕ, zero, suc, ◌+◌, ◌-◌, ◌^◌, ◌<◌, ◌≤◌, List, [], ◌∷◌, ◌++◌, get_or, refl, sym, ap, subst, ◌∙◌, append_assoc, arith, inl, inr}
 use Rattle.std.specs.Prelude.{pos, unsigned_abs, map, replicate}
 use Rattle.std.specs.List.{AllByRecursion, range_with_len}
 use Rattle.std.proofs.lemmas.Bool.{cases_lt}
-use Rattle.std.proofs.lemmas.Nat.{div-mul-add, mod-mul-add}
 use Rattle.std.proofs.lemmas.List.FromFn.{get_or-map-range_with_len}
-use Rattle.std.proofs.Math.Nat.{pow-suc, pow-zero}
 use Rattle.dp_spec.specs.PolicyTree.IsJointPolicy.{and_agent, no_agents}
-use Rattle.dp_spec.specs.PolicyTree.{ArePolicyTrees, IsJointPolicy, IsPolicyTree, PolicyTree, PolicyTrees, more_trees, no_trees, node, nth_tree, root_action, subtree}
+use Rattle.dp_spec.specs.PolicyTree.{IsJointPolicy, IsPolicyTree, PolicyTree, root_action}
 use Rattle.dp_spec.specs.Keeping.{tree_at}
 use Rattle.dp_spec.specs.TextLines.{plain, Line, Allows}
 use Rattle.dp_spec.specs.PolicyText.{row_form, row_actions, row_line, policy_rows, agent_lines}
-use Rattle.dp_laws.proofs.Trees.{root_in, row_below}
-use Rattle.dp_laws.proofs.Keeping.{tree_at_fits}
+use Rattle.dp_laws.proofs.TreeActions.{action_below, equal_by_actions}
 use Rattle.dp_laws.proofs.LineTexts.{HasItems, bytes_of, first_of_list, rest_of_list, line_text_injective}
-
--- ---- trees
-
--- lists of equally many trees are equal where each tree is
-same_children : (b n r c : ℕ) (ks ls : PolicyTrees) → ArePolicyTrees b n r c ks → ArePolicyTrees b n r c ls → ((o : ℕ) → o < c → nth_tree ks o ≡ nth_tree ls o) → ks ≡ ls
-same_children b n r zero no_trees no_trees p q same = refl
-same_children b n r zero no_trees (more_trees l ls) p q same = absurd q
-same_children b n r zero (more_trees k ks) ls p q same = absurd p
-same_children b n r (suc c) no_trees ls p q same = absurd p
-same_children b n r (suc c) (more_trees k ks) no_trees p q same = absurd q
-same_children b n r (suc c) (more_trees k ks) (more_trees l ls) p q same =
-    rw (same 0 (omega arith), same_children b n r c ks ls p.1 q.1 (λ o lt. same (suc o) (omega arith))) refl
-
--- trees of one step are equal where their actions are
-same_last : (b n : ℕ) (u v : PolicyTree) → IsPolicyTree b n 1 u → IsPolicyTree b n 1 v → root_action u ≡ root_action v → u ≡ v
-same_last b n (node a ks) (node c ls) p q same = rw (same, p.1, q.1) refl
-
--- trees of more steps are equal where their actions and their subtrees are
-same_node : (b n r : ℕ) (u v : PolicyTree) → IsPolicyTree b n (suc (suc r)) u → IsPolicyTree b n (suc (suc r)) v → root_action u ≡ root_action v → ((o : ℕ) → o < n → subtree u o ≡ subtree v o) → u ≡ v
-same_node b n r (node a ks) (node c ls) p q same below = rw (same, same_children b n (suc r) n ks ls p.1 q.1 below) refl
-
--- two trees do the same after every own history shorter than h
-abbrev pub ActAlike : ℕ → ℕ → PolicyTree → PolicyTree → Type 0
-ActAlike n h q p = (t x : ℕ) → t < h → x < n ^ t → root_action (tree_at n q t x) ≡ root_action (tree_at n p t x)
-
--- what remains of trees that act alike is equal
-same_after : (b n h : ℕ) (q p : PolicyTree) → IsPolicyTree b n h q → IsPolicyTree b n h p → ActAlike n h q p
-    → (j t x : ℕ) → t + suc j ≡ h → x < n ^ t → tree_at n q t x ≡ tree_at n p t x
-same_after b n h q p is are alike zero t x e below =
-    same_last b n _ _ (tree_at_fits b n q t 1 h x e below is) (tree_at_fits b n p t 1 h x e below are) (alike t x (omega arith) below)
-same_after b n h q p is are alike (suc j) t x e below =
-    same_node b n j _ _ (tree_at_fits b n q t (suc (suc j)) h x e below is) (tree_at_fits b n p t (suc (suc j)) h x e below are) (alike t x (omega arith) below)
-    (λ o lt.
-    let place : x * n + o < n ^ suc t = rw pow-suc (row_below x (n ^ t) n o below lt) in
-    let there : tree_at n q (suc t) (x * n + o) ≡ tree_at n p (suc t) (x * n + o) = same_after b n h q p is are alike j (suc t) (x * n + o) (omega arith) place in
-    let front : (x * n + o) / n ≡ x = div-mul-add x n o lt in
-    let last : (x * n + o) % n ≡ o = mod-mul-add x n o lt in
-    subst (λ (z : ℕ). subtree (tree_at n q t z) o ≡ subtree (tree_at n p t z) o) front
-    (subst (λ (z : ℕ). subtree (tree_at n q t ((x * n + o) / n)) z ≡ subtree (tree_at n p t ((x * n + o) / n)) z) last there))
-
--- trees that act alike are equal
-pub same_tree : (b n h : ℕ) (q p : PolicyTree) → 0 < h → IsPolicyTree b n h q → IsPolicyTree b n h p → ActAlike n h q p → q ≡ p
-same_tree b n zero q p some is are alike = absurd (omega arith)
-same_tree b n (suc j) q p some is are alike = same_after b n (suc j) q p is are alike j 0 0 (omega arith) (rw pow-zero (omega arith))
 
 -- ---- rows
 
@@ -78,8 +31,7 @@ pub row_is : (b n h t : ℕ) (q : PolicyTree) → b ≤ 2 ^ 32 → t < h → IsP
 row_is b n h t q small lt is = (
   replicate_items (n ^ t) 0 (b - 1),
   row_allowed (λ x. root_action (tree_at n q t x)) (b - 1) 0 (n ^ t) (λ x ge below.
-      let left : t + suc (h - suc t) ≡ h = omega arith in
-      let in_range : root_action (tree_at n q t x) < b = root_in b n (h - suc t) _ (tree_at_fits b n q t (suc (h - suc t)) h x left (omega arith) is) in
+      let in_range = action_below b n h q is t x lt (omega arith) in
       (omega arith, omega arith)),
 )
 
@@ -134,6 +86,6 @@ agent_lines_injective h (b ∷ bs) (n ∷ ns) (q ∷ qs) (p ∷ ps) some small (
     let grouped : map bytes_of (map (row_line b n q) (range_with_len 0 h) ++ (agent_lines (agent + 1) (policy_rows bs ns h qs) ++ more)) ≡ map bytes_of (map (row_line b n p) (range_with_len 0 h) ++ (agent_lines (agent + 1) (policy_rows bs ns h ps) ++ others)) =
     ap (map bytes_of) (sym (append_assoc (map (row_line b n q) (range_with_len 0 h)) mine more)) ∙ tails ∙ ap (map bytes_of) (append_assoc (map (row_line b n p) (range_with_len 0 h)) yours others) in
     let rows = row_lines_injective b n h q p small.0 is are 0 h (omega arith) (mine ++ more) (yours ++ others) grouped in
-    let tree : q ≡ p = same_tree b n h q p some is are (λ t x lt below. rows.0 t x (omega arith) (omega arith) below) in
+    let tree : q ≡ p = equal_by_actions b n h q p some is are (λ t x lt below. rows.0 t x (omega arith) (omega arith) below) in
     let further = agent_lines_injective h bs ns qs ps some small.1 iss ares (agent + 1) more others rows.1 in
     (rw (tree, further.0) refl, further.1)

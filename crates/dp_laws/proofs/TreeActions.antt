@@ -4,36 +4,13 @@ use Rattle.std.proofs.Math.Nat.{pow-suc, pow-zero}
 use Rattle.std.proofs.lemmas.Nat.{div-mul-add, mod-mul-add, mod_below}
 use Rattle.dp_laws.proofs.Keeping.{tree_at_fits}
 use Rattle.dp_laws.proofs.OwnHistories.{next_history_below}
-use Rattle.dp_laws.proofs.Trees.{kid_is, part_below, pos_of, root_in, row_below}
+use Rattle.dp_laws.proofs.Trees.{part_below, pos_of, root_in}
 use Rattle.dp_spec.specs.FullPolicy.{tree_doing, tree_doing_after, trees_from}
 use Rattle.dp_spec.specs.Keeping.{tree_at}
 use Rattle.dp_spec.specs.PolicyTree.{ArePolicyTrees, IsPolicyTree, PolicyTree, PolicyTrees, more_trees, no_trees, node, nth_tree, root_action, subtree}
 
 under_one : (n x : ℕ) → x < n ^ 0 → x ≡ 0
 under_one n x h = omega (arith, pow-zero n)
-
--- the place of a history that goes on by its last observation, and by its first
-last_place : (n t o x : ℕ) → (o * n ^ t + x / n) * n + x % n ≡ o * n ^ suc t + x
-last_place n t o x = rw pow-suc (omega arith)
-
-first_place : (n t o x : ℕ) → o < n → x < n ^ t → o * n ^ t + x < n ^ suc t
-first_place n t o x p h = rw pow-suc (let below = row_below o n (n ^ t) x p h in omega arith)
-
--- what remains of the tree after the first observation o, after own history x
-tree_at-subtree : (n : ℕ) (q : PolicyTree) (o t x : ℕ) → o < n → x < n ^ t → tree_at n (subtree q o) t x ≡ tree_at n q (suc t) (o * n ^ t + x)
-tree_at-subtree n q o zero x p h =
-    let e : x ≡ 0 = under_one n x h in
-    let place : (o * n ^ 0 + x) ≡ 0 * n + o = omega (arith, ap (λ (z : ℕ). o * z) (pow-zero n)) in
-    ap (subtree q) (sym (mod-mul-add 0 n o p) ∙ ap (λ (z : ℕ). z % n) (sym place))
-tree_at-subtree n q o (suc t) x p h =
-    let h' : x < n ^ t * n = rw pow-suc at h in
-    let place = last_place n t o x in
-    let lt = mod_below x n (pos_of (n ^ t) n x h') in
-    let first : (o * n ^ suc t + x) / n ≡ o * n ^ t + x / n = ap (λ (z : ℕ). z / n) (sym place) ∙ div-mul-add (o * n ^ t + x / n) n (x % n) lt in
-    let rest : (o * n ^ suc t + x) % n ≡ x % n = ap (λ (z : ℕ). z % n) (sym place) ∙ mod-mul-add (o * n ^ t + x / n) n (x % n) lt in
-    ap (λ z. subtree z (x % n)) (tree_at-subtree n q o t (x / n) p (part_below (n ^ t) n x h'))
-    ∙ ap (λ (z : ℕ). subtree (tree_at n q (suc t) z) (x % n)) (sym first)
-    ∙ ap (λ (z : ℕ). subtree (tree_at n q (suc t) ((o * n ^ suc t + x) / n)) z) (sym rest)
 
 -- lists of so many trees are equal where all their trees are
 equal_lists : (b n r c : ℕ) (ks ls : PolicyTrees) → ArePolicyTrees b n r c ks → ArePolicyTrees b n r c ls → ((o : ℕ) → o < c → nth_tree ks o ≡ nth_tree ls o) → ks ≡ ls
@@ -42,22 +19,34 @@ equal_lists b n r zero no_trees (more_trees q ls) k l same = absurd l
 equal_lists b n r zero (more_trees p ks) ls k l same = absurd k
 equal_lists b n r (suc c) no_trees ls k l same = absurd k
 equal_lists b n r (suc c) (more_trees p ks) no_trees k l same = absurd l
-equal_lists b n r (suc c) (more_trees p ks) (more_trees q ls) k l same =
-    let first : p ≡ q = same 0 (omega arith) in
-    let rest : ks ≡ ls = equal_lists b n r c ks ls k.1 l.1 (λ o h. same (suc o) (omega arith)) in cc
+equal_lists b n r (suc c) (more_trees p ks) (more_trees q ls) k l same = rw (same 0 (omega arith), equal_lists b n r c ks ls k.1 l.1 (λ o h. same (suc o) (omega arith))) refl
 
--- Two trees of r steps that do the same after each own history are equal.
+-- trees of one step are equal where their actions are
+equal_leaves : (b n : ℕ) (p q : PolicyTree) → IsPolicyTree b n 1 p → IsPolicyTree b n 1 q → root_action p ≡ root_action q → p ≡ q
+equal_leaves b n (node a ks) (node c ls) tp tq same = rw (same, tp.1, tq.1) refl
+
+-- trees of more steps are equal where their actions and their subtrees are
+equal_nodes : (b n r : ℕ) (p q : PolicyTree) → IsPolicyTree b n (suc (suc r)) p → IsPolicyTree b n (suc (suc r)) q → root_action p ≡ root_action q → ((o : ℕ) → o < n → subtree p o ≡ subtree q o) → p ≡ q
+equal_nodes b n r (node a ks) (node c ls) tp tq same below = rw (same, equal_lists b n (suc r) n ks ls tp.1 tq.1 below) refl
+
+-- what remains of a tree after an own history and one more observation
+tree_at-next : (n : ℕ) (q : PolicyTree) (t x o : ℕ) → o < n → tree_at n q (suc t) (x * n + o) ≡ subtree (tree_at n q t x) o
+tree_at-next n q t x o h = rw (div-mul-add x n o h, mod-mul-add x n o h) refl
+
+-- what remains of trees that do the same is equal
+equal_remains : (b n h : ℕ) (p q : PolicyTree) → IsPolicyTree b n h p → IsPolicyTree b n h q → ((t x : ℕ) → t < h → x < n ^ t → root_action (tree_at n p t x) ≡ root_action (tree_at n q t x)) →
+    (r t x : ℕ) → t + suc r ≡ h → x < n ^ t → tree_at n p t x ≡ tree_at n q t x
+equal_remains b n h p q tp tq same zero t x e u =
+    equal_leaves b n _ _ (tree_at_fits b n p t 1 h x e u tp) (tree_at_fits b n q t 1 h x e u tq) (same t x (omega arith) u)
+equal_remains b n h p q tp tq same (suc r) t x e u =
+    equal_nodes b n r _ _ (tree_at_fits b n p t (suc (suc r)) h x e u tp) (tree_at_fits b n q t (suc (suc r)) h x e u tq) (same t x (omega arith) u)
+    (λ o below. sym (tree_at-next n p t x o below) ∙ equal_remains b n h p q tp tq same r (suc t) (x * n + o) (omega arith) (next_history_below x n t o u below) ∙ tree_at-next n q t x o below)
+
+-- two trees of r steps that do the same after each own history are equal
 pub equal_by_actions : (b n r : ℕ) (p q : PolicyTree) → 0 < r → IsPolicyTree b n r p → IsPolicyTree b n r q →
     ((t x : ℕ) → t < r → x < n ^ t → root_action (tree_at n p t x) ≡ root_action (tree_at n q t x)) → p ≡ q
 equal_by_actions b n zero p q some tp tq same = absurd (omega arith)
-equal_by_actions b n (suc zero) (node a ks) (node c ls) some tp tq same =
-    let here : a ≡ c = same 0 0 (omega arith) (omega (arith, pow-zero n)) in let k = tp.1 in let l = tq.1 in cc
-equal_by_actions b n (suc (suc r)) (node a ks) (node c ls) some tp tq same =
-    let here : a ≡ c = same 0 0 (omega arith) (omega (arith, pow-zero n)) in
-    let rest : ks ≡ ls = equal_lists b n (suc r) n ks ls tp.1 tq.1 (λ o h.
-    equal_by_actions b n (suc r) (nth_tree ks o) (nth_tree ls o) (omega arith) (kid_is b n (suc r) n ks o h tp.1) (kid_is b n (suc r) n ls o h tq.1) (λ t x u v.
-    ap root_action (tree_at-subtree n (node a ks) o t x h v) ∙ same (suc t) (o * n ^ t + x) (omega arith) (first_place n t o x h v) ∙ ap root_action (sym (tree_at-subtree n (node c ls) o t x h v)))) in
-    cc
+equal_by_actions b n (suc r) p q some tp tq same = equal_remains b n (suc r) p q tp tq same r 0 0 (omega arith) (omega (arith, pow-zero n))
 
 -- ---- the tree of given actions
 nth-trees_from : (c : ℕ) (g : ℕ → PolicyTree) (o : ℕ) → o < c → nth_tree (trees_from c g) o ≡ g o
