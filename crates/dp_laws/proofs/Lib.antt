@@ -9,6 +9,7 @@ pub mod Gain
 pub mod Graft
 pub mod Holds
 pub mod KeepsAllAgents
+pub mod LongerLook
 pub mod Look
 pub mod MergeSide
 pub mod Merging
