@@ -2,12 +2,14 @@ pub mod AtScales
 pub mod Best
 pub mod Checker
 pub mod ClassLists
+pub mod ConstantPolicies
 pub mod ExactLaws
 pub mod Floors
 pub mod Forward
 pub mod Gain
 pub mod Graft
 pub mod Holds
+pub mod JointParts
 pub mod KeepsAllAgents
 pub mod LongerLook
 pub mod Look

@@ -1,3 +1,4 @@
 pub mod Following
 pub mod OneSpelling
 pub mod LookAheadLaws
+pub mod HorizonOneLaws

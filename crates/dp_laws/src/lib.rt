@@ -4,8 +4,10 @@
 mod texts;
 
 pub use texts::{certificates_have_one_text, policies_have_one_text};
+mod horizon_one;
 mod look_ahead;
 
+pub use horizon_one::{constant_policy_is_policy, root_bound_is_best_constant_action};
 pub use look_ahead::{
     action_look_ahead_bounds_every_policy, look_ahead_bounds_every_policy, more_look_never_raises,
     more_look_never_raises_action, table_bounds_every_policy,
