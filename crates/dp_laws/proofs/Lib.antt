@@ -10,6 +10,7 @@ pub mod Gain
 pub mod Graft
 pub mod Holds
 pub mod JointParts
+pub mod Keeping
 pub mod KeepsAllAgents
 pub mod LongerLook
 pub mod Look
@@ -18,7 +19,6 @@ pub mod Merging
 pub mod OneStep
 pub mod OutwardLaws
 pub mod OwnHistories
-pub mod Pairs
 pub mod Recursion
 pub mod RecursiveWorth
 pub mod Results
