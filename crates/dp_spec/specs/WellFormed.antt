@@ -1,4 +1,4 @@
--- Well-formed fronts: the lists have their lengths, every own history of the stage has a class, every class a history, and actions exist.
+-- Well-formed fronts: the lists have their lengths, every own history of the stage has a class, every class a history, actions exist, and none is chosen where no step is left.
 use Rattle.std.specs.Prelude.{ℕ, ◌^◌, ◌<◌, ◌≤◌, ◌≡◌, List, [], ◌∷◌, length, get_or, Some, None}
 use Rattle.dp_spec.specs.Model.{Model}
 use Rattle.dp_spec.specs.Front.{AgentFront, Front}
@@ -20,7 +20,14 @@ pub data AreAgentFronts (f : ℕ) : List ℕ → List ℕ → List AgentFront �
   no_agents : AreAgentFronts f [] [] []
   and_agent : {b n : ℕ} {bs ns : List ℕ} {d : AgentFront} {ds : List AgentFront} → IsAgentFront b n f d → AreAgentFronts f bs ns ds → AreAgentFronts f (b ∷ bs) (n ∷ ns) (d ∷ ds)
 
+-- no class of any agent has an action
+abbrev pub NoneChosen : List AgentFront → Type 0
+NoneChosen [] = Unit {0}
+NoneChosen (d ∷ ds) = ((c : ℕ) → get_or d.chosen c None ≡ None) × NoneChosen ds
+
 -- a front of a model, of a horizon of h steps
 pub record IsFront (m : Model) (h : ℕ) (F : Front) : Type 0 where
   pub stage_limit : F.stage ≤ h
   pub agents : AreAgentFronts F.stage m.actions m.observations F.agents
+  -- where no step is left there is nothing to choose
+  pub none_at_end : F.stage ≡ h → NoneChosen F.agents
