@@ -31,3 +31,4 @@ pub mod LineTexts
 pub mod PolicyTexts
 pub mod WholeTexts
 pub mod CertificateTexts
+pub mod WellFormedSteps

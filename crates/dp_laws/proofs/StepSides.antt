@@ -29,7 +29,8 @@ chosen_side bs n f r d q us k c a h e =
       of_stage = k.of_stage;
     }
 
-some_at : (os : List (Option ℕ)) (c : ℕ) → all_chosen os ≡ true → c < length os → (a : ℕ) × (get_or os c None ≡ Some a)
+-- where all have an action, a class has one
+pub some_at : (os : List (Option ℕ)) (c : ℕ) → all_chosen os ≡ true → c < length os → (a : ℕ) × (get_or os c None ≡ Some a)
 some_at [] c e h = absurd (omega arith)
 some_at (None ∷ os) c e h = cc
 some_at (Some a ∷ os) zero e h = (a, refl)
@@ -38,7 +39,8 @@ some_at (Some a ∷ os) (suc c) e h = some_at os c e (omega arith)
 lt_or_eq : (t f : ℕ) → t < suc f → (t < f) ⊎ (t ≡ f)
 lt_or_eq t f h = grind arith
 
-new_class : (n f x : ℕ) (cs : List ℕ) → x < n ^ suc f → get_or (map (λ x. get_or cs (x / n) 0 * n + x % n) (range_with_len 0 (n ^ suc f))) x 0 ≡ get_or cs (x / n) 0 * n + x % n
+-- the class of an own history one step on
+pub new_class : (n f x : ℕ) (cs : List ℕ) → x < n ^ suc f → get_or (map (λ x. get_or cs (x / n) 0 * n + x % n) (range_with_len 0 (n ^ suc f))) x 0 ≡ get_or cs (x / n) 0 * n + x % n
 new_class n f x cs h = get_or-map-range_with_len (λ x. get_or cs (x / n) 0 * n + x % n) 0 (n ^ suc f) x x 0 h (omega arith)
 
 pub advanced_side : (bs n f r : ℕ) (d : AgentFront) (q : PolicyTree) (us : ℕ → PolicyTree) → FollowsAgentFront bs n f (suc r) d q us → all_chosen d.chosen ≡ true →

@@ -2,3 +2,4 @@ pub mod Following
 pub mod OneSpelling
 pub mod LookAheadLaws
 pub mod HorizonOneLaws
+pub mod FrontStepLaws

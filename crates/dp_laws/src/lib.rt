@@ -4,9 +4,14 @@
 mod texts;
 
 pub use texts::{certificates_have_one_text, policies_have_one_text};
+mod front_steps;
 mod horizon_one;
 mod look_ahead;
 
+pub use front_steps::{
+    advancing_keeps_well_formed, choosing_keeps_well_formed, front_after_choice_is_well_formed,
+    merging_keeps_well_formed,
+};
 pub use horizon_one::{constant_policy_is_policy, root_bound_is_best_constant_action};
 pub use look_ahead::{
     action_look_ahead_bounds_every_policy, look_ahead_bounds_every_policy, more_look_never_raises,

@@ -1,0 +1,30 @@
+-- What the steps of a front keep: well-formedness, weights, what is earned, equivalence of classes, and the policies.
+use Rattle.std.specs.Prelude.{ℕ, ◌<◌, ◌≡◌, true, get_or}
+use Rattle.dp_spec.specs.Model.{Model}
+use Rattle.dp_spec.specs.Front.{Front}
+use Rattle.dp_spec.specs.WellFormed.{IsFront}
+use Rattle.dp_spec.specs.Steps.{IsUnassigned, is_complete, chosen_front, advanced_front, front_after_choice}
+use Rattle.dp_spec.specs.Merge.{merged_front}
+
+-- a well-formed front stays so where an unassigned class is given an action of its agent
+abbrev pub ChoosingKeepsWellFormed : Type 0
+ChoosingKeepsWellFormed =
+    (m : Model) (h : ℕ) (F : Front) (i c a : ℕ) → IsFront m h F → F.stage < h → IsUnassigned i c F.agents → a < get_or m.actions i 0 →
+    IsFront m h (chosen_front F i c a)
+
+-- where a complete front goes on to the next stage
+abbrev pub AdvancingKeepsWellFormed : Type 0
+AdvancingKeepsWellFormed =
+    (m : Model) (h : ℕ) (F : Front) → IsFront m h F → F.stage < h → is_complete F.agents ≡ true → IsFront m h (advanced_front m F)
+
+-- where two unassigned classes are merged
+abbrev pub MergingKeepsWellFormed : Type 0
+MergingKeepsWellFormed =
+    (m : Model) (h : ℕ) (F : Front) (i a b : ℕ) → IsFront m h F → F.stage < h → a < b → IsUnassigned i a F.agents → IsUnassigned i b F.agents →
+    IsFront m h (merged_front F i a b)
+
+-- after a choice, and the advance where it follows
+abbrev pub FrontAfterChoiceIsWellFormed : Type 0
+FrontAfterChoiceIsWellFormed =
+    (m : Model) (h : ℕ) (F : Front) (i c a : ℕ) → IsFront m h F → F.stage < h → IsUnassigned i c F.agents → a < get_or m.actions i 0 →
+    IsFront m h (front_after_choice m F i c a)
