@@ -1,6 +1,7 @@
 pub mod AtScales
 pub mod Best
 pub mod Checker
+pub mod ChosenFronts
 pub mod ClassLists
 pub mod ConstantPolicies
 pub mod ExactLaws

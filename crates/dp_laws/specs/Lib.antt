@@ -3,3 +3,4 @@ pub mod OneSpelling
 pub mod LookAheadLaws
 pub mod HorizonOneLaws
 pub mod FrontStepLaws
+pub mod ChoosingLaws

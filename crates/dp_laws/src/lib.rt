@@ -4,10 +4,12 @@
 mod texts;
 
 pub use texts::{certificates_have_one_text, policies_have_one_text};
+mod choosing;
 mod front_steps;
 mod horizon_one;
 mod look_ahead;
 
+pub use choosing::{choosing_changes_no_weight, equivalence_ignores_choices};
 pub use front_steps::{
     advancing_keeps_well_formed, choosing_keeps_well_formed, front_after_choice_is_well_formed,
     merging_keeps_well_formed,
