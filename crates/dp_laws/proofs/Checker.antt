@@ -65,7 +65,7 @@ zero_right a b e = omega (arith, ints)
 nothing_left : (n : ℕ) (w : ℕ → ℕ) → int_sum n (λ s. pos (w s) *ℤ pos 0) ≡ pos 0
 nothing_left n w = int_sum_weigh n w (pos 0) ∙ omega (arith, ints)
 
-within : (m : Model) → IsModel m → (look : ℕ) (F : Front) (r : ℕ) (qs : List PolicyTree) (uss : List (ℕ → PolicyTree)) → FollowsAgentFronts F.stage r m.actions m.observations F.agents qs uss → policy_value m (F.stage + r) qs ≤ℤ bound_of m r F look
+pub within : (m : Model) → IsModel m → (look : ℕ) (F : Front) (r : ℕ) (qs : List PolicyTree) (uss : List (ℕ → PolicyTree)) → FollowsAgentFronts F.stage r m.actions m.observations F.agents qs uss → policy_value m (F.stage + r) qs ≤ℤ bound_of m r F look
 within m ok look F zero qs uss ks =
     let O = joint_observations m in
     zle_trans _ _ _

@@ -13,6 +13,8 @@ pub mod Holds
 pub mod JointParts
 pub mod Keeping
 pub mod KeepsAllAgents
+pub mod KeptBound
+pub mod KeptSteps
 pub mod LongerLook
 pub mod Look
 pub mod MergeSide

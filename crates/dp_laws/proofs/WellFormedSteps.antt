@@ -54,7 +54,8 @@ chosen_is_front m h F i c a front lt free p = record {
 }
 
 -- ---- advancing
-before_or_at : (t f : ℕ) → t < suc f → (t < f) ⊎ (t ≡ f)
+-- at a stage one on
+pub before_or_at : (t f : ℕ) → t < suc f → (t < f) ⊎ (t ≡ f)
 before_or_at t f h = grind arith
 
 next_agent : (b n f : ℕ) (d : AgentFront) → IsAgentFront b n f d → all_chosen d.chosen ≡ true → IsAgentFront b n (suc f) (advanced_agent n f d)
@@ -105,7 +106,8 @@ next_agents : {f : ℕ} {bs ns : List ℕ} {ds : List AgentFront} → AreAgentFr
 next_agents no_agents all = no_agents
 next_agents (and_agent k ks) all = let both = and_both _ _ all in and_agent (next_agent _ _ _ _ k both.0) (next_agents ks both.1)
 
-no_choice : (n c : ℕ) → get_or {A = Option ℕ} (replicate n None) c None ≡ None
+-- a new class has no action
+pub no_choice : (n c : ℕ) → get_or {A = Option ℕ} (replicate n None) c None ≡ None
 no_choice zero c = refl
 no_choice (suc n) zero = refl
 no_choice (suc n) (suc c) = no_choice n c

@@ -4,3 +4,4 @@ pub mod LookAheadLaws
 pub mod HorizonOneLaws
 pub mod FrontStepLaws
 pub mod ChoosingLaws
+pub mod FrontBoundLaws

@@ -1,9 +1,4 @@
-ghost use Rattle.dp_laws.specs.FrontStepLaws.{
-  AdvancingKeepsWellFormed,
-  ChoosingKeepsWellFormed,
-  FrontAfterChoiceIsWellFormed,
-  MergingKeepsWellFormed,
-};
+ghost use Rattle.dp_laws.specs.FrontStepLaws.{AdvancingKeepsWellFormed, ChoosingKeepsWellFormed, FrontAfterChoiceIsWellFormed, KeepingPolicyAdvances, KeepingPolicyGoesOn, KeepingPolicyMakesChoice, MergingKeepsWellFormed};
 
 /// A well-formed front stays so where an unassigned class is given an action of its agent.
 #[tactic(auto, using(crate::proofs::WellFormedSteps::chosen_is_front))]
@@ -26,4 +21,22 @@ pub fn merging_keeps_well_formed()
 #[tactic(auto, using(crate::proofs::WellFormedSteps::after_choice_is_front))]
 pub fn front_after_choice_is_well_formed()
     ensures { FrontAfterChoiceIsWellFormed }
+{}
+
+/// A policy that keeps a front keeps one of its fronts after a choice of any unassigned class.
+#[tactic(auto, using(crate::proofs::KeptSteps::keeps_some_choice))]
+pub fn keeping_policy_makes_choice()
+    ensures { KeepingPolicyMakesChoice }
+{}
+
+/// A policy that keeps a complete front keeps the advanced front.
+pub fn keeping_policy_advances()
+    ensures { KeepingPolicyAdvances }
+{}
+
+/// A policy that keeps a front keeps one of its fronts after a choice of any unassigned class, and
+/// after the advance where it follows.
+#[tactic(auto, using(crate::proofs::KeptSteps::keeps_some_next))]
+pub fn keeping_policy_goes_on()
+    ensures { KeepingPolicyGoesOn }
 {}
