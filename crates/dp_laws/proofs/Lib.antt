@@ -1,6 +1,8 @@
+pub mod AgreeingActions
 pub mod AtScales
 pub mod Best
 pub mod Checker
+pub mod ChosenBound
 pub mod ChosenFronts
 pub mod ClassLists
 pub mod ConstantPolicies
