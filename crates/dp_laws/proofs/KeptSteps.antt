@@ -57,7 +57,8 @@ pub keeps_some_choice : (m : Model) (h : ℕ) (F : Front) (qs : List PolicyTree)
 keeps_some_choice m h F qs i c front lt policy keeps free = choose (h - suc F.stage) (omega arith) front.agents policy keeps i c free
 
 -- ---- advancing
-same_parts : (n p j p' j' : ℕ) → j < n → j' < n → p * n + j ≡ p' * n + j' → (p ≡ p') × (j ≡ j')
+-- equal numbers have equal parts
+pub same_parts : (n p j p' j' : ℕ) → j < n → j' < n → p * n + j ≡ p' * n + j' → (p ≡ p') × (j ≡ j')
 same_parts n p j p' j' lt lt' e = (
   sym (div-mul-add p n j lt) ∙ ap (λ (z : ℕ). z / n) e ∙ div-mul-add p' n j' lt',
   sym (mod-mul-add p n j lt) ∙ ap (λ (z : ℕ). z % n) e ∙ mod-mul-add p' n j' lt',
