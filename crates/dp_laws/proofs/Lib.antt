@@ -1,3 +1,4 @@
+pub mod AdvancedFronts
 pub mod AgreeingActions
 pub mod AtScales
 pub mod Best

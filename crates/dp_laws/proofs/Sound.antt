@@ -35,7 +35,7 @@ pub pick : (t : Bool) (n : ℕ) (w : ℕ → ℕ) (N : List PolicyTree → ℕ �
 pick true n w N q q' h = ap (λ x. int_sum n (λ s. pos (w s) *ℤ N x s)) (h refl)
 pick false n w N q q' h = sym (int_sum_ext n _ (λ s. pos 0) (λ s p. zero-*ℤ (N q' s)) ∙ int_sum_zero n)
 
-length_is : (n t : ℕ) (H : List ℕ) → IsJointHistory n t H → length H ≡ t
+pub length_is : (n t : ℕ) (H : List ℕ) → IsJointHistory n t H → length H ≡ t
 length_is n zero [] h = refl
 length_is n zero (o ∷ H) h = absurd h
 length_is n (suc t) [] h = absurd h
