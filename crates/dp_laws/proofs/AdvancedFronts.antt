@@ -129,7 +129,7 @@ module _ (m : Model) (h : ℕ) (F : Front) (front : IsFront m h F) where
       ap (λ (t : ℕ). joint_number m.actions (fixed_actions G.agents t xs)) (length_is _ F.stage H p)
       ∙ ap (joint_number m.actions) (fixed_at front.agents xs w ∙ ap (actions_for F.agents) (sym (parts-joint _ _ (classes_below front.agents xs w))))
 
-  weight_same_to : (t : ℕ) (H : List ℕ) → t < suc F.stage → IsJointHistory (joint_observations m) t H → history_weight m (fixed_joint_action m F) H ≡ history_weight m (fixed_joint_action m G) H
+  pub weight_same_to : (t : ℕ) (H : List ℕ) → t < suc F.stage → IsJointHistory (joint_observations m) t H → history_weight m (fixed_joint_action m F) H ≡ history_weight m (fixed_joint_action m G) H
   weight_same_to zero [] lt p = refl
   weight_same_to zero (o ∷ H) lt p = absurd p
   weight_same_to (suc t) [] lt p = absurd p
@@ -155,7 +155,7 @@ module _ (m : Model) (h : ℕ) (F : Front) (front : IsFront m h F) where
       let parts = parts-joint (class_counts F.agents) (own_classes F.agents (own_histories m.observations H)) (classes_below front.agents _ w) in
       (λ j. joint_number (counts_are_pairs j) (classes j)) ∙ ap (λ z. joint_number (pair_counts (class_counts F.agents) m.observations) (next_own_histories m.observations z (parts_of m.observations o))) (sym parts)
 
-  in_product : (o : ℕ) → o < joint_observations m → o < product m.observations
+  pub in_product : (o : ℕ) → o < joint_observations m → o < product m.observations
   unfolding joint_observations
   in_product o p = p
 

@@ -70,7 +70,7 @@ constant_value m ok a p =
     ∙ ap (weighted_reward m 0 (start_at m)) (constant_policy_begins m ok 1 a p)
 
 -- with no step left after it a joint action earns its reward
-last_action : (m : Model) (w : ℕ → ℕ) (a k : ℕ) → action_look_ahead m 0 w a k ≡ weighted_reward m 0 w a
+pub last_action : (m : Model) (w : ℕ → ℕ) (a k : ℕ) → action_look_ahead m 0 w a k ≡ weighted_reward m 0 w a
 unfolding action_look_ahead
 last_action m w a k = none_more (joint_observations m) (weighted_reward m 0 w a)
 

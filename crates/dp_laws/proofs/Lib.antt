@@ -1,3 +1,4 @@
+pub mod AdvancedBound
 pub mod AdvancedFronts
 pub mod AgreeingActions
 pub mod AtScales

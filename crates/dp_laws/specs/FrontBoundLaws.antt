@@ -21,3 +21,9 @@ abbrev pub ChoosingNeverRaisesBound : Type 0
 ChoosingNeverRaisesBound =
     (m : Model) → IsModel m → (h r look : ℕ) (F : Front) (i c a : ℕ) → IsFront m h F → F.stage < h → IsUnassigned i c F.agents → a < get_or m.actions i 0 →
     bound_of m r (chosen_front F i c a) look ≤ℤ bound_of m r F look
+
+-- a bound with a look of at least 1 does not grow where a complete front goes on to the next stage (exact numbers)
+abbrev pub AdvancingNeverRaisesBound : Type 0
+AdvancingNeverRaisesBound =
+    (m : Model) → IsModel m → (h r look : ℕ) (F : Front) → IsFront m h F → F.stage < h → is_complete F.agents ≡ true → 0 < look →
+    bound_of m r (advanced_front m F) look ≤ℤ bound_of m (suc r) F look
