@@ -16,6 +16,7 @@ pub mod Graft
 pub mod Holds
 pub mod JointPairs
 pub mod JointParts
+pub mod JointPlaces
 pub mod Keeping
 pub mod KeepsAllAgents
 pub mod KeptBound
