@@ -1,5 +1,5 @@
 -- what the advanced front of a complete front fixes, and how it weighs
-use Rattle.std.proofs.Common.{◌≡◌, ◌≢◌, ◌⊎◌, inl, inr, ℕ, zero, suc, ◌+◌, ◌*◌, ◌/◌, ◌%◌, ◌^◌, ◌<◌, Bool, true, cond, eqb, List, [], ◌∷◌, ◌++◌, map, length, get_or, replicate, Option, None, refl, sym, ap, ◌∙◌, subst, arith}
+use Rattle.std.proofs.Common.{◌≡◌, ◌≢◌, inl, inr, ℕ, zero, suc, ◌+◌, ◌*◌, ◌/◌, ◌%◌, ◌^◌, ◌<◌, cond, eqb, List, [], ◌∷◌, map, length, get_or, Option, None, refl, sym, ap, ◌∙◌, subst, arith}
 use Rattle.std.specs.Prelude.{unwrap_or}
 use Rattle.std.specs.List.{range_with_len}
 use Rattle.std.proofs.lemmas.Bool.Decides.{nat_tests}
@@ -17,13 +17,12 @@ use Rattle.dp_laws.proofs.StepSides.{new_class}
 use Rattle.dp_laws.proofs.Sums.{dec_eq, nat_sum_ext}
 use Rattle.dp_laws.proofs.Trees.{row_below}
 use Rattle.dp_spec.specs.Front.{AgentFront, Front, class_counts, class_weight, fixed_actions, fixed_joint_action, joint_class, next_own_histories, own_classes, own_histories}
-use Rattle.dp_spec.specs.JointHistory.{IsJointHistory, history_weight, nat_history_sum}
+use Rattle.dp_spec.specs.JointHistory.{IsJointHistory, history_weight}
 use Rattle.dp_spec.specs.JointNumbers.{joint_number, parts_of, product}
 use Rattle.dp_spec.specs.LookAhead.{weights_after}
 use Rattle.dp_spec.specs.Model.{Model, joint_observations}
 use Rattle.dp_spec.specs.Steps.{advanced_agent, advanced_agents, advanced_front}
-use Rattle.dp_spec.specs.Sums.{nat_sum}
-use Rattle.dp_spec.specs.WellFormed.{AreAgentFronts, IsAgentFront, IsFront}
+use Rattle.dp_spec.specs.WellFormed.{AreAgentFronts, IsFront}
 use Rattle.dp_spec.specs.WellFormed.AreAgentFronts.{and_agent, no_agents}
 
 -- ---- the lists of all agents
@@ -88,7 +87,7 @@ fixed_at {f} (and_agent {n = n} {d = d} k ks) (x ∷ xs) h =
     λ j. here j ∷ rest j
 
 -- a test of pairs as two tests
-both_tests : (u v p p' q q' x y : ℕ) → (u ≡ v → (p ≡ p') × (q ≡ q')) → (p ≡ p' → q ≡ q' → u ≡ v) → (p ≡ p' → x ≡ y) → cond (eqb u v) x 0 ≡ cond (eqb q q') (cond (eqb p p') y 0) 0
+pub both_tests : (u v p p' q q' x y : ℕ) → (u ≡ v → (p ≡ p') × (q ≡ q')) → (p ≡ p' → q ≡ q' → u ≡ v) → (p ≡ p' → x ≡ y) → cond (eqb u v) x 0 ≡ cond (eqb q q') (cond (eqb p p') y 0) 0
 both_tests u v p p' q q' x y apart together same =
     elim (dec_eq u v) [
       | inl e ↦ let parts = apart e in equal (e, parts.0, parts.1, same parts.0)
@@ -100,8 +99,10 @@ both_tests u v p p' q q' x y apart together same =
   where
     equal : (u ≡ v) × (p ≡ p') × (q ≡ q') × (x ≡ y) → cond (eqb u v) x 0 ≡ cond (eqb q q') (cond (eqb p p') y 0) 0
     equal e = grind (arith, nat_tests)
+
     first_differs : (u ≢ v) × (p ≢ p') → cond (eqb u v) x 0 ≡ cond (eqb q q') (cond (eqb p p') y 0) 0
     first_differs e = grind (arith, nat_tests)
+
     second_differs : (u ≢ v) × (q ≢ q') → cond (eqb u v) x 0 ≡ cond (eqb q q') (cond (eqb p p') y 0) 0
     second_differs e = grind (arith, nat_tests)
 

@@ -1,5 +1,5 @@
 -- a bound does not grow by choosing
-use Rattle.std.proofs.Common.{◌≡◌, ℕ, zero, suc, ◌+◌, ◌<◌, ℤ, ◌+ℤ◌, ◌≤ℤ◌, List, get_or, refl, sym, ap, ◌∙◌, subst, arith}
+use Rattle.std.proofs.Common.{◌≡◌, ℕ, zero, suc, ◌+◌, ◌<◌, ℤ, ◌+ℤ◌, ◌≤ℤ◌, get_or, sym, ap, ◌∙◌, subst, arith}
 use Rattle.std.proofs.lemmas.Int.{ints}
 use Rattle.dp_laws.proofs.AgreeingActions.{IsIn_filter, agree_without, chosen_action_agrees, greatest_of_part, some_in}
 use Rattle.dp_laws.proofs.Best.{IsIn, IsIn-filter}
@@ -8,7 +8,7 @@ use Rattle.dp_laws.proofs.Ring.{zle_of, zle_trans}
 use Rattle.dp_laws.proofs.Sums.{int_sum_le}
 use Rattle.dp_laws.proofs.WellFormedSteps.{chosen_is_front}
 use Rattle.dp_spec.specs.Bound.{agreeing_actions, all_agree, bound_of}
-use Rattle.dp_spec.specs.Front.{Front, class_counts, class_weight, fixed_joint_action}
+use Rattle.dp_spec.specs.Front.{Front, class_counts, class_weight}
 use Rattle.dp_spec.specs.JointHistory.{earned_reward}
 use Rattle.dp_spec.specs.JointNumbers.{parts_of, product}
 use Rattle.dp_spec.specs.LookAhead.{action_look_ahead}

@@ -25,6 +25,8 @@ pub mod LinearSteps
 pub mod LongerLook
 pub mod Look
 pub mod MergeSide
+pub mod MergedBound
+pub mod MergedFronts
 pub mod Merging
 pub mod NaturalSums
 pub mod OneStep

@@ -11,7 +11,7 @@ use Rattle.dp_spec.specs.JointHistory.{int_history_sum, nat_history_sum}
 use Rattle.dp_spec.specs.LookAhead.{action_look_ahead, look_ahead, weighted_reward, weights_after}
 use Rattle.dp_spec.specs.MdpTable.{mdp_table}
 use Rattle.dp_spec.specs.Model.{Model, joint_actions, joint_observations, obs_at, reward_at, step_scale, trans_at}
-use Rattle.dp_spec.specs.Sums.{greatest, int_sum, nat_sum, numbers_below}
+use Rattle.dp_spec.specs.Sums.{greatest, int_sum, numbers_below}
 
 -- ---- the reward of a step by states
 abbrev pub state_reward : Model → ℕ → ℕ → ℕ → ℤ

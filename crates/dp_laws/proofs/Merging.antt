@@ -48,7 +48,7 @@ fixed_same (suc i) a b (d ∷ ds) t [] = refl
 fixed_same zero a b (d ∷ ds) t (x ∷ xs) = refl
 fixed_same (suc i) a b (d ∷ ds) t (x ∷ xs) = ap (λ z. get_or (get_or d.fixed t []) x 0 ∷ z) (fixed_same i a b ds t xs)
 
-act_same : (m : Model) (F : Front) (i a b : ℕ) → fixed_joint_action m (merged_front F i a b) ≡ fixed_joint_action m F
+pub act_same : (m : Model) (F : Front) (i a b : ℕ) → fixed_joint_action m (merged_front F i a b) ≡ fixed_joint_action m F
 unfolding fixed_joint_action
 act_same m F i a b = λ j H. joint_number m.actions (fixed_same i a b F.agents (length H) (own_histories m.observations H) j)
 

@@ -1,5 +1,5 @@
 -- sums of natural numbers, over ranges and over joint histories
-use Rattle.std.proofs.Common.{◌≡◌, ◌≢◌, ◌⊎◌, inl, inr, ℕ, zero, suc, ◌+◌, ◌*◌, ◌<◌, ◌≤◌, Bool, true, false, cond, eqb, List, [], ◌∷◌, refl, sym, ap, ◌∙◌, arith}
+use Rattle.std.proofs.Common.{◌≡◌, inl, inr, ℕ, zero, suc, ◌+◌, ◌*◌, ◌<◌, ◌≤◌, Bool, true, false, cond, eqb, List, [], ◌∷◌, refl, sym, ap, ◌∙◌, arith}
 use Rattle.std.proofs.lemmas.Bool.Decides.{nat_tests}
 use Rattle.dp_laws.proofs.Sums.{dec_eq, nat_sum_ext}
 use Rattle.dp_spec.specs.JointHistory.{IsJointHistory, nat_history_sum}
@@ -51,6 +51,7 @@ nat_sum_one (suc n) k f h =
   where
     same : k ≡ n → cond (eqb n k) (f n) 0 ≡ f n
     same e = grind (arith, nat_tests)
+
     other : (k ≡ n → ⊥) → cond (eqb n k) (f n) 0 ≡ 0
     other ne = grind (arith, nat_tests)
 

@@ -1,5 +1,5 @@
 -- The bound of a front is above every policy that keeps it, and never grows along a path of fronts.
-use Rattle.std.specs.Prelude.{ℕ, suc, ◌+◌, ◌<◌, ◌≤◌, ◌≡◌, true, ◌≤ℤ◌, List, get_or}
+use Rattle.std.specs.Prelude.{ℕ, suc, ◌+◌, ◌<◌, ◌≡◌, true, ◌≤ℤ◌, List, get_or}
 use Rattle.dp_spec.specs.Model.{Model, IsModel}
 use Rattle.dp_spec.specs.PolicyTree.{PolicyTree, IsPolicyOf}
 use Rattle.dp_spec.specs.Value.{policy_value}
@@ -27,3 +27,9 @@ abbrev pub AdvancingNeverRaisesBound : Type 0
 AdvancingNeverRaisesBound =
     (m : Model) → IsModel m → (h r look : ℕ) (F : Front) → IsFront m h F → F.stage < h → is_complete F.agents ≡ true → 0 < look →
     bound_of m r (advanced_front m F) look ≤ℤ bound_of m (suc r) F look
+
+-- a bound does not grow where two unassigned classes are merged, equivalent or not (exact numbers)
+abbrev pub MergingNeverRaisesBound : Type 0
+MergingNeverRaisesBound =
+    (m : Model) (h r look : ℕ) (F : Front) (i a b : ℕ) → IsFront m h F → F.stage < h → a < b → IsUnassigned i a F.agents → IsUnassigned i b F.agents →
+    bound_of m r (merged_front F i a b) look ≤ℤ bound_of m r F look
