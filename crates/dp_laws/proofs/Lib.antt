@@ -3,6 +3,7 @@ pub mod AdvancedFronts
 pub mod AgreeingActions
 pub mod AtScales
 pub mod Best
+pub mod CertificateTexts
 pub mod Checker
 pub mod ChosenBound
 pub mod ChosenFronts
@@ -21,6 +22,7 @@ pub mod Keeping
 pub mod KeepsAllAgents
 pub mod KeptBound
 pub mod KeptSteps
+pub mod LineTexts
 pub mod LinearSteps
 pub mod LongerLook
 pub mod Look
@@ -32,6 +34,7 @@ pub mod NaturalSums
 pub mod OneStep
 pub mod OutwardLaws
 pub mod OwnHistories
+pub mod PolicyTexts
 pub mod Recursion
 pub mod RecursiveWorth
 pub mod Results
@@ -40,8 +43,5 @@ pub mod Sound
 pub mod StepSides
 pub mod Sums
 pub mod Trees
-pub mod LineTexts
-pub mod PolicyTexts
-pub mod WholeTexts
-pub mod CertificateTexts
 pub mod WellFormedSteps
+pub mod WholeTexts

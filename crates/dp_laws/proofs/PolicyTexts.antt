@@ -12,7 +12,7 @@ use Rattle.dp_spec.specs.Keeping.{tree_at}
 use Rattle.dp_spec.specs.TextLines.{plain, Line, Allows}
 use Rattle.dp_spec.specs.PolicyText.{row_form, row_actions, row_line, policy_rows, agent_lines}
 use Rattle.dp_laws.proofs.Trees.{root_in, row_below}
-use Rattle.dp_laws.proofs.Pairs.{tree_at_fits}
+use Rattle.dp_laws.proofs.Keeping.{tree_at_fits}
 use Rattle.dp_laws.proofs.LineTexts.{HasItems, bytes_of, first_of_list, rest_of_list, line_text_injective}
 
 -- ---- trees

@@ -1,14 +1,12 @@
 //! The theorems about the definitions of `dp_spec`, each the clause of a public function.
 #![tactic(auto)]
 
-mod texts;
-
-pub use texts::{certificates_have_one_text, policies_have_one_text};
 mod choosing;
 mod front_bound;
 mod front_steps;
 mod horizon_one;
 mod look_ahead;
+mod texts;
 
 pub use choosing::{choosing_changes_no_weight, equivalence_ignores_choices};
 pub use front_bound::{
@@ -25,3 +23,4 @@ pub use look_ahead::{
     action_look_ahead_bounds_every_policy, look_ahead_bounds_every_policy, more_look_never_raises,
     more_look_never_raises_action, table_bounds_every_policy,
 };
+pub use texts::{certificates_have_one_text, policies_have_one_text};
