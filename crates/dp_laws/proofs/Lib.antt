@@ -3,6 +3,7 @@ pub mod AdvancedFronts
 pub mod AgreeingActions
 pub mod AtScales
 pub mod Best
+pub mod BoundOnPath
 pub mod CertificateTexts
 pub mod Checker
 pub mod ChosenBound

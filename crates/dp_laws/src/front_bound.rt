@@ -1,4 +1,4 @@
-ghost use Rattle.dp_laws.specs.FrontBoundLaws.{AdvancingNeverRaisesBound, ChoosingNeverRaisesBound, MergingNeverRaisesBound, NoKeepingPolicyAboveBound};
+ghost use Rattle.dp_laws.specs.FrontBoundLaws.{AdvancingNeverRaisesBound, ChoiceNeverRaisesBound, ChoosingNeverRaisesBound, MergingNeverRaisesBound, NoKeepingPolicyAboveBound};
 
 /// No policy that keeps a front is worth more than the front's bound, with any look.
 #[tactic(auto, using(crate::proofs::KeptBound::keeper_under_bound))]
@@ -25,4 +25,11 @@ pub fn advancing_never_raises_bound()
 #[tactic(auto, using(crate::proofs::MergedBound::merged_bound_le))]
 pub fn merging_never_raises_bound()
     ensures { MergingNeverRaisesBound }
+{}
+
+/// The bound of a front with a look of at least 1 does not grow by a choice and the advance that
+/// may follow, in exact numbers.
+#[tactic(auto, using(crate::proofs::BoundOnPath::after_choice_bound_le))]
+pub fn choice_never_raises_bound()
+    ensures { ChoiceNeverRaisesBound }
 {}

@@ -10,8 +10,8 @@ mod texts;
 
 pub use choosing::{choosing_changes_no_weight, equivalence_ignores_choices};
 pub use front_bound::{
-    advancing_never_raises_bound, choosing_never_raises_bound, merging_never_raises_bound,
-    no_keeping_policy_above_bound,
+    advancing_never_raises_bound, choice_never_raises_bound, choosing_never_raises_bound,
+    merging_never_raises_bound, no_keeping_policy_above_bound,
 };
 pub use front_steps::{
     advancing_keeps_well_formed, choosing_keeps_well_formed, front_after_choice_is_well_formed,
