@@ -1,6 +1,7 @@
 -- a bound does not grow by advancing
 use Rattle.std.proofs.Common.{◌≡◌, ℕ, zero, suc, ◌+◌, ◌-◌, ◌<◌, Bool, true, false, cond, eqb, ℤ, pos, ◌+ℤ◌, ◌≤ℤ◌, List, refl, sym, ap, ◌∙◌, arith}
 use Rattle.std.proofs.lemmas.Int.{ints}
+use Rattle.dp_laws.proofs.Order.{add_le_right}
 use Rattle.dp_laws.proofs.AdvancedFronts.{action_at, action_before, as_many_agents, class_in_range, counts_are_pairs, pair_weight, weight_same, weight_same_to}
 use Rattle.dp_laws.proofs.AgreeingActions.{IsIn_filter, chosen_action_agrees, chosen_joint_action, greatest_of_part, some_in}
 use Rattle.dp_laws.proofs.Best.{IsIn, best_in}
@@ -112,9 +113,6 @@ module _ (m : Model) (h : ℕ) (F : Front) (front : IsFront m h F) where
 regroup : (e w o t b : ℤ) → w +ℤ o ≡ t → t ≤ℤ b → ((e +ℤ w) +ℤ o) ≤ℤ (e +ℤ b)
 regroup e w o t b same le = omega (arith, ints)
 
-add_le : (a b c : ℤ) → b ≤ℤ c → (a +ℤ b) ≤ℤ (a +ℤ c)
-add_le a b c h = omega (arith, ints)
-
 -- a bound with a look of at least 1 does not grow by advancing
 pub advanced_bound_le : (m : Model) → IsModel m → (h r look : ℕ) (F : Front) → IsFront m h F → F.stage < h → is_complete F.agents ≡ true → 0 < look →
     bound_of m r (advanced_front m F) look ≤ℤ bound_of m (suc r) F look
@@ -122,7 +120,7 @@ advanced_bound_le m ok h r zero F front lt all some = absurd (omega arith)
 advanced_bound_le m ok h zero (suc k) F front lt all some =
     let N = product (class_counts F.agents) in
     zle_trans _ _ _ (zle_of _ _ (earned_advanced m h F front 0))
-    (add_le _ _ _
+    (add_le_right _ _ _
     (zle_trans _ _ _ (zle_of _ _ (int_sum_ext N _ _ (λ C p. sym (last_action m (class_weight m F C) (chosen_joint_action m F C) (suc k))))) (chosen_under m h F front ok 0 (suc k))))
 advanced_bound_le m ok h (suc r) (suc k) F front lt all some =
     let N = product (class_counts F.agents) in

@@ -6,16 +6,14 @@ use Rattle.std.proofs.lemmas.Bool.Decides.{nat_tests}
 use Rattle.std.proofs.lemmas.List.{get_or_append_left, get_or_push, length-replicate}
 use Rattle.std.proofs.lemmas.List.FromFn.{get_or-map-range_with_len}
 use Rattle.std.proofs.lemmas.Nat.{div-mul-add, mod-mul-add}
-use Rattle.std.proofs.Math.Nat.{pow-suc}
 use Rattle.dp_laws.proofs.AgreeingActions.{actions_for, chosen_joint_action}
 use Rattle.dp_laws.proofs.JointPairs.{pair_counts, pair_injective, pair_number}
 use Rattle.dp_laws.proofs.LinearSteps.{weights_after_histories}
 use Rattle.dp_laws.proofs.NaturalSums.{nat_history_sum_ext, nat_sum_one}
-use Rattle.dp_laws.proofs.OwnHistories.{Below, Within, joint_below, owns_within, parts-joint, parts_below}
+use Rattle.dp_laws.proofs.OwnHistories.{Below, Within, joint_below, next_history_below, owns_within, parts-joint, parts_below}
 use Rattle.dp_laws.proofs.KeptActions.{history_length}
 use Rattle.dp_laws.proofs.CompleteFronts.{new_class}
 use Rattle.dp_laws.proofs.Sums.{dec_eq, nat_sum_ext}
-use Rattle.dp_laws.proofs.Trees.{row_below}
 use Rattle.dp_spec.specs.Front.{AgentFront, Front, class_counts, class_weight, fixed_actions, fixed_joint_action, joint_class, next_own_histories, own_classes, own_histories}
 use Rattle.dp_spec.specs.JointHistory.{IsJointHistory, history_weight}
 use Rattle.dp_spec.specs.JointNumbers.{joint_number, parts_of, product}
@@ -45,14 +43,11 @@ counts_advanced {f} (and_agent {n = n} {ns = ns} {d = d} {ds = ds} k ks) =
     let rest = counts_advanced ks in
     λ j. here j ∷ rest j
 
-step_in : (x n t p : ℕ) → x < n ^ t → p < n → x * n + p < n ^ suc t
-step_in x n t p h g = rw pow-suc (row_below x (n ^ t) n p h g)
-
 class_step : (n f x p : ℕ) (cs : List ℕ) → x < n ^ f → p < n → get_or (map (λ x. get_or cs (x / n) 0 * n + x % n) (range_with_len 0 (n ^ suc f))) (x * n + p) 0 ≡ get_or cs x 0 * n + p
 class_step n f x p cs h g =
     let first : (x * n + p) / n ≡ x = div-mul-add x n p g in
     let rest : (x * n + p) % n ≡ p = mod-mul-add x n p g in
-    new_class n f (x * n + p) cs (step_in x n f p h g) ∙ (rw (first, rest))
+    new_class n f (x * n + p) cs (next_history_below x n f p h g) ∙ (rw (first, rest))
 
 pub classes_advanced : {f : ℕ} {bs ns : List ℕ} {ds : List AgentFront} → AreAgentFronts f bs ns ds → (xs ps : List ℕ) → Within ns f xs → Below ns ps →
     own_classes (advanced_agents ns f ds) (next_own_histories ns xs ps) ≡ next_own_histories ns (own_classes ds xs) ps

@@ -1,10 +1,8 @@
 use Rattle.std.proofs.Common.{◌≡◌, ℕ, zero, suc, ◌<◌, ℤ, ◌≤ℤ◌, List, [], ◌∷◌, length, get_or, filter, Bool, true, false, cond, refl, sym, ap, ◌∙◌, subst, arith, ◌⊎◌, inl, inr}
 use Rattle.std.specs.Int.{int_max}
 use Rattle.std.proofs.lemmas.Int.{ints, clamps}
+use Rattle.dp_laws.proofs.Order.{last_or_before, le_max_left}
 use Rattle.dp_spec.specs.Sums.{greatest, numbers_below}
-
-max_left : (a b : ℤ) → a ≤ℤ int_max a b
-max_left a b = omega (arith, ints, clamps)
 
 max_right : (a b c : ℤ) → c ≤ℤ b → c ≤ℤ int_max a b
 max_right a b c h = omega (arith, ints, clamps)
@@ -16,7 +14,7 @@ pub best_at : (f : ℕ → ℤ) (xs : List ℕ) (k : ℕ) → k < length xs → 
 best_at f [] k h = absurd (omega arith)
 best_at f (x ∷ []) zero h = same (f x)
 best_at f (x ∷ []) (suc k) h = absurd (omega arith)
-best_at f (x ∷ (y ∷ ys)) zero h = max_left (f x) (greatest f (y ∷ ys))
+best_at f (x ∷ (y ∷ ys)) zero h = le_max_left (f x) (greatest f (y ∷ ys))
 best_at f (x ∷ (y ∷ ys)) (suc k) h = max_right (f x) (greatest f (y ∷ ys)) _ (best_at f (y ∷ ys) k (omega arith))
 
 -- the place of a number numbers_below n
@@ -24,13 +22,10 @@ pub length-below : (n : ℕ) → length (numbers_below n) ≡ n
 length-below zero = refl
 length-below (suc n) = ap suc (length-below n)
 
-lt_cases : (a n : ℕ) → a < suc n → (a ≡ n) ⊎ (a < n)
-lt_cases a n h = grind arith
-
 pub in_below : (n a : ℕ) → a < n → (k : ℕ) × (k < length (numbers_below n)) × (get_or (numbers_below n) k 0 ≡ a)
 in_below zero a h = absurd (omega arith)
 in_below (suc n) a h =
-    elim (lt_cases a n h) [
+    elim (last_or_before a n h) [
       | inl e ↦ (0, omega arith, sym e)
       | inr lt ↦ let i = in_below n a lt in (suc i.0, omega (arith, i.1), i.2)
     ]
@@ -47,12 +42,12 @@ pub best_in : (f : ℕ → ℤ) (a : ℕ) (xs : List ℕ) → IsIn a xs → f a 
 best_in f a [] h = absurd h
 best_in f a (x ∷ []) (inl e) = subst (λ (y : ℕ). f a ≤ℤ f y) e (same (f a))
 best_in f a (x ∷ []) (inr h) = absurd h
-best_in f a (x ∷ (y ∷ ys)) (inl e) = subst (λ (z : ℕ). f a ≤ℤ int_max (f z) (greatest f (y ∷ ys))) e (max_left (f a) (greatest f (y ∷ ys)))
+best_in f a (x ∷ (y ∷ ys)) (inl e) = subst (λ (z : ℕ). f a ≤ℤ int_max (f z) (greatest f (y ∷ ys))) e (le_max_left (f a) (greatest f (y ∷ ys)))
 best_in f a (x ∷ (y ∷ ys)) (inr h) = max_right (f x) (greatest f (y ∷ ys)) _ (best_in f a (y ∷ ys) h)
 
 pub IsIn-below : (n a : ℕ) → a < n → IsIn a (numbers_below n)
 IsIn-below zero a h = absurd (omega arith)
-IsIn-below (suc n) a h = elim (lt_cases a n h) [ inl e ↦ inl e | inr lt ↦ inr (IsIn-below n a lt) ]
+IsIn-below (suc n) a h = elim (last_or_before a n h) [ inl e ↦ inl e | inr lt ↦ inr (IsIn-below n a lt) ]
 
 kept : (p : ℕ → Bool) (a x : ℕ) (xs : List ℕ) (t : Bool) → IsIn a xs → IsIn a (cond t (x ∷ xs) xs)
 kept p a x xs true h = inr h

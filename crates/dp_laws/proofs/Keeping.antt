@@ -1,8 +1,9 @@
 -- A joint policy keeps a well-formed front exactly where it follows the front with some trees at its classes.
-use Rattle.std.proofs.Common.{◌≡◌, ◌⊎◌, inl, inr, ℕ, zero, suc, ◌+◌, ◌*◌, ◌/◌, ◌%◌, ◌^◌, ◌<◌, true, false, cond, eqb, List, [], ◌∷◌, length, get_or, None, sym, ap, ◌∙◌, subst, arith}
+use Rattle.std.proofs.Common.{◌≡◌, inl, inr, ℕ, zero, suc, ◌+◌, ◌*◌, ◌/◌, ◌%◌, ◌^◌, ◌<◌, true, false, cond, eqb, List, [], ◌∷◌, length, get_or, None, sym, ap, ◌∙◌, subst, arith}
 use Rattle.std.proofs.lemmas.Bool.Decides.{nat_tests}
 use Rattle.std.proofs.lemmas.Nat.{mod_below}
 use Rattle.std.proofs.Math.Nat.{pow-suc}
+use Rattle.dp_laws.proofs.Order.{last_or_before}
 use Rattle.dp_laws.proofs.Sums.{dec_eq}
 use Rattle.dp_laws.proofs.Trees.{kid_fits, part_below, pos_of}
 use Rattle.dp_laws.specs.Following.{FollowsAgentFront, FollowsAgentFronts}
@@ -28,9 +29,6 @@ abbrev last_member : (ℕ → ℕ) → ℕ → ℕ → ℕ
 last_member class c zero = 0
 last_member class c (suc k) = cond (eqb (class k) c) k (last_member class c k)
 
-equal_or_less : (x k : ℕ) → x < suc k → (x ≡ k) ⊎ (x < k)
-equal_or_less x k h = grind arith
-
 -- where there is one
 last_member_is : (class : ℕ → ℕ) (c k x : ℕ) → x < k → class x ≡ c → (last_member class c k < k) × (class (last_member class c k) ≡ c)
 last_member_is class c zero x h e = absurd (omega arith)
@@ -38,7 +36,7 @@ last_member_is class c (suc k) x h e =
     elim (dec_eq (class k) c) [
       | inl same ↦ let t : eqb (class k) c ≡ true = grind (arith, nat_tests) in rw t (omega arith, same)
       | inr other ↦ let t : eqb (class k) c ≡ false = grind (arith, nat_tests) in
-          elim (equal_or_less x k h) [
+          elim (last_or_before x k h) [
             | inl last ↦ absurd (other (ap class (sym last) ∙ e))
             | inr below ↦ let rest = last_member_is class c k x below e in rw t (omega (arith, rest.0), rest.1)
           ]

@@ -1,12 +1,12 @@
 -- No joint policy that keeps a front is worth more than its bound.
-use Rattle.std.proofs.Common.{◌≡◌, ℕ, zero, suc, ◌+◌, ℤ, pos, ◌+ℤ◌, ◌*ℤ◌, ◌≤ℤ◌, List, refl, ◌∙◌, subst, arith}
+use Rattle.std.proofs.Common.{◌≡◌, ℕ, zero, suc, ◌+◌, ℤ, pos, ◌+ℤ◌, ◌≤ℤ◌, List, refl, ◌∙◌, subst, arith}
 use Rattle.std.proofs.lemmas.Int.{ints}
+use Rattle.dp_laws.proofs.OneStep.{weighted_zeros}
 use Rattle.dp_laws.proofs.Forward.{int_history_sum_ext, forward}
 use Rattle.dp_laws.proofs.HistorySums.{int_history_sum_zero}
 use Rattle.dp_laws.proofs.Keeping.{follows_of_keeps}
 use Rattle.dp_laws.proofs.Ring.{zle_trans, zle_of}
 use Rattle.dp_laws.proofs.Sound.{sound, does_fixed}
-use Rattle.dp_laws.proofs.Sums.{int_sum_weigh}
 use Rattle.dp_laws.specs.Following.{FollowsAgentFronts}
 use Rattle.dp_spec.specs.Bound.{bound_of}
 use Rattle.dp_spec.specs.Front.{Front, fixed_joint_action}
@@ -14,17 +14,12 @@ use Rattle.dp_spec.specs.JointHistory.{history_weight}
 use Rattle.dp_spec.specs.Keeping.{KeepsFront}
 use Rattle.dp_spec.specs.Model.{IsModel, Model, joint_observations}
 use Rattle.dp_spec.specs.PolicyTree.{IsPolicyOf, PolicyTree}
-use Rattle.dp_spec.specs.Sums.{int_sum}
 use Rattle.dp_spec.specs.Value.{policy_value}
 use Rattle.dp_spec.specs.WellFormed.{IsFront}
 
 -- nothing added
 add_none_le : (a b : ℤ) → b ≡ pos 0 → (a +ℤ b) ≤ℤ a
 add_none_le a b e = omega (arith, ints)
-
--- weights against 0
-weighted_zeros : (n : ℕ) (w : ℕ → ℕ) → int_sum n (λ s. pos (w s) *ℤ pos 0) ≡ pos 0
-weighted_zeros n w = int_sum_weigh n w (pos 0) ∙ omega (arith, ints)
 
 -- with trees at the classes of the front
 value_le_bound : (m : Model) → IsModel m → (look : ℕ) (F : Front) (r : ℕ) (qs : List PolicyTree) (uss : List (ℕ → PolicyTree)) → FollowsAgentFronts F.stage r m.actions m.observations F.agents qs uss → policy_value m (F.stage + r) qs ≤ℤ bound_of m r F look

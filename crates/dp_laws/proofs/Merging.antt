@@ -1,5 +1,6 @@
 -- Merging two equivalent classes loses nothing.
 use Rattle.std.proofs.Common.{◌≡◌, ℕ, zero, suc, ◌+◌, ◌<◌, Bool, true, false, cond, eqb, ℤ, pos, ◌+ℤ◌, ◌*ℤ◌, ◌≤ℤ◌, List, [], ◌∷◌, get_or, refl, sym, ap, ◌∙◌, subst, arith}
+use Rattle.dp_laws.proofs.JointPlaces.{below_others}
 use Rattle.dp_laws.proofs.Sums.{int_sum_ext, int_sum_two}
 use Rattle.dp_laws.proofs.Forward.{int_history_sum_ext, forward}
 use Rattle.dp_laws.proofs.OwnHistories.{Below, joint_below, parts-joint, owns_within, base}
@@ -19,14 +20,6 @@ use Rattle.dp_spec.specs.PolicyTree.{IsPolicyOf, PolicyTree}
 use Rattle.dp_spec.specs.Steps.{IsUnassigned}
 use Rattle.dp_spec.specs.Sums.{int_sum}
 use Rattle.dp_spec.specs.Value.{backward_value, policy_value}
-
--- parts below their numbers are so without a place
-below_without : (i : ℕ) (ns xs : List ℕ) → Below ns xs → Below (without i ns) (without i xs)
-below_without i [] [] h = tt
-below_without i [] (x ∷ xs) h = absurd h
-below_without i (n ∷ ns) [] h = absurd h
-below_without zero (n ∷ ns) (x ∷ xs) h = h.1
-below_without (suc i) (n ∷ ns) (x ∷ xs) h = (h.0, below_without i ns xs h.1)
 
 -- a class of an agent is below its count
 class_in_count : (i c : ℕ) (ds : List AgentFront) (cs : List ℕ) → IsUnassigned i c ds → Below (class_counts ds) cs → get_or cs i 0 < get_or (class_counts ds) i 0
@@ -89,7 +82,7 @@ class_in_range m F r qs uss ks i c free H h = class_in_count i c F.agents _ free
 others_in_range : (m : Model) (F : Front) (r : ℕ) (qs : List PolicyTree) (uss : List (ℕ → PolicyTree)) → FollowsAgentFronts F.stage r m.actions m.observations F.agents qs uss → (i : ℕ) →
     (H : List ℕ) → IsJointHistory (joint_observations m) F.stage H → class_of_others m F i H < product (without i (class_counts F.agents))
 unfolding class_of_others joint_observations
-others_in_range m F r qs uss ks i H h = joint_below _ _ (below_without i _ _ (class_in ks _ (owns_within m.observations F.stage H h)))
+others_in_range m F r qs uss ks i H h = joint_below _ _ (below_others i _ _ (class_in ks _ (owns_within m.observations F.stage H h)))
 
 -- what remains after a joint history of the stage, by agent i and the others
 trees_after_front : (m : Model) (F : Front) (r : ℕ) (qs : List PolicyTree) (uss : List (ℕ → PolicyTree)) → FollowsAgentFronts F.stage r m.actions m.observations F.agents qs uss → (i c : ℕ) → IsUnassigned i c F.agents →
@@ -99,7 +92,7 @@ unfolding class_of_agent class_of_others joint_observations
 trees_after_front m F r qs uss ks i c free H h =
     let w = owns_within m.observations F.stage H h in
     rests_are m qs (base ks) F.stage H h ∙ at_stage ks _ w ∙ trees_by_agent ks i c free _ w
-    ∙ ap (λ z. inserted i (tree_for i uss (get_or (own_classes F.agents (own_histories m.observations H)) i 0)) (trees_of (without i uss) z)) (sym (parts-joint _ _ (below_without i _ _ (class_in ks _ w))))
+    ∙ ap (λ z. inserted i (tree_for i uss (get_or (own_classes F.agents (own_histories m.observations H)) i 0)) (trees_of (without i uss) z)) (sym (parts-joint _ _ (below_others i _ _ (class_in ks _ w))))
 
 -- the same for the joint policy that follows the merged front
 trees_after_merged : (m : Model) (F : Front) (r : ℕ) (qs qs' : List PolicyTree) (uss : List (ℕ → PolicyTree)) → FollowsAgentFronts F.stage r m.actions m.observations F.agents qs uss → (i a b : ℕ) → a < b → IsUnassigned i b F.agents → (y : PolicyTree) →
@@ -110,7 +103,7 @@ unfolding class_of_agent class_of_others joint_observations
 trees_after_merged m F r qs qs' uss ks i a b lt free y ks' H h =
     let w = owns_within m.observations F.stage H h in
     rests_are m qs' (base ks') F.stage H h ∙ at_stage ks' _ w ∙ joined_trees_by_agent ks i a b lt free y _ w
-    ∙ ap (λ z. inserted i (replaced_trees a b y (tree_for i uss) (get_or (own_classes F.agents (own_histories m.observations H)) i 0)) (trees_of (without i uss) z)) (sym (parts-joint _ _ (below_without i _ _ (class_in ks _ w))))
+    ∙ ap (λ z. inserted i (replaced_trees a b y (tree_for i uss) (get_or (own_classes F.agents (own_histories m.observations H)) i 0)) (trees_of (without i uss) z)) (sym (parts-joint _ _ (below_others i _ _ (class_in ks _ w))))
 
 -- Some trees follow the merged front and are worth at least as much, and where steps are left they are a joint policy if the old ones are.
 pub merging_keeps_value : (m : Model) (F : Front) (r : ℕ) (qs : List PolicyTree) (uss : List (ℕ → PolicyTree)) → FollowsAgentFronts F.stage r m.actions m.observations F.agents qs uss →

@@ -88,12 +88,12 @@ value_le_table m ok (suc r) s qs p h =
     step_le_table m ok r s (joint_root_action m qs) (λ t o. backward_value m r t (trees_after m qs o)) p (root_below m r qs h)
     (λ t o q u. value_le_table m ok r t (trees_after m qs o) q (after_fits m r qs o u h))
 
-tail_zero : (n : ℕ) (w : ℕ → ℕ) → int_sum n (λ s. pos (w s) *ℤ pos 0) ≡ pos 0
-tail_zero n w = int_sum_weigh n w (pos 0) ∙ omega (arith, ints)
+pub weighted_zeros : (n : ℕ) (w : ℕ → ℕ) → int_sum n (λ s. pos (w s) *ℤ pos 0) ≡ pos 0
+weighted_zeros n w = int_sum_weigh n w (pos 0) ∙ omega (arith, ints)
 
 -- no joint policy of r steps earns more from weights than the look-ahead says
 pub value_le_tail : (m : Model) → IsModel m → (r k : ℕ) (w : ℕ → ℕ) (qs : List PolicyTree) → IsPolicyOf m r qs → int_sum m.states (λ s. pos (w s) *ℤ backward_value m r s qs) ≤ℤ look_ahead m r w k
-value_le_tail m ok zero k w qs h = zle_of _ _ (tail_zero m.states w)
+value_le_tail m ok zero k w qs h = zle_of _ _ (weighted_zeros m.states w)
 value_le_tail m ok (suc r) zero w qs h = int_sum_le m.states _ _ (λ s p. zmul_le (w s) _ _ (value_le_table m ok (suc r) s qs p h))
 value_le_tail m ok (suc r) (suc k) w qs h =
     let a = joint_root_action m qs in

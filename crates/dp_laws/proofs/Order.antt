@@ -1,5 +1,5 @@
--- the order of whole numbers
-use Rattle.std.proofs.Common.{◌≡◌, ◌⊎◌, inl, inr, ℕ, suc, ◌+◌, ◌*◌, ◌<◌, ℤ, pos, ◌+ℤ◌, ◌*ℤ◌, ◌≤ℤ◌, arith}
+-- The order of whole numbers.
+use Rattle.std.proofs.Common.{◌≡◌, ◌⊎◌, inl, inr, ℕ, suc, ◌+◌, ◌*◌, ◌<◌, ◌≤◌, ℤ, pos, ◌+ℤ◌, ◌*ℤ◌, ◌≤ℤ◌, arith}
 use Rattle.std.specs.Int.{int_max, int_min}
 use Rattle.std.proofs.lemmas.Int.{ints, clamps, by_lt_z}
 use Rattle.std.proofs.Math.Nat.{mul-le-mul_left}
@@ -46,3 +46,14 @@ max_is_either a b = elim (le_total a b) [ inl le ↦ inr (omega (arith, ints, cl
 
 pub min_is_either : (a b : ℤ) → (int_min a b ≡ a) ⊎ (int_min a b ≡ b)
 min_is_either a b = elim (le_total a b) [ inl le ↦ inl (omega (arith, ints, clamps)) | inr le ↦ inr (omega (arith, ints, clamps)) ]
+
+-- ---- cases of natural numbers
+
+pub less_or_not : (a b : ℕ) → (a < b) ⊎ (b ≤ a)
+less_or_not a b = grind arith
+
+pub equal_or_less : (a b : ℕ) → a ≤ b → (a ≡ b) ⊎ (a < b)
+equal_or_less a b h = grind arith
+
+pub last_or_before : (a b : ℕ) → a < suc b → (a ≡ b) ⊎ (a < b)
+last_or_before a b h = grind arith

@@ -49,12 +49,12 @@ equal_by_actions b n zero p q some tp tq same = absurd (omega arith)
 equal_by_actions b n (suc r) p q some tp tq same = equal_remains b n (suc r) p q tp tq same r 0 0 (omega arith) (omega (arith, pow-zero n))
 
 -- ---- the tree of given actions
-nth-trees_from : (c : ℕ) (g : ℕ → PolicyTree) (o : ℕ) → o < c → nth_tree (trees_from c g) o ≡ g o
+pub nth-trees_from : (c : ℕ) (g : ℕ → PolicyTree) (o : ℕ) → o < c → nth_tree (trees_from c g) o ≡ g o
 nth-trees_from zero g o h = absurd (omega arith)
 nth-trees_from (suc c) g zero h = refl
 nth-trees_from (suc c) g (suc o) h = nth-trees_from c (λ o. g (suc o)) o (omega arith)
 
-are-trees_from : (b n r c : ℕ) (g : ℕ → PolicyTree) → ((o : ℕ) → o < c → IsPolicyTree b n r (g o)) → ArePolicyTrees b n r c (trees_from c g)
+pub are-trees_from : (b n r c : ℕ) (g : ℕ → PolicyTree) → ((o : ℕ) → o < c → IsPolicyTree b n r (g o)) → ArePolicyTrees b n r c (trees_from c g)
 are-trees_from b n r zero g h = tt
 are-trees_from b n r (suc c) g h = (h 0 (omega arith), are-trees_from b n r c (λ o. g (suc o)) (λ o p. h (suc o) (omega arith)))
 
