@@ -39,6 +39,14 @@ get_or-renumbered a b [] k h = grind (arith, nat_tests)
 get_or-renumbered a b (x ∷ xs) zero h = refl
 get_or-renumbered a b (x ∷ xs) (suc k) h = get_or-renumbered a b xs k h
 
+-- a lower class keeps its number
+pub renumbered_low : (a b c : ℕ) → c < b → renumbered a b c ≡ c
+renumbered_low a b c h = grind (arith, nat_tests)
+
+-- a higher one is called one less
+pub renumbered_high : (a b c : ℕ) → b ≤ c → renumbered a b (suc c) ≡ c
+renumbered_high a b c h = grind (arith, nat_tests)
+
 -- the trees of the merged classes, where y is that of a and b
 abbrev pub joined_trees : ℕ → ℕ → PolicyTree → (ℕ → PolicyTree) → ℕ → PolicyTree
 joined_trees a b y us c = cond (eqb a c) y (cond (ltb c b) (us c) (us (suc c)))

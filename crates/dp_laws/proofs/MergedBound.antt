@@ -1,13 +1,14 @@
 -- a bound does not grow by merging
 use Rattle.std.proofs.Common.{◌≡◌, ◌≢◌, inl, inr, ℕ, zero, suc, ◌+◌, ◌<◌, ◌≤◌, cond, eqb, ℤ, pos, ◌+ℤ◌, ◌≤ℤ◌, List, length, get_or, sym, ap, ◌∙◌, subst, arith}
 use Rattle.std.proofs.lemmas.Int.{ints}
+use Rattle.dp_laws.proofs.Order.{less_or_not}
 use Rattle.dp_laws.proofs.JointPlaces.{int_sum_placed, placed_number}
 use Rattle.dp_laws.proofs.LinearSteps.{action_look_ahead_together, greatest_together}
 use Rattle.dp_laws.proofs.MergedFronts.{agreeing_either, agreeing_kept, as_many_merged, counts_of_others, joined_weight, kept_below, kept_class, kept_high, kept_low, kept_weight, one_class_less, placed_weight, unassigned_agent}
 use Rattle.dp_laws.proofs.MergedTrees.{fixed_joint_action_merged}
 use Rattle.dp_laws.proofs.Ring.{zle_of, zle_trans}
 use Rattle.dp_laws.proofs.Sums.{dec_eq, int_sum_add, int_sum_ext, int_sum_le, int_sum_out, ite_same}
-use Rattle.dp_laws.proofs.WellFormedSteps.{below_or_above, merged_is_front}
+use Rattle.dp_laws.proofs.WellFormedSteps.{merged_is_front}
 use Rattle.dp_spec.specs.Bound.{agreeing_actions, bound_of}
 use Rattle.dp_spec.specs.Front.{Front, class_counts, class_weight}
 use Rattle.dp_spec.specs.JointHistory.{earned_reward}
@@ -27,7 +28,7 @@ swap_last x y z w e = omega (arith, ints)
 int_sum_skip : (k b : ℕ) (g : ℕ → ℤ) → b ≤ k → int_sum (suc k) g ≡ int_sum k (λ c. g (kept_class b c)) +ℤ g b
 int_sum_skip zero b g h = let e : zero ≡ b = omega arith in ap (λ z. pos 0 +ℤ g z) e
 int_sum_skip (suc k) b g h =
-    elim (below_or_above k b) [
+    elim (less_or_not k b) [
       | inl lt ↦
           let e : suc k ≡ b = omega arith in
           let rest = int_sum_ext (suc k) g (λ c. g (kept_class b c)) (λ c p. ap g (kept_low b c (omega arith))) in

@@ -1,13 +1,13 @@
 -- how a merged front weighs, and which joint actions agree with it
 use Rattle.std.proofs.Common.{◌≡◌, ◌≢◌, inl, inr, ℕ, zero, suc, ◌+◌, ◌<◌, ◌≤◌, Bool, true, false, cond, ◌&&◌, eqb, ltb, List, [], ◌∷◌, length, get_or, filter, Option, None, refl, sym, ap, ◌∙◌, subst, arith}
 use Rattle.std.proofs.lemmas.Bool.Decides.{nat_tests}
+use Rattle.dp_laws.proofs.Order.{less_or_not}
 use Rattle.dp_laws.proofs.AdvancedFronts.{both_tests, classes_below}
 use Rattle.dp_laws.proofs.JointPlaces.{below_others, below_place, joint_is_placed, parts-placed, placed_injective, placed_number}
 use Rattle.dp_laws.proofs.MergedAgents.{get_or-renumbered, get_or-without_above, get_or-without_below, length-without}
 use Rattle.dp_laws.proofs.MergedTrees.{fixed_joint_action_merged}
 use Rattle.dp_laws.proofs.NaturalSums.{nat_history_sum_add, nat_history_sum_ext}
 use Rattle.dp_laws.proofs.OwnHistories.{Below, joint_below, owns_within}
-use Rattle.dp_laws.proofs.WellFormedSteps.{below_or_above}
 use Rattle.dp_spec.specs.Bound.{agreeing_actions, agrees, all_agree}
 use Rattle.dp_spec.specs.Front.{AgentFront, Front, class_counts, class_weight, fixed_joint_action, joint_class, own_classes, own_histories}
 use Rattle.dp_spec.specs.JointHistory.{IsJointHistory, history_weight, nat_history_sum}
@@ -147,7 +147,7 @@ kept_below b c k n h e = grind (arith, nat_tests)
 
 choice_kept : (b c : ℕ) (os : List (Option ℕ)) → get_or (without b os) c None ≡ get_or os (kept_class b c) None
 choice_kept b c os =
-    elim (below_or_above c b) [
+    elim (less_or_not c b) [
       | inl low ↦ get_or-without_below b os c None low ∙ ap (λ z. get_or os z None) (kept_low b c low)
       | inr high ↦ get_or-without_above b os c None high ∙ ap (λ z. get_or os z None) (kept_high b c high)
     ]
