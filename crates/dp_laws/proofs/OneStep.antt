@@ -2,6 +2,7 @@ use Rattle.std.proofs.Common.{◌≡◌, ℕ, zero, suc, ◌*◌, ◌-◌, ◌^�
 use Rattle.std.proofs.lemmas.Int.{ints}
 use Rattle.dp_laws.proofs.Trees.{joint_below, kids_fit}
 use Rattle.dp_laws.proofs.Best.{best_below}
+use Rattle.dp_laws.proofs.Order.{add_le_right}
 use Rattle.dp_laws.proofs.Ring.{v, nat, ◌⊕◌, ◌⊗◌, by_ring, zmul_le, zle_trans, zle_of}
 use Rattle.dp_laws.proofs.Sums.{int_sum_ext, int_sum_le, int_sum_add, mul_two, add_two, ext_two, rotate, int_sum_weigh, le_two, nat_sum_scale}
 use Rattle.dp_spec.specs.LookAhead.{action_look_ahead, look_ahead, weighted_reward, weights_after}
@@ -61,9 +62,6 @@ step_le p g x n b h =
     let e : pos p *ℤ (x +ℤ pos g *ℤ n) ≡ pos p *ℤ x +ℤ pos (p * g) *ℤ n = by_ring (nat p ⊗ (v x ⊕ nat g ⊗ v n)) (nat p ⊗ v x ⊕ nat (p * g) ⊗ v n) (omega arith) in
     rw e (omega (arith, ints))
 
-add_le : (a b c : ℤ) → b ≤ℤ c → (a +ℤ b) ≤ℤ (a +ℤ c)
-add_le a b c h = omega (arith, ints)
-
 -- an action with something after it that the table bounds
 pub step_le_table : (m : Model) → IsModel m → (r s a : ℕ) (N : ℕ → ℕ → ℤ) → s < m.states → a < joint_actions m → ((t o : ℕ) → t < m.states → o < joint_observations m → N t o ≤ℤ mdp_table m r t) →
     int_sum m.states (λ t. int_sum (joint_observations m) (λ o.
@@ -101,7 +99,7 @@ value_le_tail m ok (suc r) (suc k) w qs h =
     let a = joint_root_action m qs in
     zle_trans _ _ _ (zle_of _ _ (one_step m r w qs))
     (zle_trans _ _ _
-    (add_le (weighted_reward m r w a) _ _ (int_sum_le (joint_observations m) _ _ (λ o p. value_le_tail m ok r k (weights_after m w a o) (trees_after m qs o) (after_fits m r qs o p h))))
+    (add_le_right (weighted_reward m r w a) _ _ (int_sum_le (joint_observations m) _ _ (λ o p. value_le_tail m ok r k (weights_after m w a o) (trees_after m qs o) (after_fits m r qs o p h))))
     (best_below _ (joint_actions m) a (root_below m r qs h)))
 
 -- the same for trees whose roots do a
@@ -110,4 +108,4 @@ unfolding action_look_ahead
 value_le_action m ok r k w qs h =
     let a = joint_root_action m qs in
     zle_trans _ _ _ (zle_of _ _ (one_step m r w qs))
-    (add_le (weighted_reward m r w a) _ _ (int_sum_le (joint_observations m) _ _ (λ o p. value_le_tail m ok r (k - 1) (weights_after m w a o) (trees_after m qs o) (after_fits m r qs o p h))))
+    (add_le_right (weighted_reward m r w a) _ _ (int_sum_le (joint_observations m) _ _ (λ o p. value_le_tail m ok r (k - 1) (weights_after m w a o) (trees_after m qs o) (after_fits m r qs o p h))))

@@ -3,7 +3,7 @@ use Rattle.std.proofs.lemmas.Int.{ints}
 use Rattle.dp_laws.proofs.Sums.{int_sum_ext, nat_sum_ext, int_sum_weigh}
 use Rattle.dp_laws.proofs.Forward.{forward, int_history_sum_ext}
 use Rattle.dp_laws.proofs.OneStep.{one_step}
-use Rattle.dp_laws.proofs.Gain.{int_history_sum_zero}
+use Rattle.dp_laws.proofs.HistorySums.{int_history_sum_zero}
 use Rattle.dp_spec.specs.JointHistory.{IsJointHistory, earned_reward, trees_after_history}
 use Rattle.dp_spec.specs.LookAhead.{look_ahead, weighted_reward, weights_after}
 use Rattle.dp_spec.specs.MdpTable.{mdp_table}

@@ -1,7 +1,7 @@
 use Rattle.std.proofs.Common.{◌≡◌, ℕ, zero, suc, ◌+◌, ◌<◌, Bool, true, false, cond, eqb, ℤ, pos, ◌+ℤ◌, ◌*ℤ◌, ◌≤ℤ◌, List, ◌∷◌, map, refl, sym, ap, ◌∙◌, arith}
-use Rattle.std.proofs.lemmas.Int.{ints}
 use Rattle.std.proofs.lemmas.Bool.Decides.{nat_tests}
 use Rattle.std.proofs.Math.IntN.{zero-*ℤ}
+use Rattle.dp_laws.proofs.Order.{add_le_right}
 use Rattle.dp_laws.proofs.Ring.{zle_trans, zle_of}
 use Rattle.dp_laws.proofs.Sums.{int_sum_ext, int_sum_le, int_sum_zero, int_sum_one, int_sum_weigh}
 use Rattle.dp_laws.proofs.Best.{best_in, IsIn-below, IsIn-filter}
@@ -84,9 +84,6 @@ chosen_in m F r qs uss ks C p f =
     (IsIn-filter _ _ (numbers_below (joint_actions m)) (IsIn-below (joint_actions m) _ (root_below m r (trees_of uss cs) (trees_fit ks cs inside)))
     (rw e (they_agree ks cs inside)))
 
-add_le : (a b c : ℤ) → b ≤ℤ c → (a +ℤ b) ≤ℤ (a +ℤ c)
-add_le a b c h = omega (arith, ints)
-
 -- no policy that keeps a front earns more than its bound
 pub sound : (m : Model) → IsModel m → (F : Front) (r look : ℕ) (qs : List PolicyTree) (uss : List (ℕ → PolicyTree)) → FollowsAgentFronts F.stage (suc r) m.actions m.observations F.agents qs uss →
     policy_value m (F.stage + suc r) qs ≤ℤ bound_of m (suc r) F look
@@ -95,7 +92,7 @@ sound m ok F r look qs uss ks =
     zle_trans _ _ _
     (zle_of _ _ (forward m (fixed_joint_action m F) qs (F.stage + suc r) F.stage (suc r) refl (does_fixed m F (suc r) qs uss ks)
     ∙ ap (λ x. earned_reward m (fixed_joint_action m F) (F.stage + suc r) F.stage +ℤ x) (by_class m F (suc r) qs uss ks)))
-    (add_le _ _ _ (int_sum_le N _ _ (λ C p.
+    (add_le_right _ _ _ (int_sum_le N _ _ (λ C p.
     zle_trans _ _ _
     (value_le_action m ok r look (class_weight m F C) (trees_of uss (parts_of (class_counts F.agents) C)) (trees_fit ks _ (parts_below (class_counts F.agents) C p)))
     (chosen_in m F r qs uss ks C p (λ a. action_look_ahead m r (class_weight m F C) a look)))))

@@ -1,11 +1,12 @@
 -- On a path of a tree that fits a front there are at most as many inner nodes as own histories.
 -- Each choice and each merge leaves one unassigned class less, and an advance opens at most one class for each own history of the next length.
-use Rattle.std.proofs.Common.{◌≡◌, ◌⊎◌, inl, inr, ℕ, zero, suc, ◌+◌, ◌-◌, ◌*◌, ◌^◌, ◌<◌, ◌≤◌, Bool, true, false, ◌&&◌, ℤ, List, [], ◌∷◌, length, get_or, set, Option, Some, None, refl, ap, arith}
+use Rattle.std.proofs.Common.{◌≡◌, ◌⊎◌, inl, inr, ℕ, zero, suc, ◌+◌, ◌-◌, ◌*◌, ◌^◌, ◌<◌, ◌≤◌, Bool, true, false, ℤ, List, [], ◌∷◌, length, get_or, set, Option, Some, None, refl, ap, arith}
 use Rattle.std.proofs.lemmas.List.{length-replicate}
 use Rattle.std.proofs.Math.ListN.{length-set}
 use Rattle.std.proofs.Math.Nat.{mul-le-mul_right, pow-suc}
 use Rattle.dp_laws.proofs.ClassCounts.{classes_within_histories}
-use Rattle.dp_laws.proofs.MergeSide.{length-without}
+use Rattle.dp_laws.proofs.CompleteFronts.{parts_of_true}
+use Rattle.dp_laws.proofs.MergedAgents.{length-without}
 use Rattle.dp_laws.proofs.RootFront.{root_is_front}
 use Rattle.dp_spec.specs.Arithmetic.{Arithmetic}
 use Rattle.dp_spec.specs.BoundTree.{BoundTree, BoundTrees, branch, depth_of, greatest_depth, leaf, merge, more_bound_trees, no_bound_trees}
@@ -53,10 +54,6 @@ none_count-chosen [] e = refl
 none_count-chosen (None ∷ os) e = cc
 none_count-chosen (Some a ∷ os) e = none_count-chosen os e
 
-both_true : (a b : Bool) → a && b ≡ true → (a ≡ true) × (b ≡ true)
-both_true true b h = (refl, h)
-both_true false b h = cc
-
 choice_assigns_one : (i c a : ℕ) (ds : List AgentFront) → IsUnassigned i c ds → suc (unassigned_count (with_choice i c a ds)) ≡ unassigned_count ds
 choice_assigns_one i c a [] free = absurd free
 choice_assigns_one zero c a (d ∷ ds) free = omega (arith, none_count-set d.chosen c a free.0 free.1)
@@ -69,7 +66,7 @@ merge_joins_one (suc i) a b (d ∷ ds) free = omega (arith, merge_joins_one i a 
 
 complete_has_none : (ds : List AgentFront) → is_complete ds ≡ true → unassigned_count ds ≡ 0
 complete_has_none [] e = refl
-complete_has_none (d ∷ ds) e = let both = both_true (all_chosen d.chosen) (is_complete ds) e in omega (arith, none_count-chosen d.chosen both.0, complete_has_none ds both.1)
+complete_has_none (d ∷ ds) e = let both = parts_of_true (all_chosen d.chosen) (is_complete ds) e in omega (arith, none_count-chosen d.chosen both.0, complete_has_none ds both.1)
 
 -- ---- how many own histories there are
 -- those of length t

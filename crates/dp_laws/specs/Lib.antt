@@ -6,3 +6,11 @@ pub mod FullFrontLaws
 pub mod TreeDepthLaws
 pub mod ClassCountLaws
 pub mod OneSpelling
+pub mod ArithmeticLaws
+pub mod CertificateLaws
+pub mod ChoosingLaws
+pub mod FrontBoundLaws
+pub mod FrontStepLaws
+pub mod HorizonOneLaws
+pub mod LookAheadLaws
+pub mod MergingLaws

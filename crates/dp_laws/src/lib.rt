@@ -1,20 +1,54 @@
 //! The theorems about the definitions of `dp_spec`, each the clause of a public function.
 #![tactic(auto)]
 
+mod arithmetics;
+mod certificates;
+mod choosing;
 mod class_counts;
 mod forward_values;
+mod front_bound;
+mod front_steps;
 mod full_fronts;
+mod horizon_one;
+mod look_ahead;
+mod lossless_merging;
 mod policy_trees;
 mod root_fronts;
 mod texts;
 mod tree_depth;
 
+pub use arithmetics::{
+    arithmetic_encloses_the_numbers, arithmetic_is_sound, exact_arithmetic_gives_the_numbers,
+    exact_arithmetic_is_sound, outward_arithmetic_encloses_the_numbers,
+    outward_arithmetic_is_sound, recursion_gives_forward_worth,
+};
+pub use certificates::{
+    closed_certificates_are_optimal, ends_are_in_order, lower_end_is_the_value,
+    valid_certificates_hold,
+};
+pub use choosing::{choosing_changes_no_weight, equivalence_ignores_choices};
 pub use class_counts::{
     classes_are_at_most_own_histories, joint_classes_are_at_most_joint_histories,
 };
 pub use forward_values::{value_is_earned, value_is_earned_and_remaining};
+pub use front_bound::{
+    advancing_never_raises_bound, choosing_never_raises_bound, no_keeping_policy_above_bound,
+};
+pub use front_steps::{
+    advancing_keeps_well_formed, choosing_keeps_well_formed, front_after_choice_is_well_formed,
+    keeping_policy_advances, keeping_policy_goes_on, keeping_policy_makes_choice,
+    merging_keeps_well_formed,
+};
 pub use full_fronts::{
     full_front_earns_the_value, full_front_has_one_policy, full_policy_keeps_its_front,
+};
+pub use horizon_one::{constant_policy_is_policy, root_bound_is_best_constant_action};
+pub use look_ahead::{
+    action_look_ahead_bounds_every_policy, look_ahead_bounds_every_policy, more_look_never_raises,
+    more_look_never_raises_action, table_bounds_every_policy,
+};
+pub use lossless_merging::{
+    empty_classes_are_equivalent, keeping_the_merged_keeps_the_front, merging_loses_nothing,
 };
 pub use policy_trees::{
     actions_are_of_the_agent, tree_of_any_actions_exists, trees_with_equal_actions_are_equal,

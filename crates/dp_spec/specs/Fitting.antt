@@ -1,9 +1,7 @@
 -- Bound trees that fit a front.
-use Rattle.std.specs.Prelude.{ℕ, suc, ◌-◌, ◌<◌, ◌≡◌, IsTrue, ℤ, pos, ◌*ℤ◌, ◌≤ℤ◌, List, get_or}
+use Rattle.std.specs.Prelude.{ℕ, suc, ◌-◌, ◌<◌, ◌≡◌, IsTrue, ℤ, get_or}
 use Rattle.std.specs.Int.{int_min}
-use Rattle.dp_spec.specs.Model.{Model, value_scale}
-use Rattle.dp_spec.specs.PolicyTree.{PolicyTree, IsPolicyOf}
-use Rattle.dp_spec.specs.Value.{policy_value}
+use Rattle.dp_spec.specs.Model.{Model}
 use Rattle.dp_spec.specs.Front.{Front}
 use Rattle.dp_spec.specs.Steps.{IsUnassigned, front_after_choice}
 use Rattle.dp_spec.specs.Merge.{AreEquivalent, merged_front}
@@ -30,7 +28,3 @@ abbrev mutual
   FitEachAction A m h look no_bound_trees F i c a cap = get_or m.actions i 0 ≡ a
   FitEachAction A m h look (more_bound_trees k ks) F i c a cap =
       FitsFront A m h look k (front_after_choice m F i c a) (int_min cap (front_bound A m h look (front_after_choice m F i c a))) × FitEachAction A m h look ks F i c (suc a) cap
-
--- u over the unit is at least the expected reward of every joint policy of h steps
-abbrev pub BoundsEveryPolicy : Model → ℕ → ℕ → ℤ → Type 0
-BoundsEveryPolicy m h unit u = (qs : List PolicyTree) → IsPolicyOf m h qs → (policy_value m h qs *ℤ pos unit) ≤ℤ (u *ℤ pos (value_scale m h))

@@ -2,6 +2,7 @@ pub mod Sums
 pub mod JointNumbers
 pub mod Model
 pub mod PolicyTree
+pub mod ConstantPolicy
 pub mod Value
 pub mod MdpTable
 pub mod LookAhead

@@ -1,4 +1,4 @@
--- the exact arithmetic gives the numbers themselves
+-- The exact arithmetic gives the true number.
 use Rattle.std.proofs.Common.{◌≡◌, ◌*◌, ℤ, pos, ◌*ℤ◌, ◌≤ℤ◌, refl, sym, ap, ◌∙◌, arith}
 use Rattle.std.proofs.lemmas.Int.{ints, clamps}
 use Rattle.std.specs.Int.{int_min}
@@ -8,9 +8,11 @@ use Rattle.dp_spec.specs.Arithmetic.{exact, reward_factor}
 use Rattle.dp_spec.specs.Enclosure.{IsSound, equality}
 use Rattle.dp_spec.specs.Model.{Model, step_scale}
 
+-- the smaller of two is the lower
 smaller_is : (x y u v : ℤ) → x ≤ℤ y → u ≡ x → v ≡ y → int_min u v ≡ x
 smaller_is x y u v h e f = omega (arith, ints, clamps)
 
+-- each operation of the exact arithmetic is sound
 pub exact_sound : (m : Model) → IsSound m (exact m.scales) equality
 unfolding exact reward_factor step_scale
 exact_sound m = record {

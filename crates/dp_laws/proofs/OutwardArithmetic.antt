@@ -1,0 +1,200 @@
+-- The outward arithmetic gives a span round the true number.
+use Rattle.std.proofs.Common.{◌≡◌, inl, inr, ℕ, suc, ◌*◌, ◌^◌, ◌<◌, ℤ, pos, negsuc, ◌+ℤ◌, ◌*ℤ◌, ◌≤ℤ◌, refl, sym, ap, ◌∙◌, subst, arith}
+use Rattle.std.proofs.lemmas.Int.{ints}
+use Rattle.std.specs.Int.{int_min, int_max}
+use Rattle.dp_laws.proofs.Ring.{v, nat, ◌⊗◌, by_ring, by_order, zmul_comm, zle_of, zle_trans, zmul_le, zadd_le, zadd_mul}
+use Rattle.dp_laws.proofs.Floors.{mul_down_le, le_mul_up}
+use Rattle.dp_laws.proofs.Order.{le_max_left, le_max_right, le_of_mul_le_left, max_is_either, min_is_either, mul_le_right}
+use Rattle.dp_laws.proofs.Scales.{step_scale_is}
+use Rattle.dp_spec.specs.Arithmetic.{outward}
+use Rattle.dp_spec.specs.Enclosure.{IsSound, containment}
+use Rattle.dp_spec.specs.Model.{IsModel, Model, step_scale}
+use Rattle.dp_spec.specs.Rounding.{by_sign, mul_down, mul_up}
+
+-- ---- over the scale T and in the unit u
+
+-- l in the unit u is at most x over T
+abbrev pub IsBelow : ℕ → ℕ → ℤ → ℤ → Type 0
+IsBelow T u x l = (l *ℤ pos T) ≤ℤ (x *ℤ pos u)
+
+-- h in the unit u is at least x over T
+abbrev pub IsAbove : ℕ → ℕ → ℤ → ℤ → Type 0
+IsAbove T u x h = (x *ℤ pos u) ≤ℤ (h *ℤ pos T)
+
+-- a product with p over d, rounded down
+times_below : (T u p d : ℕ) (x l : ℤ) → 0 < d → IsBelow T u x l → IsBelow (T * d) u (x *ℤ pos p) (mul_down l (pos p) d)
+times_below T u p d x l some h =
+    let r = mul_down l (pos p) d in
+    zle_trans _ _ _ (zle_of _ _ (by_ring (v r ⊗ nat (T * d)) (nat T ⊗ (v r ⊗ nat d)) (omega arith)))
+    (zle_trans _ _ _ (zmul_le T _ _ (mul_down_le l (pos p) d some))
+    (zle_trans _ _ _ (zle_of _ _ (by_ring (nat T ⊗ (v l ⊗ nat p)) (nat p ⊗ (v l ⊗ nat T)) (omega arith)))
+    (zle_trans _ _ _ (zmul_le p _ _ h)
+    (zle_of _ _ (by_ring (nat p ⊗ (v x ⊗ nat u)) (v x ⊗ nat p ⊗ nat u) (omega arith))))))
+
+-- and rounded up
+times_above : (T u p d : ℕ) (x l : ℤ) → 0 < d → IsAbove T u x l → IsAbove (T * d) u (x *ℤ pos p) (mul_up l (pos p) d)
+times_above T u p d x l some h =
+    let r = mul_up l (pos p) d in
+    zle_trans _ _ _ (zle_of _ _ (by_ring (v x ⊗ nat p ⊗ nat u) (nat p ⊗ (v x ⊗ nat u)) (omega arith)))
+    (zle_trans _ _ _ (zmul_le p _ _ h)
+    (zle_trans _ _ _ (zle_of _ _ (by_ring (nat p ⊗ (v l ⊗ nat T)) (nat T ⊗ (v l ⊗ nat p)) (omega arith)))
+    (zle_trans _ _ _ (zmul_le T _ _ (le_mul_up l (pos p) d some))
+    (zle_of _ _ (by_ring (nat T ⊗ (v r ⊗ nat d)) (v r ⊗ nat (T * d)) (omega arith))))))
+
+-- equal scales and equal numbers
+same_below : (T T' u : ℕ) (x x' l : ℤ) → T ≡ T' → x ≡ x' → IsBelow T u x l → IsBelow T' u x' l
+same_below T T' u x x' l e f h = subst (λ (t : ℕ). IsBelow t u x' l) e (subst (λ (y : ℤ). IsBelow T u y l) f h)
+
+same_above : (T T' u : ℕ) (x x' l : ℤ) → T ≡ T' → x ≡ x' → IsAbove T u x l → IsAbove T' u x' l
+same_above T T' u x x' l e f h = subst (λ (t : ℕ). IsAbove t u x' l) e (subst (λ (y : ℤ). IsAbove T u y l) f h)
+
+-- a negative factor turns the order
+mul_negative_le : (n : ℕ) (a b : ℤ) → a ≤ℤ b → (b *ℤ negsuc n) ≤ℤ (a *ℤ negsuc n)
+mul_negative_le n a b h = let le = zmul_le (suc n) a b h in by_order (v b ⊗ v (negsuc n)) (v a ⊗ v (negsuc n)) (omega (arith, ints))
+
+-- the end by the sign of r, times r, is an end of the product
+signed_below : (T u : ℕ) (x l h r : ℤ) → IsBelow T u x l → IsAbove T u x h → ((by_sign r l h *ℤ pos T) *ℤ r) ≤ℤ ((x *ℤ pos u) *ℤ r)
+signed_below T u x l h (pos n) p q = zle_trans _ _ _ (zle_of _ _ (zmul_comm (l *ℤ pos T) (pos n))) (zle_trans _ _ _ (zmul_le n _ _ p) (zle_of _ _ (zmul_comm (pos n) (x *ℤ pos u))))
+signed_below T u x l h (negsuc n) p q = mul_negative_le n (x *ℤ pos u) (h *ℤ pos T) q
+
+signed_above : (T u : ℕ) (x l h r : ℤ) → IsBelow T u x l → IsAbove T u x h → ((x *ℤ pos u) *ℤ r) ≤ℤ ((by_sign r h l *ℤ pos T) *ℤ r)
+signed_above T u x l h (pos n) p q = zle_trans _ _ _ (zle_of _ _ (zmul_comm (x *ℤ pos u) (pos n))) (zle_trans _ _ _ (zmul_le n _ _ q) (zle_of _ _ (zmul_comm (pos n) (h *ℤ pos T))))
+signed_above T u x l h (negsuc n) p q = mul_negative_le n (l *ℤ pos T) (x *ℤ pos u) p
+
+-- a weight times a reward, from below
+gain_below : (T u e k d c w : ℕ) (l h r : ℤ) → 0 < c → 0 < c * d → u ≡ c * e → IsBelow T u (pos w) l → IsAbove T u (pos w) h → IsBelow (T * k * d) e (pos w *ℤ (r *ℤ pos k)) (mul_down (by_sign r l h) r (c * d))
+gain_below T u e k d c w l h r some some' is p q =
+    let x = by_sign r l h in
+    let y = mul_down x r (c * d) in
+    le_of_mul_le_left c _ _ some
+    (zle_trans _ _ _ (zle_of _ _ (by_ring (nat c ⊗ (v y ⊗ nat (T * k * d))) (nat (T * k) ⊗ (v y ⊗ nat (c * d))) (omega arith)))
+    (zle_trans _ _ _ (zmul_le (T * k) _ _ (mul_down_le x r (c * d) some'))
+    (zle_trans _ _ _ (zle_of _ _ (by_ring (nat (T * k) ⊗ (v x ⊗ v r)) (nat k ⊗ (v x ⊗ nat T ⊗ v r)) (omega arith)))
+    (zle_trans _ _ _ (zmul_le k _ _ (signed_below T u (pos w) l h r p q))
+    (zle_of _ _ (ap (λ (n : ℕ). pos k *ℤ (pos w *ℤ pos n *ℤ r)) is ∙ by_ring (nat k ⊗ (nat w ⊗ nat (c * e) ⊗ v r)) (nat c ⊗ (nat w ⊗ (v r ⊗ nat k) ⊗ nat e)) (omega arith)))))))
+
+-- and from above
+gain_above : (T u e k d c w : ℕ) (l h r : ℤ) → 0 < c → 0 < c * d → u ≡ c * e → IsBelow T u (pos w) l → IsAbove T u (pos w) h → IsAbove (T * k * d) e (pos w *ℤ (r *ℤ pos k)) (mul_up (by_sign r h l) r (c * d))
+gain_above T u e k d c w l h r some some' is p q =
+    let x = by_sign r h l in
+    let y = mul_up x r (c * d) in
+    le_of_mul_le_left c _ _ some
+    (zle_trans _ _ _ (zle_of _ _ (by_ring (nat c ⊗ (nat w ⊗ (v r ⊗ nat k) ⊗ nat e)) (nat k ⊗ (nat w ⊗ nat (c * e) ⊗ v r)) (omega arith) ∙ ap (λ (n : ℕ). pos k *ℤ (pos w *ℤ pos n *ℤ r)) (sym is)))
+    (zle_trans _ _ _ (zmul_le k _ _ (signed_above T u (pos w) l h r p q))
+    (zle_trans _ _ _ (zle_of _ _ (by_ring (nat k ⊗ (v x ⊗ nat T ⊗ v r)) (nat (T * k) ⊗ (v x ⊗ v r)) (omega arith)))
+    (zle_trans _ _ _ (zmul_le (T * k) _ _ (le_mul_up x r (c * d) some'))
+    (zle_of _ _ (by_ring (nat (T * k) ⊗ (v y ⊗ nat (c * d))) (nat c ⊗ (v y ⊗ nat (T * k * d))) (omega arith)))))))
+
+-- a weight times a value of the table
+tail_above : (T F u e w : ℕ) (l h x z : ℤ) → 0 < u → IsBelow T u (pos w) l → IsAbove T u (pos w) h → IsAbove F e x z → IsAbove (T * F) e (pos w *ℤ x) (mul_up (by_sign z h l) z u)
+tail_above T F u e w l h x z some p q o =
+    let y = by_sign z h l in
+    let a = mul_up y z u in
+    le_of_mul_le_left u _ _ some
+    (zle_trans _ _ _ (zle_of _ _ (by_ring (nat u ⊗ (nat w ⊗ v x ⊗ nat e)) (nat (w * u) ⊗ (v x ⊗ nat e)) (omega arith)))
+    (zle_trans _ _ _ (zmul_le (w * u) _ _ o)
+    (zle_trans _ _ _ (zle_of _ _ (by_ring (nat (w * u) ⊗ (v z ⊗ nat F)) (nat F ⊗ (nat w ⊗ nat u ⊗ v z)) (omega arith)))
+    (zle_trans _ _ _ (zmul_le F _ _ (signed_above T u (pos w) l h z p q))
+    (zle_trans _ _ _ (zle_of _ _ (by_ring (nat F ⊗ (v y ⊗ nat T ⊗ v z)) (nat (T * F) ⊗ (v y ⊗ v z)) (omega arith)))
+    (zle_trans _ _ _ (zmul_le (T * F) _ _ (le_mul_up y z u some))
+    (zle_of _ _ (by_ring (nat (T * F) ⊗ (v a ⊗ nat u)) (nat u ⊗ (v a ⊗ nat (T * F))) (omega arith)))))))))
+
+-- a value of the table times a chance and the discount
+carry_above : (F e p do' dt dg g : ℕ) (x z : ℤ) → 0 < dt → 0 < dg → IsAbove F e x z → IsAbove (F * (dt * do' * dg)) e (pos (p * do' * g) *ℤ x) (mul_up (mul_up z (pos p) dt) (pos g) dg)
+carry_above F e p do' dt dg g x z some some' o =
+    let b = mul_up (mul_up z (pos p) dt) (pos g) dg in
+    let twice = times_above (F * dt) e g dg _ _ some' (times_above F e p dt x z some o) in
+    zle_trans _ _ _ (zle_of _ _ (by_ring (nat (p * do' * g) ⊗ v x ⊗ nat e) (nat do' ⊗ (v x ⊗ nat p ⊗ nat g ⊗ nat e)) (omega arith)))
+    (zle_trans _ _ _ (zmul_le do' _ _ twice)
+    (zle_of _ _ (by_ring (nat do' ⊗ (v b ⊗ nat (F * dt * dg))) (v b ⊗ nat (F * (dt * do' * dg))) (omega arith))))
+
+-- the weight of a start chance
+start_below : (d u b : ℕ) → 0 < d → IsBelow d u (pos b) (mul_down (pos b) (pos u) d)
+start_below d u b some = mul_down_le (pos b) (pos u) d some
+
+start_above : (d u b : ℕ) → 0 < d → IsAbove d u (pos b) (mul_up (pos b) (pos u) d)
+start_above d u b some = le_mul_up (pos b) (pos u) d some
+
+-- ---- sums
+sum_below : (T u : ℕ) (x y l k : ℤ) → IsBelow T u x l → IsBelow T u y k → IsBelow T u (x +ℤ y) (l +ℤ k)
+sum_below T u x y l k p q = zle_trans _ _ _ (zle_of _ _ (zadd_mul l k (pos T))) (zle_trans _ _ _ (zadd_le _ _ _ _ p q) (zle_of _ _ (sym (zadd_mul x y (pos u)))))
+
+sum_above : (T u : ℕ) (x y l k : ℤ) → IsAbove T u x l → IsAbove T u y k → IsAbove T u (x +ℤ y) (l +ℤ k)
+sum_above T u x y l k p q = zle_trans _ _ _ (zle_of _ _ (zadd_mul x y (pos u))) (zle_trans _ _ _ (zadd_le _ _ _ _ p q) (zle_of _ _ (sym (zadd_mul l k (pos T)))))
+
+-- no number at all
+none_above : (T u : ℕ) → IsAbove T u (pos 0) (pos 0)
+none_above T u = zle_of _ _ (by_ring (nat 0 ⊗ nat u) (nat 0 ⊗ nat T) (omega arith))
+
+none_below : (T u : ℕ) → IsBelow T u (pos 0) (pos 0)
+none_below T u = zle_of _ _ (by_ring (nat 0 ⊗ nat T) (nat 0 ⊗ nat u) (omega arith))
+
+-- ---- the greater and the smaller
+
+-- the greater of two
+greater_above : (F u : ℕ) (x y a b : ℤ) → IsAbove F u x a → IsAbove F u y b → IsAbove F u (int_max x y) (int_max a b)
+greater_above F u x y a b p q =
+    elim (max_is_either x y) [
+      | inl e ↦ subst (λ (z : ℤ). IsAbove F u z (int_max a b)) (sym e) (zle_trans _ _ _ p (mul_le_right F _ _ (le_max_left a b)))
+      | inr e ↦ subst (λ (z : ℤ). IsAbove F u z (int_max a b)) (sym e) (zle_trans _ _ _ q (mul_le_right F _ _ (le_max_right a b)))
+    ]
+
+-- a number that is at most both is at most the smaller
+pub smaller_above : (F u : ℕ) (x y a b : ℤ) → x ≤ℤ y → IsAbove F u x a → IsAbove F u y b → IsAbove F u x (int_min a b)
+smaller_above F u x y a b h p q =
+    elim (min_is_either a b) [
+      | inl e ↦ subst (λ (z : ℤ). IsAbove F u x z) (sym e) p
+      | inr e ↦ subst (λ (z : ℤ). IsAbove F u x z) (sym e) (zle_trans _ _ _ (mul_le_right u _ _ h) q)
+    ]
+
+thousands_positive : (d : ℕ) → 0 < d → 0 < 1000 * d
+thousands_positive d h = omega arith
+
+product_of_chances : (w p z : ℕ) → pos w *ℤ pos p *ℤ pos z ≡ pos (w * (p * z))
+product_of_chances w p z = by_ring (nat w ⊗ nat p ⊗ nat z) (nat (w * (p * z))) (omega arith)
+
+product_of_scales : (T a b : ℕ) → T * a * b ≡ T * (a * b)
+product_of_scales T a b = omega arith
+
+-- a weight times two chances, from below
+chance_below : (T u w p z a b : ℕ) (l : ℤ) → 0 < a → 0 < b → IsBelow T u (pos w) l → IsBelow (T * (a * b)) u (pos (w * (p * z))) (mul_down (mul_down l (pos p) a) (pos z) b)
+chance_below T u w p z a b l some some' h =
+    same_below _ _ u _ _ _ (product_of_scales T a b) (product_of_chances w p z) (times_below (T * a) u z b (pos w *ℤ pos p) (mul_down l (pos p) a) some' (times_below T u p a (pos w) l some h))
+
+-- and from above
+chance_above : (T u w p z a b : ℕ) (l : ℤ) → 0 < a → 0 < b → IsAbove T u (pos w) l → IsAbove (T * (a * b)) u (pos (w * (p * z))) (mul_up (mul_up l (pos p) a) (pos z) b)
+chance_above T u w p z a b l some some' h =
+    same_above _ _ u _ _ _ (product_of_scales T a b) (product_of_chances w p z) (times_above (T * a) u z b (pos w *ℤ pos p) (mul_up l (pos p) a) some' (times_above T u p a (pos w) l some h))
+
+-- each operation of the outward arithmetic is sound
+pub outward_sound : (m : Model) → IsModel m → IsSound m (outward m.scales) containment
+unfolding outward
+outward_sound m ok = record {
+  start = λ b. record { from = start_below m.scales.start (10 ^ 12) b ok.scales.start; to = start_above m.scales.start (10 ^ 12) b ok.scales.start };
+  one = record { from = zle_of _ _ refl; to = zle_of _ _ refl };
+  chance = λ T w p z s h. record {
+    from = chance_below T (10 ^ 12) w p z m.scales.trans m.scales.obs s.low ok.scales.trans ok.scales.obs h.from;
+    to = chance_above T (10 ^ 12) w p z m.scales.trans m.scales.obs s.high ok.scales.trans ok.scales.obs h.to;
+  };
+  later = λ T w s h. record {
+    from = times_below T (10 ^ 12) m.scales.gain m.scales.discount (pos w) s.low ok.scales.discount h.from;
+    to = times_above T (10 ^ 12) m.scales.gain m.scales.discount (pos w) s.high ok.scales.discount h.to;
+  };
+  gain = λ T w rest r s h. record {
+    from = gain_below T (10 ^ 12) (10 ^ 9) (m.scales.discount * step_scale m ^ rest) m.scales.reward 1000 w s.low s.high r (omega arith) (thousands_positive _ ok.scales.reward) refl h.from h.to;
+    to = gain_above T (10 ^ 12) (10 ^ 9) (m.scales.discount * step_scale m ^ rest) m.scales.reward 1000 w s.low s.high r (omega arith) (thousands_positive _ ok.scales.reward) refl h.from h.to;
+  };
+  carry = λ F p x u h. subst (λ (n : ℕ). IsAbove (F * n) (10 ^ 9) (pos (p * m.scales.obs * m.scales.gain) *ℤ x) (mul_up (mul_up u (pos p) m.scales.trans) (pos m.scales.gain) m.scales.discount)) (step_scale_is m)
+      (carry_above F (10 ^ 9) p m.scales.obs m.scales.trans m.scales.discount m.scales.gain x u ok.scales.trans ok.scales.discount h);
+  tail = λ T w F x u s h o. tail_above T F (10 ^ 12) (10 ^ 9) w s.low s.high x u (omega arith) h.from h.to o;
+  no_weight = λ T. record { from = none_below T (10 ^ 12); to = none_above T (10 ^ 12) };
+  more_weight = λ T x y a b p q. record { from = sum_below T (10 ^ 12) (pos x) (pos y) _ _ p.from q.from; to = sum_above T (10 ^ 12) (pos x) (pos y) _ _ p.to q.to };
+  no_gain = λ F. record { from = none_below F (10 ^ 9); to = none_above F (10 ^ 9) };
+  more_gain = λ F x y a b p q. record { from = sum_below F (10 ^ 9) x y _ _ p.from q.from; to = sum_above F (10 ^ 9) x y _ _ p.to q.to };
+  top = λ F x a h. h.to;
+  no_top = λ F. none_above F (10 ^ 9);
+  more_top = λ F x y a b p q. sum_above F (10 ^ 9) x y _ _ p q;
+  greater = λ F x y a b p q. greater_above F (10 ^ 9) x y a b p q;
+  smaller = λ F x y a b h p q. smaller_above F (10 ^ 9) x y a b h p q;
+  reads = λ F x u h. h;
+}

@@ -1,0 +1,28 @@
+-- The bound of a front is above every policy that keeps it, and never grows along a path of fronts.
+use Rattle.std.specs.Prelude.{ℕ, suc, ◌+◌, ◌<◌, ◌≡◌, true, ◌≤ℤ◌, List, get_or}
+use Rattle.dp_spec.specs.Model.{Model, IsModel}
+use Rattle.dp_spec.specs.PolicyTree.{PolicyTree, IsPolicyOf}
+use Rattle.dp_spec.specs.Value.{policy_value}
+use Rattle.dp_spec.specs.Front.{Front}
+use Rattle.dp_spec.specs.WellFormed.{IsFront}
+use Rattle.dp_spec.specs.Keeping.{KeepsFront}
+use Rattle.dp_spec.specs.Bound.{bound_of}
+use Rattle.dp_spec.specs.Steps.{IsUnassigned, is_complete, chosen_front, advanced_front}
+
+-- no policy that keeps a front from whose stage on r steps are left is worth more than its bound, with any look
+abbrev pub NoKeepingPolicyAboveBound : Type 0
+NoKeepingPolicyAboveBound =
+    (m : Model) → IsModel m → (h r look : ℕ) (F : Front) (qs : List PolicyTree) → IsFront m h F → F.stage + r ≡ h → IsPolicyOf m h qs → KeepsFront m F qs →
+    policy_value m h qs ≤ℤ bound_of m r F look
+
+-- a bound does not grow where an unassigned class is given an action of its agent (exact numbers)
+abbrev pub ChoosingNeverRaisesBound : Type 0
+ChoosingNeverRaisesBound =
+    (m : Model) → IsModel m → (h r look : ℕ) (F : Front) (i c a : ℕ) → IsFront m h F → F.stage < h → IsUnassigned i c F.agents → a < get_or m.actions i 0 →
+    bound_of m r (chosen_front F i c a) look ≤ℤ bound_of m r F look
+
+-- a bound with a look of at least 1 does not grow where a complete front goes on to the next stage (exact numbers)
+abbrev pub AdvancingNeverRaisesBound : Type 0
+AdvancingNeverRaisesBound =
+    (m : Model) → IsModel m → (h r look : ℕ) (F : Front) → IsFront m h F → F.stage < h → is_complete F.agents ≡ true → 0 < look →
+    bound_of m r (advanced_front m F) look ≤ℤ bound_of m (suc r) F look

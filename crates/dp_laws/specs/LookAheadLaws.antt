@@ -1,0 +1,36 @@
+-- The table and the look-ahead bound every joint policy, and more look never raises the look-ahead.
+use Rattle.std.specs.Prelude.{ℕ, suc, ◌<◌, ◌≤◌, ◌≡◌, pos, ◌*ℤ◌, ◌≤ℤ◌, List}
+use Rattle.dp_spec.specs.Sums.{int_sum}
+use Rattle.dp_spec.specs.Model.{Model, IsModel}
+use Rattle.dp_spec.specs.PolicyTree.{PolicyTree, IsPolicyOf}
+use Rattle.dp_spec.specs.Value.{backward_value, joint_root_action}
+use Rattle.dp_spec.specs.MdpTable.{mdp_table}
+use Rattle.dp_spec.specs.LookAhead.{look_ahead, action_look_ahead}
+
+-- no joint policy of r steps is worth more from a state than the table says
+abbrev pub TableBoundsEveryPolicy : Type 0
+TableBoundsEveryPolicy =
+    (m : Model) → IsModel m → (r s : ℕ) (qs : List PolicyTree) → s < m.states → IsPolicyOf m r qs →
+    backward_value m r s qs ≤ℤ mdp_table m r s
+
+-- no joint policy of r steps earns more from weights than the look-ahead says
+abbrev pub LookAheadBoundsEveryPolicy : Type 0
+LookAheadBoundsEveryPolicy =
+    (m : Model) → IsModel m → (r k : ℕ) (w : ℕ → ℕ) (qs : List PolicyTree) → IsPolicyOf m r qs →
+    int_sum m.states (λ s. pos (w s) *ℤ backward_value m r s qs) ≤ℤ look_ahead m r w k
+
+-- the same of the joint policies that begin with joint action a
+abbrev pub ActionLookAheadBoundsEveryPolicy : Type 0
+ActionLookAheadBoundsEveryPolicy =
+    (m : Model) → IsModel m → (r k : ℕ) (w : ℕ → ℕ) (a : ℕ) (qs : List PolicyTree) → IsPolicyOf m (suc r) qs → joint_root_action m qs ≡ a →
+    int_sum m.states (λ s. pos (w s) *ℤ backward_value m (suc r) s qs) ≤ℤ action_look_ahead m r w a k
+
+-- a longer look gives no greater look-ahead
+abbrev pub MoreLookNeverRaises : Type 0
+MoreLookNeverRaises =
+    (m : Model) → IsModel m → (r k l : ℕ) (w : ℕ → ℕ) → k ≤ l → look_ahead m r w l ≤ℤ look_ahead m r w k
+
+-- the same where a joint action is done first
+abbrev pub MoreLookNeverRaisesAction : Type 0
+MoreLookNeverRaisesAction =
+    (m : Model) → IsModel m → (r k l : ℕ) (w : ℕ → ℕ) (a : ℕ) → k ≤ l → action_look_ahead m r w a l ≤ℤ action_look_ahead m r w a k
