@@ -3,16 +3,12 @@ use Rattle.std.proofs.Common.{◌≡◌, ℕ, zero, suc, ◌+◌, ◌*◌, ◌/�
 use Rattle.std.proofs.Math.Nat.{pow-suc, pow-zero}
 use Rattle.std.proofs.lemmas.Nat.{mod_below}
 use Rattle.dp_laws.proofs.Trees.{kid_fits, part_below, pos_of, root_in, row_below}
+use Rattle.dp_spec.specs.FullPolicy.{trees_from}
 use Rattle.dp_spec.specs.Keeping.{tree_at}
-use Rattle.dp_spec.specs.PolicyTree.{ArePolicyTrees, IsPolicyTree, PolicyTree, PolicyTrees, more_trees, no_trees, node, nth_tree, root_action, subtree}
-
--- the trees g 0 .. g (c - 1)
-abbrev pub trees_from : ℕ → (ℕ → PolicyTree) → PolicyTrees
-trees_from zero g = no_trees
-trees_from (suc c) g = more_trees (g 0) (trees_from c (λ o. g (suc o)))
+use Rattle.dp_spec.specs.PolicyTree.{ArePolicyTrees, IsPolicyTree, PolicyTree, node, nth_tree, root_action, subtree}
 
 -- the tree at place o
-nth_tree-trees_from : (c : ℕ) (g : ℕ → PolicyTree) (o : ℕ) → o < c → nth_tree (trees_from c g) o ≡ g o
+pub nth_tree-trees_from : (c : ℕ) (g : ℕ → PolicyTree) (o : ℕ) → o < c → nth_tree (trees_from c g) o ≡ g o
 nth_tree-trees_from zero g o h = absurd (omega arith)
 nth_tree-trees_from (suc c) g zero h = refl
 nth_tree-trees_from (suc c) g (suc o) h = nth_tree-trees_from c (λ o. g (suc o)) o (omega arith)
@@ -42,7 +38,7 @@ tree_at-graft n q new (suc t) j k x y e h =
     ∙ ap (λ (z : ℕ). graft n j z (subtree (tree_at n q t (y / n)) (y % n)) new) (next_number n t y x)
 
 -- they are trees of r steps where each is
-trees_from_fit : (b n r c : ℕ) (g : ℕ → PolicyTree) → ((o : ℕ) → o < c → IsPolicyTree b n r (g o)) → ArePolicyTrees b n r c (trees_from c g)
+pub trees_from_fit : (b n r c : ℕ) (g : ℕ → PolicyTree) → ((o : ℕ) → o < c → IsPolicyTree b n r (g o)) → ArePolicyTrees b n r c (trees_from c g)
 trees_from_fit b n r zero g h = tt
 trees_from_fit b n r (suc c) g h = (h 0 (omega arith), trees_from_fit b n r c (λ o. g (suc o)) (λ o p. h (suc o) (omega arith)))
 
