@@ -1,12 +1,17 @@
 -- trees below which new trees stand
-use Rattle.std.proofs.Common.{◌≡◌, ℕ, zero, suc, ◌+◌, ◌*◌, ◌/◌, ◌%◌, ◌^◌, ◌<◌, sym, ap, ◌∙◌, subst, arith}
+use Rattle.std.proofs.Common.{◌≡◌, ℕ, zero, suc, ◌+◌, ◌*◌, ◌/◌, ◌%◌, ◌^◌, ◌<◌, refl, sym, ap, ◌∙◌, subst, arith}
 use Rattle.std.proofs.Math.Nat.{pow-suc, pow-zero}
 use Rattle.std.proofs.lemmas.Nat.{mod_below}
-use Rattle.dp_laws.proofs.TreeActions.{are-trees_from, nth-trees_from}
 use Rattle.dp_laws.proofs.Trees.{kid_fits, part_below, pos_of, root_in, row_below}
 use Rattle.dp_spec.specs.FullPolicy.{trees_from}
 use Rattle.dp_spec.specs.Keeping.{tree_at}
-use Rattle.dp_spec.specs.PolicyTree.{IsPolicyTree, PolicyTree, node, root_action, subtree}
+use Rattle.dp_spec.specs.PolicyTree.{ArePolicyTrees, IsPolicyTree, PolicyTree, node, nth_tree, root_action, subtree}
+
+-- the tree at place o
+pub nth_tree-trees_from : (c : ℕ) (g : ℕ → PolicyTree) (o : ℕ) → o < c → nth_tree (trees_from c g) o ≡ g o
+nth_tree-trees_from zero g o h = absurd (omega arith)
+nth_tree-trees_from (suc c) g zero h = refl
+nth_tree-trees_from (suc c) g (suc o) h = nth_tree-trees_from c (λ o. g (suc o)) o (omega arith)
 
 -- The tree q below which, k steps on, new trees stand. The own history of q has number x, and `new` takes the numbers of histories k steps longer.
 abbrev pub graft : ℕ → ℕ → ℕ → PolicyTree → (ℕ → PolicyTree) → PolicyTree
@@ -29,8 +34,13 @@ tree_at-graft n q new (suc t) j k x y e h =
     let h' : y < n ^ t * n = rw pow-suc at h in
     let h2 : y < n * n ^ t = omega arith in
     ap (λ z. subtree z (y % n)) (tree_at-graft n q new t (suc j) k x (y / n) (omega arith) (part_below (n ^ t) n y h'))
-    ∙ nth-trees_from n _ (y % n) (mod_below y n (pos_of (n ^ t) n y h'))
+    ∙ nth_tree-trees_from n _ (y % n) (mod_below y n (pos_of (n ^ t) n y h'))
     ∙ ap (λ (z : ℕ). graft n j z (subtree (tree_at n q t (y / n)) (y % n)) new) (next_number n t y x)
+
+-- they are trees of r steps where each is
+pub trees_from_fit : (b n r c : ℕ) (g : ℕ → PolicyTree) → ((o : ℕ) → o < c → IsPolicyTree b n r (g o)) → ArePolicyTrees b n r c (trees_from c g)
+trees_from_fit b n r zero g h = tt
+trees_from_fit b n r (suc c) g h = (h 0 (omega arith), trees_from_fit b n r c (λ o. g (suc o)) (λ o p. h (suc o) (omega arith)))
 
 -- the same where the first of k + 1 steps is o
 grafted_number : (x n k o y : ℕ) → (x * n + o) * n ^ k + y ≡ x * n ^ suc k + (o * n ^ k + y)
@@ -47,7 +57,7 @@ graft_fits b n r (suc k) zero x q new e fits news = absurd (omega arith)
 graft_fits b n r (suc k) (suc zero) x q new e fits news = absurd (omega arith)
 graft_fits b n r (suc k) (suc (suc j)) x q new e fits news = (
   root_in b n (suc j) q fits,
-  are-trees_from b n (suc j) n _ (λ o p.
+  trees_from_fit b n (suc j) n _ (λ o p.
       graft_fits b n r k (suc j) (x * n + o) (subtree q o) new (omega arith) (kid_fits b n (suc j) q o p fits)
       (λ y u. subst (λ (z : ℕ). IsPolicyTree b n (suc r) (new z)) (sym (grafted_number x n k o y)) (news (o * n ^ k + y) (rw pow-suc (let lt = row_below o n (n ^ k) y p u in omega arith))))),
 )

@@ -34,10 +34,6 @@ pub int_sum_swap : (n m : ℕ) (f : ℕ → ℕ → ℤ) → int_sum n (λ i. in
 int_sum_swap zero m f = sym (int_sum_zero m)
 int_sum_swap (suc n) m f = rw (int_sum_swap n m f) (sym (int_sum_add m (λ j. int_sum n (λ i. f i j)) (f n)))
 
-pub int_sum_nsum : (n : ℕ) (f : ℕ → ℕ) → int_sum n (λ i. pos (f i)) ≡ pos (nat_sum n f)
-int_sum_nsum zero f = refl
-int_sum_nsum (suc n) f = rw (int_sum_nsum n f)
-
 -- n + k numbers
 pub int_sum_plus : (n k : ℕ) (f : ℕ → ℤ) → int_sum (n + k) f ≡ int_sum n f +ℤ int_sum k (λ j. f (n + j))
 int_sum_plus n zero f = rw add-zero (sym (+ℤ_idr (int_sum n f)))

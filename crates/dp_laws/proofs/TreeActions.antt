@@ -2,10 +2,11 @@
 use Rattle.std.proofs.Common.{◌≡◌, ℕ, zero, suc, ◌+◌, ◌*◌, ◌-◌, ◌/◌, ◌%◌, ◌^◌, ◌<◌, refl, sym, ap, ◌∙◌, arith}
 use Rattle.std.proofs.Math.Nat.{pow-suc, pow-zero}
 use Rattle.std.proofs.lemmas.Nat.{div-mul-add, mod-mul-add, mod_below}
+use Rattle.dp_laws.proofs.Graft.{nth_tree-trees_from, trees_from_fit}
 use Rattle.dp_laws.proofs.Keeping.{tree_at_fits}
 use Rattle.dp_laws.proofs.OwnHistories.{next_history_below}
 use Rattle.dp_laws.proofs.Trees.{part_below, pos_of, root_in}
-use Rattle.dp_spec.specs.FullPolicy.{tree_doing, tree_doing_after, trees_from}
+use Rattle.dp_spec.specs.FullPolicy.{tree_doing, tree_doing_after}
 use Rattle.dp_spec.specs.Keeping.{tree_at}
 use Rattle.dp_spec.specs.PolicyTree.{ArePolicyTrees, IsPolicyTree, PolicyTree, PolicyTrees, more_trees, no_trees, node, nth_tree, root_action, subtree}
 
@@ -49,25 +50,16 @@ equal_by_actions b n zero p q some tp tq same = absurd (omega arith)
 equal_by_actions b n (suc r) p q some tp tq same = equal_remains b n (suc r) p q tp tq same r 0 0 (omega arith) (omega (arith, pow-zero n))
 
 -- ---- the tree of given actions
-pub nth-trees_from : (c : ℕ) (g : ℕ → PolicyTree) (o : ℕ) → o < c → nth_tree (trees_from c g) o ≡ g o
-nth-trees_from zero g o h = absurd (omega arith)
-nth-trees_from (suc c) g zero h = refl
-nth-trees_from (suc c) g (suc o) h = nth-trees_from c (λ o. g (suc o)) o (omega arith)
-
-pub are-trees_from : (b n r c : ℕ) (g : ℕ → PolicyTree) → ((o : ℕ) → o < c → IsPolicyTree b n r (g o)) → ArePolicyTrees b n r c (trees_from c g)
-are-trees_from b n r zero g h = tt
-are-trees_from b n r (suc c) g h = (h 0 (omega arith), are-trees_from b n r c (λ o. g (suc o)) (λ o p. h (suc o) (omega arith)))
-
 -- it is a tree where the actions exist
 pub is-tree_doing_after : (b n h : ℕ) (act : ℕ → ℕ → ℕ) → ((t x : ℕ) → t < h → x < n ^ t → act t x < b) → (r t x : ℕ) → t + r ≡ h → x < n ^ t → IsPolicyTree b n r (tree_doing_after n act r t x)
 is-tree_doing_after b n h act below zero t x e u = tt
 is-tree_doing_after b n h act below (suc zero) t x e u = (below t x (omega arith) u, refl)
 is-tree_doing_after b n h act below (suc (suc r)) t x e u =
-    (below t x (omega arith) u, are-trees_from b n (suc r) n _ (λ o p. is-tree_doing_after b n h act below (suc r) (suc t) (x * n + o) (omega arith) (next_history_below x n t o u p)))
+    (below t x (omega arith) u, trees_from_fit b n (suc r) n _ (λ o p. is-tree_doing_after b n h act below (suc r) (suc t) (x * n + o) (omega arith) (next_history_below x n t o u p)))
 
 subtree-tree_doing_after : (n : ℕ) (act : ℕ → ℕ → ℕ) (r t x o : ℕ) → o < n → subtree (tree_doing_after n act (suc r) t x) o ≡ tree_doing_after n act r (suc t) (x * n + o)
 subtree-tree_doing_after n act zero t x o p = refl
-subtree-tree_doing_after n act (suc r) t x o p = nth-trees_from n _ o p
+subtree-tree_doing_after n act (suc r) t x o p = nth_tree-trees_from n _ o p
 
 -- what remains of it after an own history
 pub tree_at-tree_doing : (n : ℕ) (act : ℕ → ℕ → ℕ) (t r h x : ℕ) → t + r ≡ h → x < n ^ t → tree_at n (tree_doing n act h) t x ≡ tree_doing_after n act r t x
