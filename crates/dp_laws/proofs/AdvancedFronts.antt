@@ -87,7 +87,7 @@ fixed_at {f} (and_agent {n = n} {d = d} k ks) (x ∷ xs) h =
     λ j. here j ∷ rest j
 
 -- a test of pairs as two tests
-both_tests : (u v p p' q q' x y : ℕ) → (u ≡ v → (p ≡ p') × (q ≡ q')) → (p ≡ p' → q ≡ q' → u ≡ v) → (p ≡ p' → x ≡ y) → cond (eqb u v) x 0 ≡ cond (eqb q q') (cond (eqb p p') y 0) 0
+pub both_tests : (u v p p' q q' x y : ℕ) → (u ≡ v → (p ≡ p') × (q ≡ q')) → (p ≡ p' → q ≡ q' → u ≡ v) → (p ≡ p' → x ≡ y) → cond (eqb u v) x 0 ≡ cond (eqb q q') (cond (eqb p p') y 0) 0
 both_tests u v p p' q q' x y apart together same =
     elim (dec_eq u v) [
       | inl e ↦ let parts = apart e in equal (e, parts.0, parts.1, same parts.0)

@@ -2,6 +2,7 @@ pub mod AdvancedBound
 pub mod AdvancedFronts
 pub mod AgreeingActions
 pub mod Best
+pub mod BoundOnPath
 pub mod CertificateTexts
 pub mod ChosenBound
 pub mod ChosenFronts
@@ -34,6 +35,8 @@ pub mod LongerLook
 pub mod Look
 pub mod LosslessMerging
 pub mod MergedAgents
+pub mod MergedBound
+pub mod MergedFronts
 pub mod MergedKept
 pub mod MergedTrees
 pub mod Merging

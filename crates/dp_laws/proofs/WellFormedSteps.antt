@@ -136,7 +136,7 @@ unfolding front_after_choice
 after_choice_is_front m h F i c a front lt free p = next_is_front m h (chosen_front F i c a) (chosen_is_front m h F i c a front lt free p) lt (is_complete (with_choice i c a F.agents)) refl
 
 -- ---- merging
-below_or_above : (c b : ℕ) → (c < b) ⊎ (b ≤ c)
+pub below_or_above : (c b : ℕ) → (c < b) ⊎ (b ≤ c)
 below_or_above c b = grind arith
 
 renumbered_low : (a b c : ℕ) → c < b → renumbered a b c ≡ c

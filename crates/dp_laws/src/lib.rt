@@ -32,7 +32,8 @@ pub use class_counts::{
 };
 pub use forward_values::{value_is_earned, value_is_earned_and_remaining};
 pub use front_bound::{
-    advancing_never_raises_bound, choosing_never_raises_bound, no_keeping_policy_above_bound,
+    advancing_never_raises_bound, choice_never_raises_bound, choosing_never_raises_bound,
+    merging_never_raises_bound, no_keeping_policy_above_bound,
 };
 pub use front_steps::{
     advancing_keeps_well_formed, choosing_keeps_well_formed, front_after_choice_is_well_formed,
