@@ -1,12 +1,12 @@
 -- a bound does not grow by merging
 use Rattle.std.proofs.Common.{◌≡◌, ◌≢◌, inl, inr, ℕ, zero, suc, ◌+◌, ◌<◌, ◌≤◌, cond, eqb, ℤ, pos, ◌+ℤ◌, ◌≤ℤ◌, List, length, get_or, sym, ap, ◌∙◌, subst, arith}
 use Rattle.std.proofs.lemmas.Int.{ints}
-use Rattle.dp_laws.proofs.Order.{less_or_not}
 use Rattle.dp_laws.proofs.JointPlaces.{int_sum_placed, placed_number}
 use Rattle.dp_laws.proofs.LinearSteps.{action_look_ahead_together, greatest_together}
 use Rattle.dp_laws.proofs.MergedFronts.{agreeing_either, agreeing_kept, as_many_merged, counts_of_others, joined_weight, kept_below, kept_class, kept_high, kept_low, kept_weight, one_class_less, placed_weight, unassigned_agent}
 use Rattle.dp_laws.proofs.MergedTrees.{fixed_joint_action_merged}
-use Rattle.dp_laws.proofs.Ring.{zle_of, zle_trans}
+use Rattle.dp_laws.proofs.Order.{less_or_not}
+use Rattle.dp_laws.proofs.Ring.{zadd_le, zle_of, zle_trans}
 use Rattle.dp_laws.proofs.Sums.{dec_eq, int_sum_add, int_sum_ext, int_sum_le, int_sum_out, ite_same}
 use Rattle.dp_laws.proofs.WellFormedSteps.{merged_is_front}
 use Rattle.dp_spec.specs.Bound.{agreeing_actions, bound_of}
@@ -54,9 +54,6 @@ int_sum_joined k a b f g ab bk others here =
     zle_trans _ _ _ (zle_of _ _ (int_sum_out k a f a_in))
     (zle_trans _ _ _ (together_le _ _ (f a) (g a) (g b) (old a) rest (ap g (sym (kept_low b a ab))) here)
     (zle_of _ _ (sym (int_sum_skip k b g bk ∙ ap (λ z. z +ℤ g b) (int_sum_out k a old a_in)))))
-
-add_both : (a b c d : ℤ) → a ≡ b → c ≤ℤ d → (a +ℤ c) ≤ℤ (b +ℤ d)
-add_both a b c d e h = omega (arith, ints)
 
 -- ---- the bounds of joint classes
 module _ (m : Model) (h r look : ℕ) (F : Front) (front : IsFront m h F) (lt : F.stage < h) (i a b : ℕ) (ab : a < b) (free_a : IsUnassigned i a F.agents) (free_b : IsUnassigned i b F.agents) where
@@ -139,4 +136,4 @@ pub merged_bound_le : (m : Model) (h r look : ℕ) (F : Front) (i a b : ℕ) →
     bound_of m r (merged_front F i a b) look ≤ℤ bound_of m r F look
 merged_bound_le m h zero look F i a b front lt ab free_a free_b = zle_of _ _ (ap (λ act. earned_reward m act (F.stage + 0) F.stage) (fixed_joint_action_merged m F i a b))
 merged_bound_le m h (suc r) look F i a b front lt ab free_a free_b =
-    add_both _ _ _ _ (ap (λ act. earned_reward m act (F.stage + suc r) F.stage) (fixed_joint_action_merged m F i a b)) (joint_classes_le m h r look F front lt i a b ab free_a free_b)
+    zadd_le _ _ _ _ (zle_of _ _ (ap (λ act. earned_reward m act (F.stage + suc r) F.stage) (fixed_joint_action_merged m F i a b))) (joint_classes_le m h r look F front lt i a b ab free_a free_b)
