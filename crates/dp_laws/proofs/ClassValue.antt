@@ -14,6 +14,7 @@ use Rattle.dp_spec.specs.Sums.{int_sum, nat_sum}
 as_good : (t t' : ℕ) (ga gb ga' gb' : ℤ) → 0 < t → pos t' *ℤ ga ≡ pos t *ℤ ga' → pos t' *ℤ gb ≡ pos t *ℤ gb' → ga ≤ℤ gb → ga' ≤ℤ gb'
 as_good t t' ga gb ga' gb' p e f h = let le = zmul_le t' ga gb h in le_of_mul_le_left t ga' gb' p (rw (← e, ← f) le)
 
+-- 0 or more
 zero_or_more : (t : ℕ) → (t ≡ 0) ⊎ (0 < t)
 zero_or_more t = grind arith
 

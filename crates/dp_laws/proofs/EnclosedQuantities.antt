@@ -34,10 +34,12 @@ module _ (m : Model) (A : Arithmetic) (R : Enclosure) (ok : IsSound m A R) where
   weighs_sum T zero w s h = ok.no_weight T
   weighs_sum T (suc n) w s h = ok.more_weight T _ _ _ _ (weighs_sum T n w s (λ i p. h i (omega arith))) (h n (omega arith))
 
+  -- of what is earned
   pub earns_sum : (F n : ℕ) (x : ℕ → ℤ) (s : ℕ → Span) → ((i : ℕ) → i < n → R.Earns F (x i) (s i)) → R.Earns F (int_sum n x) (span_sum n s)
   earns_sum F zero x s h = ok.no_gain F
   earns_sum F (suc n) x s h = ok.more_gain F _ _ _ _ (earns_sum F n x s (λ i p. h i (omega arith))) (h n (omega arith))
 
+  -- of numbers from above
   pub tops_sum : (F n : ℕ) (x u : ℕ → ℤ) → ((i : ℕ) → i < n → R.Tops F (x i) (u i)) → R.Tops F (int_sum n x) (int_sum n u)
   tops_sum F zero x u h = ok.no_top F
   tops_sum F (suc n) x u h = ok.more_top F _ _ _ _ (tops_sum F n x u (λ i p. h i (omega arith))) (h n (omega arith))
@@ -53,6 +55,7 @@ module _ (m : Model) (A : Arithmetic) (R : Enclosure) (ok : IsSound m A R) where
   weighs_history_sum T n zero w s h = h [] tt
   weighs_history_sum T n (suc t) w s h = weighs_history_sum T n t _ _ (λ H p. weighs_sum T n _ _ (λ o q. h (o ∷ H) (q, p)))
 
+  -- of what is earned
   pub earns_history_sum : (F n t : ℕ) (x : List ℕ → ℤ) (s : List ℕ → Span) → ((H : List ℕ) → IsJointHistory n t H → R.Earns F (x H) (s H)) → R.Earns F (int_history_sum n t x) (span_history_sum n t s)
   earns_history_sum F n zero x s h = h [] tt
   earns_history_sum F n (suc t) x s h = earns_history_sum F n t _ _ (λ H p. earns_sum F n _ _ (λ o q. h (o ∷ H) (q, p)))

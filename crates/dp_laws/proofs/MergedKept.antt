@@ -8,6 +8,7 @@ use Rattle.dp_spec.specs.Merge.{merged_agent, merged_agents, renumbered, without
 use Rattle.dp_spec.specs.PolicyTree.{PolicyTree}
 use Rattle.dp_spec.specs.Steps.{IsUnassigned}
 
+-- another number is below or above
 below_or_above : (c b : ℕ) → c ≢ b → (c < b) ⊎ (b < c)
 below_or_above c b ne = grind arith
 

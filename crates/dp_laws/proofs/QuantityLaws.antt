@@ -36,11 +36,14 @@ quantities_enclosed m A R is ok = record {
   bounds = bound_enclosed m A R ok is;
 }
 
+-- in the exact arithmetic
 pub exact_quantities : (m : Model) → IsModel m → EnclosesQuantities m (exact m.scales) equality
 exact_quantities m is = quantities_enclosed m (exact m.scales) equality is (exact_sound m)
 
+-- in the outward arithmetic
 pub outward_quantities : (m : Model) → IsModel m → EnclosesQuantities m (outward m.scales) containment
 outward_quantities m is = quantities_enclosed m (outward m.scales) containment is (outward_sound m is)
 
+-- in that of either mode
 pub mode_quantities : (m : Model) → IsModel m → (e : Bool) → EnclosesQuantities m (arithmetic e m.scales) (enclosure e)
 mode_quantities m is e = quantities_enclosed m (arithmetic e m.scales) (enclosure e) is (arithmetic_sound m is e)
