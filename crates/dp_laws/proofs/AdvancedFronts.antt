@@ -10,7 +10,7 @@ use Rattle.dp_laws.proofs.AgreeingActions.{actions_for, chosen_joint_action}
 use Rattle.dp_laws.proofs.JointPairs.{pair_counts, pair_injective, pair_number}
 use Rattle.dp_laws.proofs.LinearSteps.{weights_after_histories}
 use Rattle.dp_laws.proofs.NaturalSums.{nat_history_sum_ext, nat_sum_one}
-use Rattle.dp_laws.proofs.OwnHistories.{Below, Within, joint_below, next_history_below, owns_within, parts-joint, parts_below}
+use Rattle.dp_laws.proofs.OwnHistories.{Below, Within, joint_below, next_history_below, own_histories_within, parts-joint, parts_below}
 use Rattle.dp_laws.proofs.KeptActions.{history_length}
 use Rattle.dp_laws.proofs.CompleteFronts.{new_class}
 use Rattle.dp_laws.proofs.Sums.{dec_eq, nat_sum_ext}
@@ -108,7 +108,7 @@ module _ (m : Model) (h : ℕ) (F : Front) (front : IsFront m h F) where
 
   pub class_in_range : (H : List ℕ) → IsJointHistory (joint_observations m) F.stage H → joint_class m F H < product (class_counts F.agents)
   unfolding joint_class joint_observations
-  class_in_range H p = joint_below _ _ (classes_below front.agents _ (owns_within m.observations F.stage H p))
+  class_in_range H p = joint_below _ _ (classes_below front.agents _ (own_histories_within m.observations F.stage H p))
 
   pub action_before : (t : ℕ) (H : List ℕ) → t < F.stage → IsJointHistory (joint_observations m) t H → fixed_joint_action m F H ≡ fixed_joint_action m G H
   unfolding fixed_joint_action
@@ -121,7 +121,7 @@ module _ (m : Model) (h : ℕ) (F : Front) (front : IsFront m h F) where
   unfolding fixed_joint_action chosen_joint_action joint_class joint_observations
   action_at H p =
       let xs = own_histories m.observations H in
-      let w = owns_within m.observations F.stage H p in
+      let w = own_histories_within m.observations F.stage H p in
       ap (λ (t : ℕ). joint_number m.actions (fixed_actions G.agents t xs)) (history_length _ F.stage H p)
       ∙ ap (joint_number m.actions) (fixed_at front.agents xs w ∙ ap (actions_for F.agents) (sym (parts-joint _ _ (classes_below front.agents xs w))))
 
@@ -146,7 +146,7 @@ module _ (m : Model) (h : ℕ) (F : Front) (front : IsFront m h F) where
       joint_class m G (o ∷ H) ≡ pair_number (class_counts F.agents) m.observations (joint_class m F H) o
   unfolding joint_class joint_observations
   class_is_pair o H q p =
-      let w = owns_within m.observations F.stage H p in
+      let w = own_histories_within m.observations F.stage H p in
       let classes = classes_advanced front.agents (own_histories m.observations H) (parts_of m.observations o) w (parts_below m.observations o q) in
       let parts = parts-joint (class_counts F.agents) (own_classes F.agents (own_histories m.observations H)) (classes_below front.agents _ w) in
       (λ j. joint_number (counts_are_pairs j) (classes j)) ∙ ap (λ z. joint_number (pair_counts (class_counts F.agents) m.observations) (next_own_histories m.observations z (parts_of m.observations o))) (sym parts)

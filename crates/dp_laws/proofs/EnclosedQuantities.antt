@@ -2,7 +2,7 @@
 use Rattle.std.proofs.Common.{◌≡◌, ℕ, zero, suc, ◌+◌, ◌-◌, ◌*◌, ◌^◌, ◌<◌, ◌≤◌, Bool, true, false, cond, eqb, ℤ, pos, ◌*ℤ◌, List, [], ◌∷◌, refl, ap, ◌∙◌, subst, arith}
 use Rattle.dp_spec.specs.declared.span.Span.{Span}
 use Rattle.dp_laws.proofs.Scales.{scale_after_carry, scale_after_reward, scale_after_step, scale_after_tail, scale_at_stage, scale_of_first, scale_of_next}
-use Rattle.dp_laws.proofs.Look.{look_le}
+use Rattle.dp_laws.proofs.TableBound.{look_ahead_le_table}
 use Rattle.dp_spec.specs.Arithmetic.{Arithmetic, point}
 use Rattle.dp_spec.specs.Bound.{agreeing_actions, bound_of}
 use Rattle.dp_spec.specs.Enclosure.{Enclosure, IsSound}
@@ -133,7 +133,7 @@ module _ (m : Model) (A : Arithmetic) (R : Enclosure) (ok : IsSound m A R) where
   look_ahead_enclosed is T zero k w ws h = ok.no_top _
   look_ahead_enclosed is T (suc r) zero w ws h = weighted_table_enclosed T (suc r) w ws h
   look_ahead_enclosed is T (suc r) (suc k) w ws h =
-      ok.smaller _ _ _ _ _ (look_le m is (suc r) (suc k) w)
+      ok.smaller _ _ _ _ _ (look_ahead_le_table m is (suc r) (suc k) w)
       (tops_greatest _ _ _ (numbers_below (joint_actions m)) (λ a.
       ok.more_top _ _ _ _ _ (ok.top _ _ _ (weighted_reward_enclosed T r w ws a h))
       (tops_sum _ (joint_observations m) _ _ (λ o p. tops_same _ _ _ _ (scale_after_tail m T r) (look_ahead_enclosed is (T * step_scale m) r k (weights_after m w a o) (weights_after_in A m ws a o) (λ t q. weights_after_enclosed T w ws a o t h))))))

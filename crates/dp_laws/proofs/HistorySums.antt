@@ -2,7 +2,7 @@
 use Rattle.std.proofs.Common.{◌≡◌, inl, inr, ℕ, zero, suc, ◌<◌, pos, List, [], ◌∷◌, refl, sym, ◌∙◌, subst, arith}
 use Rattle.dp_laws.proofs.Order.{last_or_before}
 use Rattle.dp_laws.proofs.Sums.{int_sum_zero}
-use Rattle.dp_laws.proofs.Forward.{int_history_sum_ext}
+use Rattle.dp_laws.proofs.ForwardValue.{int_history_sum_ext}
 use Rattle.dp_spec.specs.JointHistory.{IsJointHistory, int_history_sum, nat_history_sum}
 use Rattle.dp_spec.specs.Sums.{nat_sum}
 

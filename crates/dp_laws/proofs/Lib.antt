@@ -10,12 +10,15 @@ pub mod ClassCounts
 pub mod ClassValue
 pub mod CompleteFronts
 pub mod ConstantPolicies
+pub mod EarnedValue
 pub mod EmptyClasses
 pub mod EnclosedQuantities
 pub mod ExactArithmetic
 pub mod FittingTrees
 pub mod Floors
-pub mod Forward
+pub mod FollowedBound
+pub mod FollowedFronts
+pub mod ForwardValue
 pub mod FullPolicies
 pub mod Graft
 pub mod HistorySums
@@ -23,7 +26,6 @@ pub mod JointPairs
 pub mod JointParts
 pub mod JointPlaces
 pub mod Keeping
-pub mod KeepsAllAgents
 pub mod KeptActions
 pub mod KeptBound
 pub mod KeptSteps
@@ -32,7 +34,6 @@ pub mod Leaves
 pub mod LineTexts
 pub mod LinearSteps
 pub mod LongerLook
-pub mod Look
 pub mod LosslessMerging
 pub mod MergedAgents
 pub mod MergedBound
@@ -49,12 +50,11 @@ pub mod OwnHistories
 pub mod PolicyTexts
 pub mod QuantityLaws
 pub mod Recursion
-pub mod RecursiveWorth
 pub mod Ring
 pub mod RootFront
 pub mod Scales
-pub mod Sound
 pub mod Sums
+pub mod TableBound
 pub mod TreeActions
 pub mod TreeDepth
 pub mod Trees

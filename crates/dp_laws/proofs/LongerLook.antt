@@ -6,8 +6,8 @@ use Rattle.dp_laws.proofs.Order.{add_le_right, max_le}
 use Rattle.dp_laws.proofs.Ring.{zle_trans, zle_of}
 use Rattle.dp_laws.proofs.Sums.{int_sum_le}
 use Rattle.dp_laws.proofs.Best.{IsIn}
-use Rattle.dp_laws.proofs.Look.{look_le}
-use Rattle.dp_laws.proofs.OneStep.{value_le_action}
+use Rattle.dp_laws.proofs.TableBound.{look_ahead_le_table}
+use Rattle.dp_laws.proofs.OneStep.{value_le_action_look_ahead}
 use Rattle.dp_spec.specs.LookAhead.{action_look_ahead, look_ahead, weighted_reward, weights_after}
 use Rattle.dp_spec.specs.Model.{IsModel, Model, joint_actions, joint_observations}
 use Rattle.dp_spec.specs.PolicyTree.{IsPolicyOf, PolicyTree}
@@ -32,7 +32,7 @@ greatest_le f g (x ∷ (y ∷ ys)) h = max_mono _ _ _ _ (h x) (greatest_le f g (
 -- one step of look more
 one_more : (m : Model) → IsModel m → (r k : ℕ) (w : ℕ → ℕ) → look_ahead m r w (suc k) ≤ℤ look_ahead m r w k
 one_more m ok zero k w = zle_of (pos 0) (pos 0) refl
-one_more m ok (suc r) zero w = look_le m ok (suc r) 1 w
+one_more m ok (suc r) zero w = look_ahead_le_table m ok (suc r) 1 w
 one_more m ok (suc r) (suc k) w =
     greatest_le _ _ (numbers_below (joint_actions m)) (λ a. add_le_right (weighted_reward m r w a) _ _ (int_sum_le (joint_observations m) _ _ (λ o p. one_more m ok r k (weights_after m w a o))))
 
@@ -58,4 +58,4 @@ longer_look_action_le m ok r k l w a h =
 pub value_under_action : (m : Model) → IsModel m → (r k : ℕ) (w : ℕ → ℕ) (a : ℕ) (qs : List PolicyTree) → IsPolicyOf m (suc r) qs → joint_root_action m qs ≡ a →
     int_sum m.states (λ s. pos (w s) *ℤ backward_value m (suc r) s qs) ≤ℤ action_look_ahead m r w a k
 value_under_action m ok r k w a qs policy e =
-    subst (λ (b : ℕ). int_sum m.states (λ s. pos (w s) *ℤ backward_value m (suc r) s qs) ≤ℤ action_look_ahead m r w b k) e (value_le_action m ok r k w qs policy)
+    subst (λ (b : ℕ). int_sum m.states (λ s. pos (w s) *ℤ backward_value m (suc r) s qs) ≤ℤ action_look_ahead m r w b k) e (value_le_action_look_ahead m ok r k w qs policy)

@@ -7,7 +7,7 @@ use Rattle.dp_laws.proofs.JointPlaces.{below_others, below_place, joint_is_place
 use Rattle.dp_laws.proofs.MergedAgents.{get_or-renumbered, get_or-without_above, get_or-without_below, length-without}
 use Rattle.dp_laws.proofs.MergedTrees.{fixed_joint_action_merged}
 use Rattle.dp_laws.proofs.NaturalSums.{nat_history_sum_add, nat_history_sum_ext}
-use Rattle.dp_laws.proofs.OwnHistories.{Below, joint_below, owns_within}
+use Rattle.dp_laws.proofs.OwnHistories.{Below, joint_below, own_histories_within}
 use Rattle.dp_spec.specs.Bound.{agreeing_actions, agrees, all_agree}
 use Rattle.dp_spec.specs.Front.{AgentFront, Front, class_counts, class_weight, fixed_joint_action, joint_class, own_classes, own_histories}
 use Rattle.dp_spec.specs.JointHistory.{IsJointHistory, history_weight, nat_history_sum}
@@ -27,7 +27,7 @@ unassigned_agent (suc i) c (d ∷ ds) free = let rest = unassigned_agent i c ds 
 module _ (m : Model) (h : ℕ) (F : Front) (front : IsFront m h F) (i : ℕ) (i_in : i < length (class_counts F.agents)) where
   classes_in : (H : List ℕ) → IsJointHistory (joint_observations m) F.stage H → Below (class_counts F.agents) (own_classes F.agents (own_histories m.observations H))
   unfolding joint_observations
-  classes_in H p = classes_below front.agents _ (owns_within m.observations F.stage H p)
+  classes_in H p = classes_below front.agents _ (own_histories_within m.observations F.stage H p)
 
   agent_in_range : (H : List ℕ) → IsJointHistory (joint_observations m) F.stage H → class_of_agent m F i H < get_or (class_counts F.agents) i 0
   unfolding class_of_agent

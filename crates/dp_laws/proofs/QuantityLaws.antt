@@ -4,7 +4,7 @@ use Rattle.dp_laws.proofs.EnclosedQuantities.{action_look_ahead_enclosed, bound_
 use Rattle.dp_laws.proofs.ExactArithmetic.{exact_sound}
 use Rattle.dp_laws.proofs.Modes.{arithmetic_sound}
 use Rattle.dp_laws.proofs.OutwardArithmetic.{outward_sound}
-use Rattle.dp_laws.proofs.RecursiveWorth.{value_is_earned}
+use Rattle.dp_laws.proofs.EarnedValue.{value_is_earned}
 use Rattle.dp_laws.specs.ArithmeticLaws.{EnclosesQuantities}
 use Rattle.dp_spec.specs.Arithmetic.{Arithmetic, arithmetic, exact, outward}
 use Rattle.dp_spec.specs.Enclosure.{Enclosure, IsSound, containment, enclosure, equality}
