@@ -1,7 +1,7 @@
 -- Forward is backward: a value is what was earned and what remains.
-use Rattle.std.proofs.Common.{◌≡◌, ℕ, zero, suc, ◌+◌, ◌<◌, ℤ, pos, ◌+ℤ◌, ◌*ℤ◌, ◌≤ℤ◌, List, [], ◌∷◌, refl, sym, ap, ◌∙◌, arith}
+use Rattle.std.proofs.Common.{◌≡◌, ℕ, zero, suc, ◌+◌, ◌<◌, ℤ, pos, ◌+ℤ◌, ◌*ℤ◌, List, [], ◌∷◌, refl, sym, ap, ◌∙◌, arith}
 use Rattle.std.proofs.Math.IntN.{+ℤ_idl, +ℤ_assoc}
-use Rattle.dp_laws.proofs.Sums.{int_sum_ext, int_sum_le, int_sum_add, int_sum_swap}
+use Rattle.dp_laws.proofs.Sums.{int_sum_ext, int_sum_add, int_sum_swap}
 use Rattle.dp_laws.proofs.OneStep.{one_step}
 use Rattle.dp_spec.specs.JointHistory.{IsJointHistory, earned_reward, history_weight, int_history_sum, trees_after_history}
 use Rattle.dp_spec.specs.LookAhead.{weighted_reward, weights_after}
@@ -14,11 +14,6 @@ use Rattle.dp_spec.specs.Value.{backward_value, joint_root_action, policy_value,
 pub int_history_sum_ext : (n t : ℕ) (f g : List ℕ → ℤ) → ((H : List ℕ) → IsJointHistory n t H → f H ≡ g H) → int_history_sum n t f ≡ int_history_sum n t g
 int_history_sum_ext n zero f g h = h [] tt
 int_history_sum_ext n (suc t) f g h = int_history_sum_ext n t _ _ (λ H p. int_sum_ext n _ _ (λ o q. h (o ∷ H) (q, p)))
-
--- greater numbers
-pub int_history_sum_le : (n t : ℕ) (f g : List ℕ → ℤ) → ((H : List ℕ) → IsJointHistory n t H → f H ≤ℤ g H) → int_history_sum n t f ≤ℤ int_history_sum n t g
-int_history_sum_le n zero f g h = h [] tt
-int_history_sum_le n (suc t) f g h = int_history_sum_le n t _ _ (λ H p. int_sum_le n _ _ (λ o q. h (o ∷ H) (q, p)))
 
 -- sums of two
 pub int_history_sum_add : (n t : ℕ) (f g : List ℕ → ℤ) → int_history_sum n t (λ H. f H +ℤ g H) ≡ int_history_sum n t f +ℤ int_history_sum n t g
