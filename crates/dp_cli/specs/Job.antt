@@ -17,6 +17,10 @@ pub record File : Type 0 where
   pub name : List ℕ
   pub role : FileRole
 
+-- the model that a job is about
+abbrev pub model_name : Job → List ℕ
+model_name (Plan model horizon nodes look merge order) = model
+
 -- The file that a job asks for next, when it has been given these texts, in their order. Words that
 -- give no job ask for none.
 abbrev pub asks : Option Job → List (List ℕ) → Option File

@@ -1,7 +1,7 @@
-ghost use Rattle.std.specs.Prelude.{◌≡◌, ◌<◌, ◌^◌, [], length, map, string_bytes, IfOk, IfSome};
+ghost use Rattle.std.specs.Prelude.{◌≡◌, ◌<◌, ◌^◌, [], length, map, string_bytes, Some, IfOk, IfSome};
 ghost use Rattle.dp_words.specs.Words.{job_of};
 ghost use Rattle.dp_cli.specs.Refusal.{large_line};
-ghost use Rattle.dp_cli.specs.Job.{answer_of};
+ghost use Rattle.dp_cli.specs.Job.{answer_of, model_name};
 ghost use Rattle.dp_cli.specs.Put.{PutsAnswer};
 ghost use Rattle.dp_cli.specs.Run.{Answers, Runs, RunsAsTold};
 ghost use Rattle.dp_cli.specs.Steps.{FetchesFile, PutsOutcome, PutsRefusal};
@@ -26,19 +26,36 @@ pub fn run<S: Shelf, W: Sink>(alloc: Global, words: &[String], shelf: &mut S, ou
     ensures told { IfSome (S.view shelf.old).told (λ contents. RunsAsTold contents (length (S.view shelf.old).log)
         (job_of (map string_bytes words.now)) (W.view out.old) (W.view out.new) result) }
 {
-    let outcome = do_job(alloc, words, shelf);
+    let outcome = do_words(alloc, words, shelf);
     put_outcome(alloc, out, outcome)
 }
 
-// The text that the words ask for.
-fn do_job<S: Shelf>(alloc: Global, words: &[String], shelf: &mut S) -> Result<Vec<u8>, Refusal>
+// The text that the words ask for, or why there is none.
+fn do_words<S: Shelf>(
+    alloc: Global,
+    words: &[String],
+    shelf: &mut S,
+) -> Result<Vec<u8>, Refusal>
     ensures { Answers (job_of (map string_bytes words.now)) [] (S.view shelf.old) (S.view shelf.new) (answer_of result) }
 {
-    match read_words(alloc, words)? {
-        Job::Plan { model, .. } => {
-            let _text = fetch(alloc, shelf, FileRole::Model, &model)?;
-            Err(Refusal::Unbuilt(UnbuiltPart::Form))
-        }
+    let job = read_words(alloc, words)?;
+    do_job(alloc, &job, shelf)
+}
+
+// The text of a job, or why there is none.
+fn do_job<S: Shelf>(alloc: Global, job: &Job, shelf: &mut S) -> Result<Vec<u8>, Refusal>
+    ensures { Answers (Some job.now) [] (S.view shelf.old) (S.view shelf.new) (answer_of result) }
+{
+    let _text = fetch(alloc, shelf, FileRole::Model, model_of(job))?;
+    Err(Refusal::Unbuilt(UnbuiltPart::Form))
+}
+
+// The name of the model that a job is about.
+fn model_of(job: &Job) -> &Name
+    ensures { result.now ≡ model_name job.now }
+{
+    match job {
+        Job::Plan { model, .. } => model,
     }
 }
 
