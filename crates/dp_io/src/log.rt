@@ -41,7 +41,7 @@ impl Log {
     }
 
     /// How many fetches there were.
-    pub fn len(&self) -> usize
+    pub(crate) fn len(&self) -> usize
         ensures { result ≡ length self.now }
     {
         self.entries.len()
