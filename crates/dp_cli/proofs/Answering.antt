@@ -1,9 +1,9 @@
 -- How a job goes on, by what the steps of a call do.
-use Rattle.std.proofs.Common.{◌≡◌, ◌≢◌, ℕ, List, [], ◌∷◌, Option, Some, None, Result, Ok, Err, Vec, inl, inr, ⊎_elim, refl, sym, ap, subst}
+use Rattle.std.proofs.Common.{◌≡◌, ◌≢◌, ℕ, List, [], ◌∷◌, Option, Some, Result, Ok, Err, Vec, inl, inr, ⊎_elim, refl, sym, ap, subst}
 use Rattle.std.specs.declared.alloc.Global.{Global}
 use Rattle.dp_io.specs.declared.shelf.FetchFault.{FetchFault}
 use Rattle.dp_io.specs.declared.shelf.FetchFault.TheVariants.{Failed, TooLong, Memory}
-use Rattle.dp_io.specs.Shelf.{ShelfView, Fetches}
+use Rattle.dp_io.specs.Shelf.{ShelfView}
 use Rattle.dp_io.specs.Sink.{SinkView}
 use Rattle.dp_words.specs.declared.job.Job.{Job}
 use Rattle.dp_words.specs.declared.job.Job.TheVariants.{Plan}
@@ -17,7 +17,7 @@ use Rattle.dp_cli.specs.declared.status.Status.TheVariants as statuses
 use Rattle.dp_cli.specs.declared.refusal.FileRole.{FileRole}
 use Rattle.dp_cli.specs.declared.refusal.FileRole.TheVariants.{Model}
 use Rattle.dp_cli.specs.declared.refusal.UnbuiltPart.TheVariants.{Form}
-use Rattle.dp_cli.specs.Refusal.{most_bytes, fetch_refusal, word_refusal}
+use Rattle.dp_cli.specs.Refusal.{fetch_refusal, word_refusal}
 use Rattle.dp_cli.specs.Job.{File, Answer, model_name, asks, refused, done, answer_of}
 use Rattle.dp_cli.specs.Run.{IsAnswerToFault, Answers, Runs}
 use Rattle.dp_cli.specs.Steps.{FetchesFile, PutsOutcome}

@@ -1,5 +1,5 @@
 -- What the contents of a shelf that tells them determine.
-use Rattle.std.proofs.Common.{◌≡◌, ◌⊎◌, ◌<◌, ◌≤◌, ℕ, ◌+◌, Bool, true, false, List, [], ◌∷◌, ◌++◌, length, Option, Some, None, Result, Ok, Err, IfSome, Vec, inl, inr, ⊎_elim, refl, sym, ap, ◌∙◌, subst, arith, nat_lt, length-append}
+use Rattle.std.proofs.Common.{◌≡◌, ◌⊎◌, ◌<◌, ◌≤◌, ℕ, ◌+◌, false, List, [], ◌∷◌, ◌++◌, length, Option, Some, None, Result, Ok, Err, IfSome, Vec, inl, inr, ⊎_elim, refl, sym, ap, ◌∙◌, subst, arith, length-append}
 use Rattle.std.proofs.lemmas.Bool.Decides.{nat_tests}
 use Rattle.std.specs.declared.alloc.Global.{Global}
 use Rattle.dp_io.specs.declared.shelf.FetchFault.{FetchFault}
@@ -13,7 +13,6 @@ use Rattle.dp_cli.specs.declared.refusal.Refusal.TheVariants as refusals
 use Rattle.dp_cli.specs.declared.status.Status.{Status}
 use Rattle.dp_cli.specs.Refusal.{most_bytes, long_file}
 use Rattle.dp_cli.specs.Job.{File, Answer, asks, refused}
-use Rattle.dp_cli.specs.Put.{PutsAnswer}
 use Rattle.dp_cli.specs.Run.{IsAnswerToFault, Answers, Runs, held_text, told_text, IsToldAnswer, RunsAsTold}
 
 -- a file that is not to fail gives what is held

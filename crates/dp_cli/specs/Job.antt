@@ -4,7 +4,7 @@ use Rattle.std.specs.declared.alloc.Global.{Global}
 use Rattle.dp_words.specs.declared.job.Job.{Job}
 use Rattle.dp_words.specs.declared.job.Job.TheVariants.{Plan}
 use Rattle.dp_cli.specs.declared.refusal.FileRole.{FileRole}
-use Rattle.dp_cli.specs.declared.refusal.FileRole.TheVariants.{Model, Second}
+use Rattle.dp_cli.specs.declared.refusal.FileRole.TheVariants.{Model}
 use Rattle.dp_cli.specs.declared.refusal.UnbuiltPart.TheVariants.{Form}
 use Rattle.dp_cli.specs.declared.refusal.Refusal.{Refusal}
 use Rattle.dp_cli.specs.declared.refusal.Refusal.TheVariants as refusals
@@ -20,6 +20,11 @@ pub record File : Type 0 where
 -- the model that a job is about
 abbrev pub model_name : Job → List ℕ
 model_name (Plan model horizon nodes look merge order) = model
+
+-- the files of a job, in the order in which it asks for them; words that give no job name none
+abbrev pub files_of : Option Job → List (List ℕ)
+files_of None = []
+files_of (Some (Plan model horizon nodes look merge order)) = model ∷ []
 
 -- The file that a job asks for next, when it has been given these texts, in their order. Words that
 -- give no job ask for none.

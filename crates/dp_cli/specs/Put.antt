@@ -1,12 +1,10 @@
 -- The one put of a call.
-use Rattle.std.specs.Prelude.{◌≡◌, ◌⊎◌, Result, Ok, Err}
+use Rattle.std.specs.Prelude.{◌≡◌, Result, Ok, Err}
 use Rattle.dp_io.specs.declared.sink.SinkFailed.{SinkFailed}
 use Rattle.dp_io.specs.Sink.{SinkView, Puts}
-use Rattle.dp_cli.specs.declared.refusal.Refusal.{Refusal}
-use Rattle.dp_cli.specs.declared.refusal.Refusal.TheVariants as refusals
 use Rattle.dp_cli.specs.declared.status.Status.{Status}
 use Rattle.dp_cli.specs.declared.status.Status.TheVariants as statuses
-use Rattle.dp_cli.specs.Job.{Answer, refused}
+use Rattle.dp_cli.specs.Job.{Answer}
 
 -- the status of a call after its put: a put that fails replaces it
 abbrev pub status_after : Result (Unit {0}) SinkFailed → Status → Status

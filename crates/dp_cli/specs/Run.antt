@@ -1,5 +1,5 @@
 -- What a whole call does: the fetches that a job makes, one after the other, and the put of its answer.
-use Rattle.std.specs.Prelude.{◌≡◌, ℕ, ◌+◌, ◌⊎◌, Bool, nat_lt, if◌then◌else◌, List, [], ◌∷◌, ◌++◌, length, Option, Some, None, Result, Ok, Err, Vec}
+use Rattle.std.specs.Prelude.{◌≡◌, ℕ, ◌+◌, ◌⊎◌, nat_lt, if◌then◌else◌, List, [], ◌∷◌, ◌++◌, length, Option, Some, None, Result, Ok, Err, Vec}
 use Rattle.std.specs.declared.alloc.Global.{Global}
 use Rattle.dp_io.specs.declared.shelf.FetchFault.{FetchFault}
 use Rattle.dp_io.specs.declared.shelf.FetchFault.TheVariants as fetch_faults
@@ -25,15 +25,15 @@ IsAnswerToFault role fetch_faults.Memory answer = answer ≡ refused refusals.Me
 pub data Answers (job : Option Job) : List (List ℕ) → ShelfView → ShelfView → Answer → Type 0 where
   -- It asks for nothing more, and replies.
   replies : {texts : List (List ℕ)} {shelf : ShelfView} {answer : Answer} → asks job texts ≡ None → IsReply job texts answer
-    → Answers job texts shelf shelf answer
+      → Answers job texts shelf shelf answer
   -- It asks for a file that is not given.
   refuses : {texts : List (List ℕ)} {shelf shelf' : ShelfView} {answer : Answer} (file : File) (fault : FetchFault) → asks job texts ≡ Some file
-    → Fetches shelf shelf' file.name (most_bytes file.role) (Err fault) → IsAnswerToFault file.role fault answer
-    → Answers job texts shelf shelf' answer
+      → Fetches shelf shelf' file.name (most_bytes file.role) (Err fault) → IsAnswerToFault file.role fault answer
+      → Answers job texts shelf shelf' answer
   -- It asks for a file that is given, and goes on.
   goes_on : {texts : List (List ℕ)} {shelf between shelf' : ShelfView} {answer : Answer} (file : File) (text : Vec ℕ Global) → asks job texts ≡ Some file
-    → Fetches shelf between file.name (most_bytes file.role) (Ok text) → Answers job (texts ++ text.items ∷ []) between shelf' answer
-    → Answers job texts shelf shelf' answer
+      → Fetches shelf between file.name (most_bytes file.role) (Ok text) → Answers job (texts ++ text.items ∷ []) between shelf' answer
+      → Answers job texts shelf shelf' answer
   -- Memory runs out.
   wants_memory : {texts : List (List ℕ)} {shelf : ShelfView} → Answers job texts shelf shelf (refused refusals.Memory)
 
@@ -58,14 +58,14 @@ told_text contents number file =
 pub data IsToldAnswer (contents : Contents) (job : Option Job) : ℕ → List (List ℕ) → Answer → Type 0 where
   -- It asks for nothing more, and replies.
   replies : {number : ℕ} {texts : List (List ℕ)} {answer : Answer} → asks job texts ≡ None → IsReply job texts answer
-    → IsToldAnswer contents job number texts answer
+      → IsToldAnswer contents job number texts answer
   -- It asks for a file that is not given.
   refuses : {number : ℕ} {texts : List (List ℕ)} (file : File) (refusal : Refusal) → asks job texts ≡ Some file → told_text contents number file ≡ Err refusal
-    → IsToldAnswer contents job number texts (refused refusal)
+      → IsToldAnswer contents job number texts (refused refusal)
   -- It asks for a file that is given, and goes on.
   goes_on : {number : ℕ} {texts : List (List ℕ)} {answer : Answer} (file : File) (text : List ℕ) → asks job texts ≡ Some file → told_text contents number file ≡ Ok text
-    → IsToldAnswer contents job (number + 1) (texts ++ text ∷ []) answer
-    → IsToldAnswer contents job number texts answer
+      → IsToldAnswer contents job (number + 1) (texts ++ text ∷ []) answer
+      → IsToldAnswer contents job number texts answer
 
 -- What a call answers by the contents of the shelf, where its first fetch has this number: what they
 -- determine, or want of memory.

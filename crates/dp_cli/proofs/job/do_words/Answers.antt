@@ -1,6 +1,6 @@
 use Rattle.std.proofs.lemmas.Result.{err_from_is_err_and}
 use Rattle.dp_cli.proofs.Answering.{refuses_words}
-use Rattle.dp_cli.proofs.top.do_words.Goals as goal
+use Rattle.dp_cli.proofs.job.do_words.Goals as goal
 
 pub returns-in_err-job : goal.returns-in_err-job
 returns-in_err-job g c =

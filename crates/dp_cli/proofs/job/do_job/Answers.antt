@@ -1,10 +1,10 @@
-use Rattle.std.proofs.Common.{◌≡◌, Some, [], List, ℕ, sym, ap}
+use Rattle.std.proofs.Common.{◌≡◌, Some, []}
 use Rattle.std.proofs.lemmas.Result.{err_from_is_err_and}
-use Rattle.dp_cli.specs.Job.{asks, model_name}
+use Rattle.dp_cli.specs.Job.{asks}
 use Rattle.dp_cli.specs.Run.{Answers}
 use Rattle.dp_cli.specs.declared.refusal.FileRole.TheVariants.{Model}
 use Rattle.dp_cli.proofs.Answering.{refuses_file, asks_model, replies_unbuilt}
-use Rattle.dp_cli.proofs.top.do_job.Goals as goal
+use Rattle.dp_cli.proofs.job.do_job.Goals as goal
 
 pub returns-in_err-_text : goal.returns-in_err-_text
 returns-in_err-_text g c =

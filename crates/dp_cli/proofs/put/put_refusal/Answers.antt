@@ -3,7 +3,7 @@ use Rattle.dp_cli.specs.declared.status.Status.TheVariants.{TooLarge}
 use Rattle.dp_cli.specs.declared.refusal.Refusal.{Refusal}
 use Rattle.dp_cli.specs.Put.{PutsAnswer}
 use Rattle.dp_cli.specs.Steps.{PutsRefusal}
-use Rattle.dp_cli.proofs.top.put_refusal.Goals as goal
+use Rattle.dp_cli.proofs.put.put_refusal.Goals as goal
 
 pub returns-in-Ok : goal.returns-in-Ok
 returns-in-Ok g c =
