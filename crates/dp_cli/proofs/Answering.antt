@@ -18,9 +18,9 @@ use Rattle.dp_cli.specs.declared.refusal.FileRole.{FileRole}
 use Rattle.dp_cli.specs.declared.refusal.FileRole.TheVariants.{Model}
 use Rattle.dp_cli.specs.declared.refusal.UnbuiltPart.TheVariants.{Form}
 use Rattle.dp_cli.specs.Refusal.{fetch_refusal, word_refusal}
-use Rattle.dp_cli.specs.Job.{File, Answer, model_name, asks, refused, done, answer_of}
+use Rattle.dp_cli.specs.Job.{File, Answer, asks, refused, done}
 use Rattle.dp_cli.specs.Run.{IsAnswerToFault, Answers, Runs}
-use Rattle.dp_cli.specs.Steps.{FetchesFile, PutsOutcome}
+use Rattle.dp_cli.specs.Steps.{model_name, answer_of, FetchesFile, PutsOutcome}
 
 -- a fault is answered by its refusal
 answer_to_fault : (role : FileRole) (fault : FetchFault) → IsAnswerToFault role fault (refused (fetch_refusal role fault))

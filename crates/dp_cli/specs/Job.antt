@@ -1,6 +1,6 @@
--- What a job asks for, and what it answers.
-use Rattle.std.specs.Prelude.{◌≡◌, ℕ, List, [], ◌∷◌, Option, Some, None, Result, Ok, Err, Vec}
-use Rattle.std.specs.declared.alloc.Global.{Global}
+-- What a job asks for, and what it answers. Words that give no job are taken for one that asks for
+-- nothing, and each command adds its cases to the three definitions `files_of`, `asks` and `IsReply`.
+use Rattle.std.specs.Prelude.{◌≡◌, ℕ, List, [], ◌∷◌, Option, Some, None}
 use Rattle.dp_words.specs.declared.job.Job.{Job}
 use Rattle.dp_words.specs.declared.job.Job.TheVariants.{Plan}
 use Rattle.dp_cli.specs.declared.refusal.FileRole.{FileRole}
@@ -17,17 +17,12 @@ pub record File : Type 0 where
   pub name : List ℕ
   pub role : FileRole
 
--- the model that a job is about
-abbrev pub model_name : Job → List ℕ
-model_name (Plan model horizon nodes look merge order) = model
-
--- the files of a job, in the order in which it asks for them; words that give no job name none
+-- the names of the files that a job may ask for, in their order
 abbrev pub files_of : Option Job → List (List ℕ)
 files_of None = []
 files_of (Some (Plan model horizon nodes look merge order)) = model ∷ []
 
--- The file that a job asks for next, when it has been given these texts, in their order. Words that
--- give no job ask for none.
+-- the file that a job asks for next, when it has been given these texts, in their order
 abbrev pub asks : Option Job → List (List ℕ) → Option File
 asks (Some (Plan model horizon nodes look merge order)) [] = Some (record { name = model; role = Model })
 asks _ texts = None
@@ -51,8 +46,3 @@ abbrev pub IsReply : Option Job → List (List ℕ) → Answer → Type 0
 IsReply None texts answer = answer ≡ refused refusals.Usage
 IsReply (Some (Plan model horizon nodes look merge order)) (text ∷ []) answer = answer ≡ refused (refusals.Unbuilt Form)
 IsReply job texts answer = ⊥
-
--- the answer that a result of the code stands for
-abbrev pub answer_of : Result (Vec ℕ Global) Refusal → Answer
-answer_of (Ok text) = done text.items
-answer_of (Err refusal) = refused refusal

@@ -1,9 +1,8 @@
 // What a job fetches and answers.
 ghost use Rattle.std.specs.Prelude.{◌≡◌, [], map, string_bytes, Some};
 ghost use Rattle.dp_words.specs.Words.{job_of};
-ghost use Rattle.dp_cli.specs.Job.{answer_of, model_name};
 ghost use Rattle.dp_cli.specs.Run.{Answers};
-ghost use Rattle.dp_cli.specs.Steps.{FetchesFile};
+ghost use Rattle.dp_cli.specs.Steps.{FetchesFile, answer_of, model_name};
 
 use crate::{FileRole, Refusal, UnbuiltPart};
 use dp_io::Shelf;
