@@ -1,16 +1,16 @@
 -- What a whole call does: the fetches that a job makes, one after the other, and the put of its answer.
-use Rattle.std.specs.Prelude.{◌≡◌, ℕ, ◌+◌, ◌⊎◌, nat_lt, if◌then◌else◌, List, [], ◌∷◌, ◌++◌, length, Option, Some, None, Result, Ok, Err, Vec}
+use Rattle.std.specs.Prelude.{◌≡◌, ℕ, ◌+◌, ◌⊎◌, List, [], ◌∷◌, ◌++◌, Option, Some, None, Ok, Err, Vec}
 use Rattle.std.specs.declared.alloc.Global.{Global}
 use Rattle.dp_io.specs.declared.shelf.FetchFault.{FetchFault}
 use Rattle.dp_io.specs.declared.shelf.FetchFault.TheVariants as fetch_faults
 use Rattle.dp_io.specs.Shelf.{Contents, ShelfView, Fetches}
+use Rattle.dp_io.specs.FetchLaws.{fetch_answer}
 use Rattle.dp_io.specs.Sink.{SinkView}
 use Rattle.dp_words.specs.declared.job.Job.{Job}
 use Rattle.dp_cli.specs.declared.refusal.FileRole.{FileRole}
-use Rattle.dp_cli.specs.declared.refusal.Refusal.{Refusal}
 use Rattle.dp_cli.specs.declared.refusal.Refusal.TheVariants as refusals
 use Rattle.dp_cli.specs.declared.status.Status.{Status}
-use Rattle.dp_cli.specs.Refusal.{most_bytes, long_file}
+use Rattle.dp_cli.specs.Refusal.{most_bytes, long_file, fetch_refusal}
 use Rattle.dp_cli.specs.Job.{File, Answer, asks, refused, IsReply}
 use Rattle.dp_cli.specs.Put.{PutsAnswer}
 
@@ -43,16 +43,6 @@ pub record Runs (job : Option Job) (shelf shelf' : ShelfView) (sink sink' : Sink
   pub answers : Answers job [] shelf shelf' answer
   pub puts : PutsAnswer sink sink' answer result
 
--- the text of a file that holds this, unless it is too long
-abbrev pub held_text : FileRole → Option (List ℕ) → Result (List ℕ) Refusal
-held_text role None = Err (refusals.Read role)
-held_text role (Some bytes) = if nat_lt (most_bytes role) (length bytes) then Err (long_file role (length bytes)) else Ok bytes
-
--- what the fetch of that number gives by the contents of the shelf: the file's text, or the refusal
-abbrev pub told_text : Contents → ℕ → File → Result (List ℕ) Refusal
-told_text contents number file =
-    if contents.fails number file.name then Err (refusals.Read file.role) else held_text file.role (contents.held file.name)
-
 -- What a job that has been given these texts answers by the contents of the shelf, where its next
 -- fetch has this number.
 pub data IsToldAnswer (contents : Contents) (job : Option Job) : ℕ → List (List ℕ) → Answer → Type 0 where
@@ -60,10 +50,12 @@ pub data IsToldAnswer (contents : Contents) (job : Option Job) : ℕ → List (L
   replies : {number : ℕ} {texts : List (List ℕ)} {answer : Answer} → asks job texts ≡ None → IsReply job texts answer
       → IsToldAnswer contents job number texts answer
   -- It asks for a file that is not given.
-  refuses : {number : ℕ} {texts : List (List ℕ)} (file : File) (refusal : Refusal) → asks job texts ≡ Some file → told_text contents number file ≡ Err refusal
-      → IsToldAnswer contents job number texts (refused refusal)
+  refuses : {number : ℕ} {texts : List (List ℕ)} (file : File) (fault : FetchFault) → asks job texts ≡ Some file
+      → fetch_answer contents number file.name (most_bytes file.role) ≡ Err fault
+      → IsToldAnswer contents job number texts (refused (fetch_refusal file.role fault))
   -- It asks for a file that is given, and goes on.
-  goes_on : {number : ℕ} {texts : List (List ℕ)} {answer : Answer} (file : File) (text : List ℕ) → asks job texts ≡ Some file → told_text contents number file ≡ Ok text
+  goes_on : {number : ℕ} {texts : List (List ℕ)} {answer : Answer} (file : File) (text : List ℕ) → asks job texts ≡ Some file
+      → fetch_answer contents number file.name (most_bytes file.role) ≡ Ok text
       → IsToldAnswer contents job (number + 1) (texts ++ text ∷ []) answer
       → IsToldAnswer contents job number texts answer
 

@@ -1,2 +1,2 @@
-mod FetchLemmas
+pub mod FetchLemmas
 mod HeldLemmas
