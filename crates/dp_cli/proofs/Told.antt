@@ -54,9 +54,9 @@ told_answer {contents} {job} {texts} {old} {new} {answer} (Answers.goes_on {betw
     ⊎_elim
     (λ memory. cc)
     (λ told. ⊎_elim
-      (λ h. inl (IsToldAnswer.goes_on file text.items asked (sym told) (subst (λ (n : ℕ). IsToldAnswer contents job n (texts ++ text.items ∷ []) answer) next h)))
-      (λ memory. inr memory)
-      (told_answer rest (fetched.unchanged ∙ is)))
+    (λ h. inl (IsToldAnswer.goes_on file text.items asked (sym told) (subst (λ (n : ℕ). IsToldAnswer contents job n (texts ++ text.items ∷ []) answer) next h)))
+    (λ memory. inr memory)
+    (told_answer rest (fetched.unchanged ∙ is)))
     (told_fetch old between contents file.name (most_bytes file.role) (Ok text) is fetched)
 told_answer Answers.wants_memory is = inr refl
 
