@@ -18,6 +18,14 @@ use Rattle.dp_cli.specs.Put.{status_after}
 use Rattle.dp_cli.specs.Run.{IsAnswerToFault, Answers, Runs}
 use Rattle.dp_cli.specs.Causes.{LogsFirstOf, LastFailed}
 
+-- a job leaves what the shelf holds, and which fetches fail
+pub contents_unchanged : {job : Option Job} {texts : List (List ℕ)} {old new : ShelfView} {answer : Answer} → Answers job texts old new answer
+    → new.told ≡ old.told
+contents_unchanged (Answers.replies asked reply) = refl
+contents_unchanged (Answers.refuses file fault asked fetched why) = fetched.unchanged
+contents_unchanged (Answers.goes_on file text asked fetched rest) = contents_unchanged rest ∙ fetched.unchanged
+contents_unchanged Answers.wants_memory = refl
+
 -- The fetches that are appended, by the files that a job asks for
 
 -- the files that a job may still ask for when it has been given this number of texts

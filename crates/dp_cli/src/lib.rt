@@ -40,6 +40,7 @@ pub fn run<S: Shelf, W: Sink>(alloc: Global, words: &[String], shelf: &mut S, ou
 
     // Plain facts that follow from these.
     ensures fetched { LogsFirstOf (files_of (job_of (map string_bytes words.now))) (S.view shelf.old).log (S.view shelf.new).log }
+    ensures unchanged { (S.view shelf.new).told ≡ (S.view shelf.old).told }
     ensures one_put { (W.view out.new).puts ≡ (W.view out.old).puts + 1 }
     ensures usage { result ≢ Status.WriteFault → result ≢ Status.NoMemory →
         ((result ≡ Status.Usage) ↔ (job_of (map string_bytes words.now) ≡ None)) }

@@ -60,7 +60,7 @@ impl From<WordFault> for Refusal {
 
 impl Refusal {
     /// The refusal of a file that was not given.
-    pub fn of_fetch(role: FileRole, fault: FetchFault) -> Refusal
+    pub(crate) fn of_fetch(role: FileRole, fault: FetchFault) -> Refusal
         ensures { result ≡ fetch_refusal role fault }
     {
         match fault {
@@ -78,7 +78,7 @@ impl FileRole {
     ghost use Rattle.dp_cli.specs.Refusal.{role_limit, most_bytes, read_line};
 
     /// The limit on the bytes of such a file.
-    pub fn limit(self) -> Limit
+    pub(crate) fn limit(self) -> Limit
         ensures { result ≡ role_limit self }
     {
         match self {
@@ -88,7 +88,7 @@ impl FileRole {
     }
 
     /// The most bytes that such a file may have.
-    pub fn most_bytes(self) -> u64
+    pub(crate) fn most_bytes(self) -> u64
         ensures { result ≡ most_bytes self }
     {
         match self {
@@ -98,7 +98,7 @@ impl FileRole {
     }
 
     /// The line that tells that such a file could not be read: the number of the fetch.
-    pub fn read_line(self) -> &'static str
+    pub(crate) fn read_line(self) -> &'static str
         ensures { result.now ≡ read_line self }
     {
         match self {
@@ -112,7 +112,7 @@ impl UnbuiltPart {
     ghost use Rattle.dp_cli.specs.Refusal.{unbuilt_line};
 
     /// The line that tells that this part is not built yet.
-    pub fn line(self) -> &'static str
+    pub(crate) fn line(self) -> &'static str
         ensures { result.now ≡ unbuilt_line self }
     {
         match self {

@@ -1,4 +1,4 @@
-//! The model, its names, and the limits within which the program works.
+//! The limits on a model, and on the work that is done with it.
 #![tactic(auto)]
 
 mod limit;
