@@ -68,9 +68,18 @@ fn read_up_to<F: Read>(alloc: Global, file: &mut F, limit: u64) -> Result<Vec<u8
 }
 
 impl<'a, R: Files> Shelf for HostShelf<'a, R> {
+    ghost use Rattle.std.specs.Prelude.{ℕ, ◌<◌, ◌+◌, ◌^◌, Err};
+    ghost use Rattle.dp_io.specs.declared.shelf.FetchFault.TheVariants as faults;
+    ghost use Rattle.dp_io.specs.Shelf.{Fetches};
+
     ghost view = { λ s. record { log = s.log; told = None } };
 
-    fn fetch(&mut self, alloc: Global, name: &str, most: u64) -> Result<Vec<u8>, FetchFault> {
+    fn fetch(&mut self, alloc: Global, name: &str, most: u64) -> Result<Vec<u8>, FetchFault>
+        requires { most < 2 ^ 63 }
+        ensures fetches { Fetches (record { log = self.old.log; told = None })
+            (record { log = self.new.log; told = None }) name.now most result }
+        ensures long { (k : ℕ) → result ≡ Err (faults.TooLong k) → k ≡ most + 1 }
+    {
         match read_file(alloc, self.files, name, most + 1) {
             Ok(bytes) => {
                 let count = bytes.len() as u64;
