@@ -1,5 +1,5 @@
 // A shelf over real files.
-ghost use Rattle.std.specs.Prelude.{◌≡◌, ◌≤◌, [], None, IfOk, vec_len};
+ghost use Rattle.std.specs.Prelude.{◌≡◌, ◌≤◌, [], None, IfOk, IfSome, take, vec_len};
 
 use dp_io::{Ending, FetchFault, Log, Shelf};
 use std::alloc::Global;
@@ -32,8 +32,8 @@ impl<'a, R: Files> HostShelf<'a, R> {
 // How many bytes are asked of the system at a time.
 const PIECE: usize = 1 << 16;
 
-// The file's first bytes, as many as it has up to the limit.
-fn read_up_to<R: Files>(
+// The first bytes of the file, as many as it has up to the limit.
+fn read_file<R: Files>(
     alloc: Global,
     files: &R,
     path: &str,
@@ -41,15 +41,25 @@ fn read_up_to<R: Files>(
 ) -> Result<Vec<u8>, FetchFault>
     ensures { IfOk result (λ bytes. vec_len bytes ≤ limit) }
 {
+    match File::open(files, path) {
+        Ok(mut file) => read_up_to(alloc, &mut file, limit),
+        Err(_) => Err(FetchFault::Failed),
+    }
+}
+
+// The first bytes that the reader gives, as many as it has up to the limit.
+fn read_up_to<F: Read>(alloc: Global, file: &mut F, limit: u64) -> Result<Vec<u8>, FetchFault>
+    ensures most { IfOk result (λ bytes. vec_len bytes ≤ limit) }
+
+    // All that a reader has, where it is known what it has and that is within the limit.
+    ensures given { IfOk result (λ bytes. IfSome (F.remaining file.old) (λ left. bytes.items ≡ take limit left)) }
+{
     let mut bytes = Vec::new(alloc);
-    let Ok(mut file) = File::open(files, path) else {
-        return Err(FetchFault::Failed);
-    };
     let mut piece = [0u8; PIECE];
     for _ in 0..limit {
         let room = (limit as usize - bytes.len()).min(PIECE);
         match file.read(&mut piece[..room]) {
-            Ok(0) => break,
+            Ok(0) => return Ok(bytes),
             Ok(count) => bytes.extend_from_slice(&piece[..count])?,
             Err(_) => return Err(FetchFault::Failed),
         }
@@ -58,10 +68,19 @@ fn read_up_to<R: Files>(
 }
 
 impl<'a, R: Files> Shelf for HostShelf<'a, R> {
+    ghost use Rattle.std.specs.Prelude.{ℕ, ◌<◌, ◌+◌, ◌^◌, Err};
+    ghost use Rattle.dp_io.specs.declared.shelf.FetchFault.TheVariants as faults;
+    ghost use Rattle.dp_io.specs.Shelf.{Fetches};
+
     ghost view = { λ s. record { log = s.log; told = None } };
 
-    fn fetch(&mut self, alloc: Global, name: &str, most: u64) -> Result<Vec<u8>, FetchFault> {
-        match read_up_to(alloc, self.files, name, most + 1) {
+    fn fetch(&mut self, alloc: Global, name: &str, most: u64) -> Result<Vec<u8>, FetchFault>
+        requires { most < 2 ^ 63 }
+        ensures fetches { Fetches (record { log = self.old.log; told = None })
+            (record { log = self.new.log; told = None }) name.now most result }
+        ensures long { (k : ℕ) → result ≡ Err (faults.TooLong k) → k ≡ most + 1 }
+    {
+        match read_file(alloc, self.files, name, most + 1) {
             Ok(bytes) => {
                 let count = bytes.len() as u64;
                 if count > most {

@@ -1,5 +1,7 @@
 // A sink over a writer.
-ghost use Rattle.std.specs.Prelude.{◌≡◌, ◌≤◌, ◌*◌, ◌^◌, None};
+ghost use Rattle.std.specs.Prelude.{◌≡◌, ◌≤◌, ◌*◌, ◌^◌, List, ℕ, OnOk, OnErr};
+ghost use Rattle.std.specs.Io.KnownBytes.{Appends};
+ghost use Rattle.decplan.specs.Sink.{untold, WritesAllBut};
 
 use dp_io::{Sink, SinkFailed};
 use std::io::Write;
@@ -32,7 +34,10 @@ impl<W: Write> HostSink<W> {
 }
 
 // Writes all the bytes, and sends them on.
-fn write_whole<W: Write>(out: &mut W, bytes: &[u8]) -> Result<(), SinkFailed> {
+fn write_whole<W: Write>(out: &mut W, bytes: &[u8]) -> Result<(), SinkFailed>
+    ensures ok { OnOk result (Appends (W.contents out.old) (W.contents out.new) bytes.now) }
+    ensures err { OnErr result ((rest : List ℕ) × WritesAllBut (W.contents out.old) (W.contents out.new) bytes.now rest) }
+{
     let mut rest = bytes;
     while !rest.is_empty() {
         match out.write(rest) {
@@ -47,9 +52,20 @@ fn write_whole<W: Write>(out: &mut W, bytes: &[u8]) -> Result<(), SinkFailed> {
 }
 
 impl<W: Write> Sink for HostSink<W> {
-    ghost view = { λ s. record { puts = s.puts; offered = s.offered; faults = s.faults; told = None } };
+    ghost use Rattle.std.specs.Prelude.{◌<◌};
+    ghost use Rattle.dp_io.specs.Sink.{Puts};
 
-    fn put(&mut self, bytes: &[u8]) -> Result<(), SinkFailed> {
+    ghost view = { λ s. untold s.puts s.offered s.faults };
+
+    fn put(&mut self, bytes: &[u8]) -> Result<(), SinkFailed>
+        requires { self.old.puts < 2 ^ 63 }
+        ensures puts { Puts (untold self.old.puts self.old.offered self.old.faults)
+            (untold self.new.puts self.new.offered self.new.faults) bytes.now result }
+
+        // What is written, where it is known what the writer holds.
+        ensures ok { OnOk result (Appends (W.contents self.old.out) (W.contents self.new.out) bytes.now) }
+        ensures err { OnErr result ((rest : List ℕ) × WritesAllBut (W.contents self.old.out) (W.contents self.new.out) bytes.now rest) }
+    {
         self.puts += 1;
         self.offered += bytes.len() as u128;
         let written = write_whole(&mut self.out, bytes);
@@ -59,3 +75,6 @@ impl<W: Write> Sink for HostSink<W> {
         written
     }
 }
+
+#[cfg(test)]
+mod tests;
