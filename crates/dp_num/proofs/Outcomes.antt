@@ -1,7 +1,7 @@
 -- What is read from a text, in terms of the number that it writes.
-use Rattle.std.proofs.Common.{◌≡◌, ◌≢◌, ℕ, zero, suc, ◌+◌, ◌-◌, ◌*◌, ◌/◌, ◌%◌, ◌^◌, ◌<◌, ◌≤◌, ◌⊎◌, inl, inr, Bool, true, false, eqb, leb, ltb, List, Result, Ok, Err, ℤ, pos, negsuc, neg_ℤ, ◌*ℤ◌, refl, sym, ap, subst, ◌∙◌, arith}
+use Rattle.std.proofs.Common.{◌≡◌, ◌≢◌, ℕ, zero, suc, ◌+◌, ◌-◌, ◌*◌, ◌/◌, ◌%◌, ◌^◌, ◌<◌, ◌≤◌, inl, inr, Bool, true, false, eqb, List, Result, Ok, Err, ℤ, pos, ◌*ℤ◌, refl, sym, ap, subst, ◌∙◌, arith}
 use Rattle.std.specs.Prelude.{unsigned_abs, IfOk, ◌↔◌, IsTrue}
-use Rattle.std.proofs.lemmas.Bool.{leb-true, ltb-true, eqb-true, le-leb, lt-leb, lt-ltb, le-ltb, cases_lt, cases_eq, ne_eqb}
+use Rattle.std.proofs.lemmas.Bool.{le-leb, lt-leb, lt-ltb, le-ltb, cases_lt, cases_eq, ne_eqb}
 use Rattle.std.proofs.lemmas.Int.{unsigned_abs-mul}
 use Rattle.std.proofs.lemmas.Nat.{pow-add}
 use Rattle.std.proofs.Math.Nat.{mul-le-mul_right, eq_of_mul-eq-mul_right}
@@ -9,8 +9,8 @@ use Rattle.dp_num.specs.declared.decimal.Decimal.{Decimal}
 use Rattle.dp_num.specs.declared.decimal.NumFault.{NumFault}
 use Rattle.dp_num.specs.declared.decimal.NumFault.TheVariants.{Shape, Large, Digits}
 use Rattle.dp_num.specs.DecimalShape.{first, unsigned, is_magnitude, is_decimal}
-use Rattle.dp_num.specs.Decimals.{significand, raised, lowered, signed, Writes, WritesShortest, IsLarge, IsSmall, HasTooManyDigits, shortest, judged, magnitude_where, decimal_of, IsRead}
-use Rattle.dp_num.proofs.SignificandLaws.{some_tens, times_ten, ten_more}
+use Rattle.dp_num.specs.Decimals.{significand, raised, lowered, signed, Writes, WritesShortest, IsLarge, IsSmall, HasTooManyDigits, shortest, judged, decimal_of, IsRead}
+use Rattle.dp_num.proofs.SignificandLaws.{some_tens, times_ten}
 use Rattle.dp_num.proofs.Shortest.{of, unsigned_abs-signed}
 
 -- ---- a decimal with the least digits

@@ -14,3 +14,6 @@ pub use dp_spec::{Scales, Span};
 pub use memory::Memory;
 pub use rounding::{mul_down, mul_up};
 pub use shape::is_decimal;
+
+#[cfg(test)]
+mod tests;
