@@ -9,11 +9,11 @@ use Rattle.dp_num.specs.declared.significand.Significand.{Significand}
 use Rattle.dp_num.specs.Significands.{IsSeen}
 
 -- the parts of a test
-left : (a b : Bool) → (a && b) ≡ true → a ≡ true
+pub left : (a b : Bool) → (a && b) ≡ true → a ≡ true
 left true b h = refl
 left false b h = h
 
-right : (a b : Bool) → (a && b) ≡ true → b ≡ true
+pub right : (a b : Bool) → (a && b) ≡ true → b ≡ true
 right true b h = h
 right false b h = absurd cc
 

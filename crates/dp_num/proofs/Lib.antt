@@ -1,6 +1,7 @@
 pub mod DigitRuns
 pub mod DivisorLaws
 pub mod Exponents
+pub mod Grammar
 pub mod Magnitudes
 pub mod NumberRows
 pub mod Outcomes

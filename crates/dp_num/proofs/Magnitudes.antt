@@ -28,7 +28,7 @@ module _ (number : List ℕ) where
 
   -- with a point
   module _ (hit : eqb (first rest) 46 ≡ true) where
-    pointed_shape : ltb 0 (digit_count number + digit_count (drop 1 rest)) ≡ true → is_exponent (after_digits (drop 1 rest)) ≡ true → is_magnitude number ≡ true
+    pub pointed_shape : ltb 0 (digit_count number + digit_count (drop 1 rest)) ≡ true → is_exponent (after_digits (drop 1 rest)) ≡ true → is_magnitude number ≡ true
     pointed_shape some exp = rw (hit, some, exp) refl
 
     pointed_digits : significand number ≡ digits_value 10 (take_while is_ascii_digit number ++ take_while is_ascii_digit (drop 1 rest))
@@ -45,7 +45,7 @@ module _ (number : List ℕ) where
 
   -- without one
   module _ (miss : eqb (first rest) 46 ≡ false) where
-    plain_shape : ltb 0 (digit_count number) ≡ true → is_exponent rest ≡ true → is_magnitude number ≡ true
+    pub plain_shape : ltb 0 (digit_count number) ≡ true → is_exponent rest ≡ true → is_magnitude number ≡ true
     plain_shape some exp = rw (miss, some, exp) refl
 
     plain_digits : significand number ≡ digits_value 10 (take_while is_ascii_digit number)

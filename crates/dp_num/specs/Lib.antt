@@ -1,4 +1,5 @@
 pub mod Bytes
+pub mod DecimalGrammar
 pub mod DecimalShape
 pub mod Decimals
 pub mod Divisors
