@@ -24,7 +24,7 @@ pub data Byte (b : ℕ) : Type 0 where
   comment : b ≡ hash → Byte b
   colon_mark : b ≡ colon → Byte b
   star_mark : b ≡ star → Byte b
-  bad : class_of b ≡ Bad → is_in_alphabet b ≡ false → Byte b
+  unknown : class_of b ≡ Bad → is_in_alphabet b ≡ false → Byte b
 
 pub byte_of : (b : ℕ) → Byte b
 byte_of b = elim (cases_Bool (is_name_byte b)) [
@@ -39,7 +39,7 @@ byte_of b = elim (cases_Bool (is_name_byte b)) [
           | inl is ↦ colon_mark (eqb-true b colon is)
           | inr not_colon ↦ elim (cases_Bool (b == star)) [
             | inl is ↦ star_mark (eqb-true b star is)
-            | inr not_star ↦ bad (rw (not_named, not_blank, not_line_feed, not_hash, not_colon, not_star) refl) (rw (not_named, not_blank, not_line_feed, not_hash, not_colon, not_star) refl)
+            | inr not_star ↦ unknown (rw (not_named, not_blank, not_line_feed, not_hash, not_colon, not_star) refl) (rw (not_named, not_blank, not_line_feed, not_hash, not_colon, not_star) refl)
           ]
         ]
       ]

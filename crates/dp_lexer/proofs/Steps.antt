@@ -16,7 +16,7 @@ use Rattle.dp_lexer.specs.Bytes.{line_feed, hash, colon, star, is_blank, is_line
 use Rattle.dp_lexer.specs.Comments.{is_in_comment, is_bad}
 use Rattle.dp_lexer.specs.Tokens.{class_of, more_of, kind_of, with_token, tokens_from}
 use Rattle.dp_lexer.specs.TokenLaws.{IsOfKind, IsLongest}
-use Rattle.dp_lexer.proofs.Classes.{Byte, run, blank, line_end, comment, colon_mark, star_mark, bad, byte_of, differs}
+use Rattle.dp_lexer.proofs.Classes.{Byte, run, blank, line_end, comment, colon_mark, star_mark, unknown, byte_of, differs}
 use Rattle.dp_lexer.proofs.CommentSteps.{IsOutside, outside_feed}
 use Rattle.dp_lexer.proofs.Piece.{cut, stops, len, fits, moves}
 use Rattle.dp_lexer.proofs.Stretches.{IsStretch, IsPlain, named_plain, blank_plain, plain_stretch, comment_stretch}
@@ -165,5 +165,5 @@ module _ (text : List ℕ) (at : ℕ) (inside : at < length text) (outside : IsO
     | comment is ↦ of_comment is
     | colon_mark is ↦ mark colon (Mark Colon) Colon is refl (λ e. cc) (λ _. refl) refl (record { no_hash = refl; blank = refl; allowed = refl }) refl tt
     | star_mark is ↦ mark star (Mark Star) Star is refl (λ e. cc) (λ _. refl) refl (record { no_hash = refl; blank = refl; allowed = refl }) refl tt
-    | bad class_is is ↦ halts (stops text at inside class_is) (ap (λ v. not (v || is_in_alphabet byte)) (outside inside ∙ differs (λ x. not (is_in_alphabet x)) hash byte refl (ap not is)) ∙ ap not is)
+    | unknown class_is is ↦ halts (stops text at inside class_is) (ap (λ v. not (v || is_in_alphabet byte)) (outside inside ∙ differs (λ x. not (is_in_alphabet x)) hash byte refl (ap not is)) ∙ ap not is)
   ]

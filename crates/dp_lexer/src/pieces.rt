@@ -23,12 +23,12 @@ pub(crate) fn class_of(byte: u8) -> Class
     ensures { result ≡ tokens.class_of byte }
 {
     match byte {
-        b'a'..=b'z' | b'A'..=b'Z' | b'0'..=b'9' | b'_' | b'.' | b'+' | b'-' => Class::Run,
         b' ' | b'\t' | b'\r' => Class::Blank,
         b'\n' => Class::LineFeed,
         b'#' => Class::Comment,
         b':' => Class::Mark(Kind::Colon),
         b'*' => Class::Mark(Kind::Star),
+        _ if is_name_byte(byte) => Class::Run,
         _ => Class::Bad,
     }
 }
@@ -36,7 +36,7 @@ pub(crate) fn class_of(byte: u8) -> Class
 fn is_name_byte(byte: u8) -> bool
     ensures { result ≡ num.is_name_byte byte }
 {
-    byte.is_ascii_alphanumeric() || byte == b'_' || byte == b'.' || byte == b'+' || byte == b'-'
+    matches!(byte, b'a'..=b'z' | b'A'..=b'Z' | b'0'..=b'9' | b'_' | b'.' | b'+' | b'-')
 }
 
 fn run_len(rest: &[u8]) -> usize
