@@ -74,8 +74,8 @@ module _ (text : List ℕ) (at : ℕ) (inside : at < length text) (outside : IsO
       let one : len text at inside class class_is ≡ 1 = ap (λ n. suc n) (none (drop (at + 1) text)) in
       let bytes : take 1 (drop at text) ≡ byte ∷ [] = ap (take 1) (cut text at inside) in
       let moved : tokens_from text 0 at (drop at text) ≡ with_token text at 1 kind (tokens_from text 0 (at + 1) (drop (at + 1) text))
-        = moves text at inside class class_is good ∙ ap (λ n. with_token text at n (kind_of class (take n (drop at text))) (tokens_from text 0 (at + n) (drop (at + n) text))) one
-        ∙ ap (λ k. with_token text at 1 k (tokens_from text 0 (at + 1) (drop (at + 1) text))) (ap (kind_of class) bytes ∙ kind_is) in
+      = moves text at inside class class_is good ∙ ap (λ n. with_token text at n (kind_of class (take n (drop at text))) (tokens_from text 0 (at + n) (drop (at + n) text))) one
+      ∙ ap (λ k. with_token text at 1 k (tokens_from text 0 (at + 1) (drop (at + 1) text))) (ap (kind_of class) bytes ∙ kind_is) in
       goes 1 kind (record {
         some = omega arith;
         within = omega arith;
@@ -112,12 +112,13 @@ module _ (text : List ℕ) (at : ℕ) (inside : at < length text) (outside : IsO
       each k lt =
           let below : k < prefix_len is_name_byte (drop at text) = omega (arith, run_here named) in
           named_plain (get_or text (at + k) 0) (subst (λ b. is_name_byte b ≡ true) (get_or-drop at text k 0) (prefix_len_passes is_name_byte (drop at text) k 0 below))
+
       ends : is_name_byte (get_or text (at + suc (prefix_len is_name_byte (drop (at + 1) text))) 0) ≡ false
       ends = elim (cases_lt (at + suc (prefix_len is_name_byte (drop (at + 1) text))) (length text)) [
         | inl more ↦ (
             let below : prefix_len is_name_byte (drop at text) < length (drop at text) = omega (arith, run_here named, length-drop at text) in
             subst (λ k. is_name_byte (get_or text (at + k) 0) ≡ false) (run_here named) (subst (λ b. is_name_byte b ≡ false) (get_or-drop at text (prefix_len is_name_byte (drop at text)) 0) (prefix_len_stops is_name_byte (drop at text) 0 below))
-          )
+            )
         | inr end ↦ ap is_name_byte (get_or_past text (at + suc (prefix_len is_name_byte (drop (at + 1) text))) 0 end)
       ]
 
@@ -137,13 +138,16 @@ module _ (text : List ℕ) (at : ℕ) (inside : at < length text) (outside : IsO
       not_true : (v : Bool) → not v ≡ true → v ≡ false
       not_true true h = sym h
       not_true false h = refl
+
       not_false : (v : Bool) → not v ≡ false → v ≡ true
       not_false true h = refl
       not_false false h = sym h
+
       each : (k : ℕ) → k < prefix_len is_no_line_feed (drop (at + 1) text) → is_line_feed (get_or text (at + suc k) 0) ≡ false
       each k lt =
           let same : at + 1 + k ≡ at + suc k = omega arith in
           not_true _ (subst (λ b. is_no_line_feed b ≡ true) (get_or-drop (at + 1) text k 0 ∙ ap (λ i. get_or text i 0) same) (prefix_len_passes is_no_line_feed (drop (at + 1) text) k 0 lt))
+
       after : at + suc (prefix_len is_no_line_feed (drop (at + 1) text)) < length text → is_line_feed (get_or text (at + suc (prefix_len is_no_line_feed (drop (at + 1) text))) 0) ≡ true
       after more =
           let n : ℕ = prefix_len is_no_line_feed (drop (at + 1) text) in

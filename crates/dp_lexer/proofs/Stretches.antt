@@ -28,8 +28,10 @@ filter-range p v a (suc n) each = rw (here, filter-range p v (a + 1) n later) (b
   where
     here : p a ≡ v
     here = rw add-zero at (each 0 (omega arith))
+
     later : (k : ℕ) → k < n → p (a + 1 + k) ≡ v
     later k lt = let next : a + suc k ≡ a + 1 + k = omega arith in rw next at (each (suc k) (omega arith))
+
     both : (w : Bool) → cond w (a ∷ cond w (range_with_len (a + 1) n) []) (cond w (range_with_len (a + 1) n) []) ≡ cond w (a ∷ range_with_len (a + 1) n) []
     both true = refl
     both false = refl
@@ -40,6 +42,7 @@ find-range p a (suc n) each = rw here (find-range p (a + 1) n later)
   where
     here : p a ≡ false
     here = rw add-zero at (each 0 (omega arith))
+
     later : (k : ℕ) → k < n → p (a + 1 + k) ≡ false
     later k lt = let next : a + suc k ≡ a + 1 + k = omega arith in rw next at (each (suc k) (omega arith))
 

@@ -58,17 +58,19 @@ module _ (text : List ℕ) where
 
   takes : (at n : ℕ) (kind : Kind) (token : Token) (others : List Token) → Advances text at n (Some kind) → token ≡ record { start = at; end = at + n; line = line_at text at; kind = kind } → AreTokensFrom (at + n) others → AreTokensFrom at (token ∷ others)
   takes at n kind token others step is rest = rw is (record {
-        each = All-cons (IsTokenOf text) made others shown rest.each;
-        later = All-cons (λ t. at ≤ t.start) made others (omega arith) (later_from at n others rest.later);
-        in_order = AllPairs-cons (λ a b. a.end ≤ b.start) made others rest.later rest.in_order;
-        together = ap (λ l. l ++ flat_map (slice_of text) others) slice ∙ ap (λ l. map (slice_index text) (range_with_len at n) ++ l) rest.together ∙ sym (map-append (slice_index text) (range_with_len at n) (kept_from text (at + n))) ∙ ap (map (slice_index text)) (sym kept);
-        in_place = ap (λ m. range_with_len at m ++ flat_map offsets_of others) size ∙ ap (λ l. range_with_len at n ++ l) rest.in_place ∙ sym kept;
-      })
+    each = All-cons (IsTokenOf text) made others shown rest.each;
+    later = All-cons (λ t. at ≤ t.start) made others (omega arith) (later_from at n others rest.later);
+    in_order = AllPairs-cons (λ a b. a.end ≤ b.start) made others rest.later rest.in_order;
+    together = ap (λ l. l ++ flat_map (slice_of text) others) slice ∙ ap (λ l. map (slice_index text) (range_with_len at n) ++ l) rest.together ∙ sym (map-append (slice_index text) (range_with_len at n) (kept_from text (at + n))) ∙ ap (map (slice_index text)) (sym kept);
+    in_place = ap (λ m. range_with_len at m ++ flat_map offsets_of others) size ∙ ap (λ l. range_with_len at n ++ l) rest.in_place ∙ sym kept;
+  })
     where
       made : Token
       made = record { start = at; end = at + n; line = line_at text at; kind = kind }
+
       size : at + n - at ≡ n
       size = omega arith
+
       shown : IsTokenOf text made
       shown = record {
         some = omega (arith, step.some);
@@ -77,8 +79,10 @@ module _ (text : List ℕ) where
         kind = subst (λ m. IsOfKind kind (take m (drop at text))) (sym size) step.shown.kind_is;
         longest = step.shown.longest;
       }
+
       slice : slice_of text made ≡ map (slice_index text) (range_with_len at n)
       slice = ap (λ m. take m (drop at text)) size ∙ sym (map-range text at n step.within)
+
       kept : kept_from text at ≡ range_with_len at n ++ kept_from text (at + n)
       kept = kept-stretch text at n true step.within step.stretch
 
@@ -125,7 +129,7 @@ module _ (text : List ℕ) where
       | goes n kind step ↦ (
           ap result_err step.moves_on ∙ err-with_token at n kind (tokens_from text 0 (at + n) (drop (at + n) text))
           ∙ bad_from_here fuel (at + n) (omega (arith, step.some)) step.stretch.after ∙ sym (bad-stretch text at n (is_some kind) step.within step.stretch)
-        )
+          )
     ]
   ]
 

@@ -5,11 +5,9 @@ ghost use Rattle.dp_lexer.specs.TokenLaws.{TokensAreOfText, FirstBadByteIsNamed}
 /// comments.
 pub fn tokens_are_of_text()
     ensures { TokensAreOfText }
-{
-}
+{}
 
 /// A text has no tokens exactly where it has a bad byte, and the first of these is named.
 pub fn first_bad_byte_is_named()
     ensures { FirstBadByteIsNamed }
-{
-}
+{}

@@ -8,8 +8,8 @@ ghost use Rattle.dp_lexer.specs.declared.LexFault.TheVariants.{Memory};
 mod laws;
 mod pieces;
 
-use crate::pieces::{Class, class_of, column_at, kind_of, more_of};
 pub use crate::laws::{first_bad_byte_is_named, tokens_are_of_text};
+use crate::pieces::{Class, class_of, column_at, kind_of, more_of};
 use std::alloc::{AllocFailed, Global};
 
 /// The kinds of tokens.
@@ -88,4 +88,87 @@ pub fn lex(alloc: Global, bytes: &[u8]) -> Result<Vec<Token>, LexFault>
         at = end;
     }
     Ok(tokens)
+}
+
+#[cfg(test)]
+mod tests {
+    use super::*;
+    use std::process::Abort;
+
+    fn token(start: u32, end: u32, line: u32, kind: Kind) -> Token {
+        Token {
+            start,
+            end,
+            line,
+            kind,
+        }
+    }
+
+    fn lexed(rt: &impl Abort, alloc: Global, text: &[u8]) -> Result<Vec<Token>, LexFault> {
+        assert!(rt; text.len() <= 100);
+        lex(alloc, text)
+    }
+
+    #[test]
+    fn texts_with_tokens(rt: HostRuntime) {
+        let rows: [(&[u8], &[Token]); 5] = [
+            (b"", &[]),
+            (
+                b"T: a # x\n",
+                &[
+                    token(0, 1, 1, Kind::Word),
+                    token(1, 2, 1, Kind::Colon),
+                    token(3, 4, 1, Kind::Word),
+                    token(8, 9, 1, Kind::LineEnd),
+                ],
+            ),
+            (
+                b"R: * : -12.5e+2\r\n+",
+                &[
+                    token(0, 1, 1, Kind::Word),
+                    token(1, 2, 1, Kind::Colon),
+                    token(3, 4, 1, Kind::Star),
+                    token(5, 6, 1, Kind::Colon),
+                    token(7, 15, 1, Kind::Number),
+                    token(16, 17, 1, Kind::LineEnd),
+                    token(17, 18, 2, Kind::Word),
+                ],
+            ),
+            (b"#a\rb,\n", &[token(5, 6, 1, Kind::LineEnd)]),
+            (
+                b"a.b_c-1:1.:.",
+                &[
+                    token(0, 7, 1, Kind::Word),
+                    token(7, 8, 1, Kind::Colon),
+                    token(8, 10, 1, Kind::Number),
+                    token(10, 11, 1, Kind::Colon),
+                    token(11, 12, 1, Kind::Word),
+                ],
+            ),
+        ];
+        for (text, tokens) in rows {
+            match lexed(&rt, rt.alloc(), text) {
+                Ok(found) => assert_eq!(rt; found.as_slice(), tokens),
+                Err(fault) => assert_eq!(rt; Some(fault), None),
+            }
+        }
+    }
+
+    #[test]
+    fn texts_with_a_bad_byte(rt: HostRuntime) {
+        let rows: [(&[u8], u32, u32); 6] = [
+            (b"a,b", 1, 2),
+            (b"# x , y\n ;", 2, 2),
+            (b"a\r\n\n b\r,", 3, 4),
+            (b"#,\r,\n\n\n\xff", 4, 1),
+            (b"1.5 \0 ,", 1, 5),
+            (b"a: {b}\n", 1, 4),
+        ];
+        for (text, line, column) in rows {
+            match lexed(&rt, rt.alloc(), text) {
+                Ok(found) => assert_eq!(rt; found.len(), 1000),
+                Err(fault) => assert_eq!(rt; fault, LexFault::BadByte { line, column }),
+            }
+        }
+    }
 }
