@@ -1,12 +1,10 @@
 -- What begins at a byte, by what the byte is.
-use Rattle.std.proofs.Common.{◌≡◌, ℕ, Bool, true, false, cond, not, refl, sym, ap, subst, ◌∙◌, inl, inr}
+use Rattle.std.proofs.Common.{◌≡◌, ℕ, Bool, true, false, refl, sym, subst, ◌∙◌, inl, inr}
 use Rattle.std.specs.Prelude.{◌==◌}
 use Rattle.std.proofs.lemmas.Bool.{cases_Bool, eqb-true}
 use Rattle.dp_num.specs.Bytes.{is_name_byte}
-use Rattle.dp_lexer.specs.declared.Kind.TheVariants.{Colon, Star}
-use Rattle.dp_lexer.specs.declared.pieces.Class.{Class}
-use Rattle.dp_lexer.specs.declared.pieces.Class.TheVariants.{Blank, Comment, LineFeed, Run, Mark, Bad}
-use Rattle.dp_lexer.specs.Bytes.{space, tab, carriage_return, line_feed, hash, colon, star, is_blank, is_line_feed, is_in_alphabet}
+use Rattle.dp_lexer.specs.declared.pieces.Class.TheVariants.{Blank, Run, Bad}
+use Rattle.dp_lexer.specs.Bytes.{space, tab, carriage_return, line_feed, hash, colon, star, is_blank, is_in_alphabet}
 use Rattle.dp_lexer.specs.Tokens.{class_of}
 
 -- a byte that passes a test which another fails is not that other

@@ -1,6 +1,6 @@
 -- Where the loop of `lex` stands, and what one iteration keeps of it.
-use Rattle.std.proofs.Common.{◌≡◌, ℕ, zero, suc, ◌+◌, ◌-◌, ◌≤◌, ◌<◌, Bool, true, false, cond, not, List, [], ◌∷◌, ◌++◌, length, get_or, take, drop, Option, Some, None, Result, Ok, Err, refl, sym, ap, subst, ◌∙◌, append_assoc, arith, add-zero, zero-add, one-add, inl, inr}
-use Rattle.std.specs.Prelude.{count_by, ◌==◌}
+use Rattle.std.proofs.Common.{◌≡◌, ℕ, suc, ◌+◌, ◌-◌, ◌≤◌, ◌<◌, Bool, true, false, cond, not, List, [], ◌∷◌, ◌++◌, length, get_or, take, drop, Option, Some, None, Result, Ok, Err, refl, sym, ap, ◌∙◌, append_assoc, arith, add-zero, zero-add, one-add, inl, inr}
+use Rattle.std.specs.Prelude.{count_by}
 use Rattle.std.specs.List.{prefix_len}
 use Rattle.std.proofs.Math.Seq.{take-add}
 use Rattle.std.proofs.lemmas.Bool.{cases_Bool, eqb-true}
@@ -13,7 +13,7 @@ use Rattle.dp_lexer.specs.declared.pieces.Class.{Class}
 use Rattle.dp_lexer.specs.declared.pieces.Class.TheVariants.{Blank, Comment, LineFeed, Run, Mark, Bad}
 use Rattle.dp_lexer.specs.Bytes.{line_feed, is_line_feed, is_no_line_feed, line_at}
 use Rattle.dp_lexer.specs.Tokens.{class_of, more_of, kind_of, with_token, tokens_from, tokens_of}
-use Rattle.dp_lexer.proofs.Classes.{Byte, run, blank, line_end, comment, colon_mark, star_mark, unknown, byte_of, differs}
+use Rattle.dp_lexer.proofs.Classes.{run, blank, line_end, comment, colon_mark, star_mark, unknown, byte_of, differs}
 use Rattle.dp_lexer.proofs.Piece.{cut, stops, fits, moves}
 
 -- these tokens first

@@ -1,10 +1,10 @@
 -- One step through a text: a bad byte, or a piece with what is known of its bytes.
-use Rattle.std.proofs.Common.{◌≡◌, ℕ, zero, suc, ◌+◌, ◌-◌, ◌≤◌, ◌<◌, Bool, true, false, cond, not, ◌&&◌, ◌||◌, List, [], ◌∷◌, length, get_or, take, drop, Option, Some, None, Result, Ok, Err, refl, sym, ap, subst, ◌∙◌, inl, inr, arith, add-zero}
-use Rattle.std.specs.Prelude.{◌==◌, is_some, IfSome, nat_lt}
+use Rattle.std.proofs.Common.{◌≡◌, ℕ, suc, ◌+◌, ◌≤◌, ◌<◌, Bool, true, false, cond, not, ◌||◌, List, [], ◌∷◌, length, get_or, take, drop, Option, Some, None, Err, refl, sym, ap, subst, ◌∙◌, inl, inr, arith}
+use Rattle.std.specs.Prelude.{is_some, nat_lt}
 use Rattle.std.specs.List.{prefix_len, list_all}
 use Rattle.std.proofs.lemmas.Bool.{cases_lt, lt-ltb}
 use Rattle.std.proofs.lemmas.List.{get_or-drop, get_or_past, length-drop}
-use Rattle.std.proofs.lemmas.List.Sums.{prefix_len_passes, prefix_len_stops, prefix_len-le-length}
+use Rattle.std.proofs.lemmas.List.Sums.{prefix_len_passes, prefix_len_stops}
 use Rattle.dp_num.specs.Bytes.{is_name_byte}
 use Rattle.dp_num.specs.DecimalShape.{is_decimal}
 use Rattle.dp_num.specs.Names.{is_word}
@@ -12,11 +12,11 @@ use Rattle.dp_lexer.specs.declared.Kind.{Kind}
 use Rattle.dp_lexer.specs.declared.Kind.TheVariants.{Word, Number, Colon, Star, LineEnd}
 use Rattle.dp_lexer.specs.declared.pieces.Class.{Class}
 use Rattle.dp_lexer.specs.declared.pieces.Class.TheVariants.{Blank, Comment, LineFeed, Run, Mark, Bad}
-use Rattle.dp_lexer.specs.Bytes.{line_feed, hash, colon, star, is_blank, is_line_feed, is_no_line_feed, is_in_alphabet}
+use Rattle.dp_lexer.specs.Bytes.{line_feed, hash, colon, star, is_line_feed, is_no_line_feed, is_in_alphabet}
 use Rattle.dp_lexer.specs.Comments.{is_in_comment, is_bad}
 use Rattle.dp_lexer.specs.Tokens.{class_of, more_of, kind_of, with_token, tokens_from}
 use Rattle.dp_lexer.specs.TokenLaws.{IsOfKind, IsLongest}
-use Rattle.dp_lexer.proofs.Classes.{Byte, run, blank, line_end, comment, colon_mark, star_mark, unknown, byte_of, differs}
+use Rattle.dp_lexer.proofs.Classes.{run, blank, line_end, comment, colon_mark, star_mark, unknown, byte_of, differs}
 use Rattle.dp_lexer.proofs.CommentSteps.{IsOutside, outside_feed}
 use Rattle.dp_lexer.proofs.Piece.{cut, stops, len, fits, moves}
 use Rattle.dp_lexer.proofs.Stretches.{IsStretch, IsPlain, named_plain, blank_plain, plain_stretch, comment_stretch}

@@ -1,5 +1,5 @@
 -- From one step to the whole text: the laws on tokens.
-use Rattle.std.proofs.Common.{◌≡◌, ℕ, zero, suc, ◌+◌, ◌-◌, ◌≤◌, ◌<◌, Bool, true, false, cond, List, [], ◌∷◌, ◌++◌, length, get_or, take, drop, map, Option, Some, None, Result, Ok, Err, refl, sym, ap, subst, ◌∙◌, inl, inr, arith, add-zero}
+use Rattle.std.proofs.Common.{◌≡◌, ℕ, zero, suc, ◌+◌, ◌-◌, ◌≤◌, ◌<◌, true, false, List, [], ◌∷◌, ◌++◌, length, take, drop, map, Option, Some, None, Result, Ok, Err, refl, sym, ap, subst, ◌∙◌, inl, inr, arith}
 use Rattle.std.specs.Prelude.{filter, find, is_some, All, AllPairs, slice_index}
 use Rattle.std.specs.List.{flat_map, range_with_len}
 use Rattle.std.specs.Result.{result_err}
@@ -12,10 +12,10 @@ use Rattle.dp_lexer.specs.declared.Token.{Token}
 use Rattle.dp_lexer.specs.Bytes.{line_at}
 use Rattle.dp_lexer.specs.Comments.{is_kept, is_bad}
 use Rattle.dp_lexer.specs.Tokens.{with_token, tokens_from, tokens_of}
-use Rattle.dp_lexer.specs.TokenLaws.{slice_of, offsets_of, IsOfKind, IsTokenOf, AreTokensOf, TokensAreOfText, FirstBadByteIsNamed}
+use Rattle.dp_lexer.specs.TokenLaws.{slice_of, offsets_of, IsOfKind, IsTokenOf, TokensAreOfText, FirstBadByteIsNamed}
 use Rattle.dp_lexer.proofs.CommentSteps.{IsOutside, outside_start}
 use Rattle.dp_lexer.proofs.Stretches.{map-range, kept_from, bad_from, kept-stretch, bad-stretch}
-use Rattle.dp_lexer.proofs.Steps.{Advances, Step, halts, goes, step_of}
+use Rattle.dp_lexer.proofs.Steps.{Advances, halts, goes, step_of}
 
 module _ (text : List ℕ) where
   -- the tokens are those of the text from an offset on

@@ -1,5 +1,5 @@
-use Rattle.std.proofs.Common.{◌≡◌, ◌+◌, Some, None, refl, sym, ap, subst, ◌∙◌}
-use Rattle.dp_lexer.proofs.Loop.{IsAt, IsPiece, starts, keeps_token, keeps_none, next_line_feed, next_line_other, is_bad, is_done}
+use Rattle.std.proofs.Common.{refl, sym, ◌∙◌}
+use Rattle.dp_lexer.proofs.Loop.{IsPiece, starts, keeps_token, keeps_none, next_line_feed, next_line_other, is_bad, is_done}
 use Rattle.dp_lexer.proofs.lex.Goals as goal
 use Rattle.dp_lexer.proofs.lex.Goals.{After-kind_of, in-Some+in_ok-push, in_default-kind_of}
 
