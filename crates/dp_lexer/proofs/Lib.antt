@@ -1,6 +1,7 @@
 pub mod Classes
 pub mod CommentSteps
 pub mod Loop
+pub mod OnlyTokens
 pub mod Piece
 pub mod Rows
 pub mod Steps

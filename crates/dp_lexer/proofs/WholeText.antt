@@ -10,10 +10,11 @@ use Rattle.std.proofs.lemmas.List.Kept.{AllPairs-cons}
 use Rattle.dp_lexer.specs.declared.Kind.{Kind}
 use Rattle.dp_lexer.specs.declared.Token.{Token}
 use Rattle.dp_lexer.specs.Bytes.{line_at}
-use Rattle.dp_lexer.specs.Comments.{is_kept, is_bad}
+use Rattle.dp_lexer.specs.Comments.{kept_offsets, is_kept, is_bad}
 use Rattle.dp_lexer.specs.Tokens.{with_token, tokens_from, tokens_of}
 use Rattle.dp_lexer.specs.TokenLaws.{slice_of, offsets_of, IsOfKind, IsTokenOf, TokensAreOfText, FirstBadByteIsNamed}
 use Rattle.dp_lexer.proofs.CommentSteps.{IsOutside, outside_start}
+use Rattle.dp_lexer.proofs.OnlyTokens.{only_from}
 use Rattle.dp_lexer.proofs.Stretches.{map-range, kept_from, bad_from, kept-stretch, bad-stretch}
 use Rattle.dp_lexer.proofs.Steps.{Advances, halts, goes, step_of}
 
@@ -135,15 +136,15 @@ module _ (text : List ℕ) where
 
 pub tokens_are_of_text : TokensAreOfText
 unfolding tokens_of
-tokens_are_of_text text tokens is =
-    let all = from_here text (length text) 0 tokens (omega arith) (outside_start text) is in
+tokens_are_of_text text tokens =
     let whole : length text - 0 ≡ length text = omega arith in
-    record {
-      each = all.each;
-      in_order = all.in_order;
-      together = all.together ∙ ap (λ m. map (slice_index text) (filter (is_kept text) (range_with_len 0 m))) whole;
-      in_place = all.in_place ∙ ap (λ m. filter (is_kept text) (range_with_len 0 m)) whole;
-    }
+    let kept : kept_from text 0 ≡ kept_offsets text = ap (λ m. filter (is_kept text) (range_with_len 0 m)) whole in
+    let enough : length text ≤ 0 + length text = omega arith in
+    (
+      λ is. let all = from_here text (length text) 0 tokens enough (outside_start text) is in
+      record { each = all.each; in_order = all.in_order; together = all.together ∙ ap (map (slice_index text)) kept; in_place = all.in_place ∙ kept },
+      λ are. only_from text (length text) 0 tokens enough (outside_start text) are.each (are.in_place ∙ sym kept),
+    )
 
 pub first_bad_byte_is_named : FirstBadByteIsNamed
 unfolding tokens_of

@@ -1,5 +1,5 @@
 -- What the tokens of a text are, in words that do not follow the text from byte to byte.
-use Rattle.std.specs.Prelude.{◌≡◌, ℕ, ◌-◌, ◌<◌, ◌≤◌, true, false, List, [], ◌∷◌, length, Ok, All, AllPairs, slice_index}
+use Rattle.std.specs.Prelude.{◌≡◌, ℕ, ◌-◌, ◌<◌, ◌≤◌, ◌↔◌, true, false, List, [], ◌∷◌, length, Ok, All, AllPairs, slice_index}
 use Rattle.std.specs.List.{list_all, flat_map, range_with_len, slice_range}
 use Rattle.std.specs.Result.{result_err}
 use Rattle.dp_num.specs.Bytes.{is_name_byte}
@@ -48,8 +48,9 @@ pub record AreTokensOf (text : List ℕ) (tokens : List Token) : Type 0 where
   pub together : flat_map (slice_of text) tokens ≡ without_blanks_and_comments text
   pub in_place : flat_map offsets_of tokens ≡ kept_offsets text
 
+-- This describes the tokens of a text: they are so, and no other list is.
 abbrev pub TokensAreOfText : Type 0
-TokensAreOfText = (text : List ℕ) (tokens : List Token) → tokens_of text ≡ Ok tokens → AreTokensOf text tokens
+TokensAreOfText = (text : List ℕ) (tokens : List Token) → (tokens_of text ≡ Ok tokens) ↔ AreTokensOf text tokens
 
 -- A text has no tokens exactly where a byte outside comments is not in the alphabet, and the first of these is named.
 abbrev pub FirstBadByteIsNamed : Type 0
