@@ -9,8 +9,13 @@ use Rattle.dp_lexer.specs.declared.pieces.Class.TheVariants.{Blank, Comment, Lin
 use Rattle.dp_lexer.specs.Bytes.{is_no_line_feed}
 use Rattle.dp_lexer.specs.Tokens.{class_of, more_of, kind_of, with_token, unless_bad, tokens_from}
 
+-- the tokens of a text from an offset on
+abbrev pub tokens_at : List ℕ → ℕ → Result (List Token) ℕ
+tokens_at text at = tokens_from text 0 at (drop at text)
+
 -- what belongs to what began before is passed over
-passes : (text : List ℕ) (more at : ℕ) (rest : List ℕ) → tokens_from text more at rest ≡ tokens_from text 0 (at + more) (drop more rest)
+passes : (text : List ℕ) (more at : ℕ) (rest : List ℕ)
+    → tokens_from text more at rest ≡ tokens_from text 0 (at + more) (drop more rest)
 unfolding tokens_from
 passes text zero at rest = rw add-zero refl
 passes text (suc more) at [] = refl
@@ -38,7 +43,7 @@ module _ (text : List ℕ) (at : ℕ) (inside : at < length text) where
   pub cut : drop at text ≡ get_or text at 0 ∷ drop (at + 1) text
   cut = rw add-one (drop-cons text at 0 inside)
 
-  pub stops : class_of (get_or text at 0) ≡ Bad → tokens_from text 0 at (drop at text) ≡ Err at
+  pub stops : class_of (get_or text at 0) ≡ Bad → tokens_at text at ≡ Err at
   unfolding tokens_from
   stops bad = ap (tokens_from text 0 at) cut ∙ rw bad refl
 
@@ -50,7 +55,8 @@ module _ (text : List ℕ) (at : ℕ) (inside : at < length text) where
     pub fits : at + len ≤ length text
     fits = omega (arith, more_of-le-length class (drop (at + 1) text), length-drop (at + 1) text)
 
-    pub moves : (class ≡ Bad → ⊥) → tokens_from text 0 at (drop at text) ≡ with_token text at len (kind_of class (take len (drop at text))) (tokens_from text 0 (at + len) (drop (at + len) text))
+    pub moves : (class ≡ Bad → ⊥)
+        → tokens_at text at ≡ with_token text at len (kind_of class (take len (drop at text))) (tokens_at text (at + len))
     unfolding tokens_from
     moves good =
         let b : ℕ = get_or text at 0 in
@@ -61,4 +67,4 @@ module _ (text : List ℕ) (at : ℕ) (inside : at < length text) where
         ap (tokens_from text 0 at) cut ∙ here
         ∙ ap (λ l. with_token text at len (kind_of class (take len l)) (tokens_from text 0 (at + 1 + more_of class rest) (drop (more_of class rest) rest))) (sym cut)
         ∙ ap (λ l. with_token text at len (kind_of class (take len (drop at text))) (tokens_from text 0 (at + 1 + more_of class rest) l)) (drop-drop (more_of class rest) (at + 1) text)
-        ∙ ap (λ n. with_token text at len (kind_of class (take len (drop at text))) (tokens_from text 0 n (drop n text))) end
+        ∙ ap (λ n. with_token text at len (kind_of class (take len (drop at text))) (tokens_at text n)) end

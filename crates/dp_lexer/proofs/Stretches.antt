@@ -21,7 +21,8 @@ range-append a (suc n) m =
     rw more (ap (λ l. a ∷ l) (range-append (a + 1) n m ∙ ap (λ s. range_with_len (a + 1) n ++ range_with_len s m) next))
 
 -- a filter that answers the same of each keeps all or none
-filter-range : (p : ℕ → Bool) (v : Bool) (a n : ℕ) → ((k : ℕ) → k < n → p (a + k) ≡ v) → filter p (range_with_len a n) ≡ cond v (range_with_len a n) []
+filter-range : (p : ℕ → Bool) (v : Bool) (a n : ℕ) → ((k : ℕ) → k < n → p (a + k) ≡ v)
+    → filter p (range_with_len a n) ≡ cond v (range_with_len a n) []
 filter-range p true a zero each = refl
 filter-range p false a zero each = refl
 filter-range p v a (suc n) each = rw (here, filter-range p v (a + 1) n later) (both v)
@@ -32,7 +33,8 @@ filter-range p v a (suc n) each = rw (here, filter-range p v (a + 1) n later) (b
     later : (k : ℕ) → k < n → p (a + 1 + k) ≡ v
     later k lt = let next : a + suc k ≡ a + 1 + k = omega arith in rw next at (each (suc k) (omega arith))
 
-    both : (w : Bool) → cond w (a ∷ cond w (range_with_len (a + 1) n) []) (cond w (range_with_len (a + 1) n) []) ≡ cond w (a ∷ range_with_len (a + 1) n) []
+    both : (w : Bool)
+        → cond w (a ∷ cond w (range_with_len (a + 1) n) []) (cond w (range_with_len (a + 1) n) []) ≡ cond w (a ∷ range_with_len (a + 1) n) []
     both true = refl
     both false = refl
 
@@ -47,9 +49,11 @@ find-range p a (suc n) each = rw here (find-range p (a + 1) n later)
     later k lt = let next : a + suc k ≡ a + 1 + k = omega arith in rw next at (each (suc k) (omega arith))
 
 -- the bytes at the offsets of a slice are the slice
-pub map-range : (text : List ℕ) (a n : ℕ) → a + n ≤ length text → map (slice_index text) (range_with_len a n) ≡ take n (drop a text)
+pub map-range : (text : List ℕ) (a n : ℕ) → a + n ≤ length text
+    → map (slice_index text) (range_with_len a n) ≡ take n (drop a text)
 map-range text a zero within = refl
-map-range text a (suc n) within = ap (λ l. get_or text a 0 ∷ l) (map-range text (a + 1) n (omega arith)) ∙ sym (ap (take (suc n)) (cut text a (omega arith)))
+map-range text a (suc n) within = ap (λ l. get_or text a 0 ∷ l) (map-range text (a + 1) n (omega arith))
+    ∙ sym (ap (take (suc n)) (cut text a (omega arith)))
 
 -- a byte that begins no comment and is not bad, and is kept or not
 pub record IsPlain (kept : Bool) (b : ℕ) : Type 0 where
@@ -76,22 +80,27 @@ module _ (text : List ℕ) where
     pub good : (k : ℕ) → k < n → is_bad text (at + k) ≡ false
     pub after : IsOutside text (at + n)
 
-  apart : (at n : ℕ) → at + n ≤ length text → range_with_len at (length text - at) ≡ range_with_len at n ++ range_with_len (at + n) (length text - (at + n))
+  apart : (at n : ℕ) → at + n ≤ length text
+      → range_with_len at (length text - at) ≡ range_with_len at n ++ range_with_len (at + n) (length text - (at + n))
   apart at n within =
       let sum : length text - at ≡ n + (length text - (at + n)) = omega arith in
       ap (range_with_len at) sum ∙ range-append at n (length text - (at + n))
 
-  pub kept-stretch : (at n : ℕ) (kept : Bool) → at + n ≤ length text → IsStretch at n kept → kept_from at ≡ cond kept (range_with_len at n) [] ++ kept_from (at + n)
+  pub kept-stretch : (at n : ℕ) (kept : Bool) → at + n ≤ length text → IsStretch at n kept
+      → kept_from at ≡ cond kept (range_with_len at n) [] ++ kept_from (at + n)
   kept-stretch at n kept within stretch =
-      ap (filter (is_kept text)) (apart at n within) ∙ filter-append (is_kept text) (range_with_len at n) (range_with_len (at + n) (length text - (at + n)))
+      ap (filter (is_kept text)) (apart at n within)
+      ∙ filter-append (is_kept text) (range_with_len at n) (range_with_len (at + n) (length text - (at + n)))
       ∙ ap (λ l. l ++ kept_from (at + n)) (filter-range (is_kept text) kept at n stretch.kept_is)
 
   pub bad-stretch : (at n : ℕ) (kept : Bool) → at + n ≤ length text → IsStretch at n kept → bad_from at ≡ bad_from (at + n)
   bad-stretch at n kept within stretch =
-      ap (find (is_bad text)) (apart at n within) ∙ find-append (is_bad text) (range_with_len at n) (range_with_len (at + n) (length text - (at + n)))
+      ap (find (is_bad text)) (apart at n within)
+      ∙ find-append (is_bad text) (range_with_len at n) (range_with_len (at + n) (length text - (at + n)))
       ∙ ap (λ o. option_or o (bad_from (at + n))) (find-range (is_bad text) at n stretch.good)
 
-  pub plain_stretch : (at n : ℕ) (kept : Bool) → at + suc n ≤ length text → IsOutside text at → ((k : ℕ) → k < suc n → IsPlain kept (get_or text (at + k) 0)) → IsStretch at (suc n) kept
+  pub plain_stretch : (at n : ℕ) (kept : Bool) → at + suc n ≤ length text → IsOutside text at
+      → ((k : ℕ) → k < suc n → IsPlain kept (get_or text (at + k) 0)) → IsStretch at (suc n) kept
   plain_stretch at n kept within outside plain = record {
     kept_is = λ k lt. rw (closed k lt) ((plain k lt).blank);
     good = λ k lt. rw (closed k lt, (plain k lt).allowed) refl;
@@ -101,7 +110,9 @@ module _ (text : List ℕ) where
       closed : (k : ℕ) → k < suc n → is_in_comment text (at + k) ≡ false
       closed = stays_closed text at (suc n) within (λ k lt. (plain k lt).no_hash) outside
 
-  pub comment_stretch : (at n : ℕ) → at + suc n ≤ length text → is_in_comment text at ≡ true → ((k : ℕ) → k < n → is_line_feed (get_or text (at + suc k) 0) ≡ false) → IsOutside text (at + suc n) → IsStretch at (suc n) false
+  pub comment_stretch : (at n : ℕ) → at + suc n ≤ length text → is_in_comment text at ≡ true
+      → ((k : ℕ) → k < n → is_line_feed (get_or text (at + suc k) 0) ≡ false) → IsOutside text (at + suc n)
+      → IsStretch at (suc n) false
   comment_stretch at n within begins none after = record {
     kept_is = λ k lt. rw (stays_open text at n within begins none k lt) refl;
     good = λ k lt. rw (stays_open text at n within begins none k lt) refl;

@@ -15,6 +15,7 @@ use Rattle.dp_lexer.specs.Tokens.{with_token, tokens_from, tokens_of}
 use Rattle.dp_lexer.specs.TokenLaws.{slice_of, offsets_of, IsOfKind, IsTokenOf, TokensAreOfText, FirstBadByteIsNamed}
 use Rattle.dp_lexer.proofs.CommentSteps.{IsOutside, outside_start}
 use Rattle.dp_lexer.proofs.OnlyTokens.{only_from}
+use Rattle.dp_lexer.proofs.Piece.{tokens_at}
 use Rattle.dp_lexer.proofs.Stretches.{map-range, kept_from, bad_from, kept-stretch, bad-stretch}
 use Rattle.dp_lexer.proofs.Steps.{Advances, halts, goes, step_of}
 
@@ -30,7 +31,7 @@ module _ (text : List ℕ) where
   none_left : (at : ℕ) → length text ≤ at → range_with_len at (length text - at) ≡ []
   none_left at past = let none : length text - at ≡ 0 = omega arith in ap (range_with_len at) none
 
-  ends : (at : ℕ) → length text ≤ at → tokens_from text 0 at (drop at text) ≡ Ok []
+  ends : (at : ℕ) → length text ≤ at → tokens_at text at ≡ Ok []
   unfolding tokens_from
   ends at past = ap (tokens_from text 0 at) (drop_all at text past)
 
@@ -43,7 +44,8 @@ module _ (text : List ℕ) where
     in_place = sym (ap (filter (is_kept text)) (none_left at past));
   }
 
-  later_from : (at n : ℕ) (tokens : List Token) → All (λ token. at + n ≤ token.start) tokens → All (λ token. at ≤ token.start) tokens
+  later_from : (at n : ℕ) (tokens : List Token) → All (λ token. at + n ≤ token.start) tokens
+      → All (λ token. at ≤ token.start) tokens
   later_from at n tokens later k d lt = omega (arith, later k d lt)
 
   skips : (at n : ℕ) (others : List Token) → Advances text at n None → AreTokensFrom (at + n) others → AreTokensFrom at others
@@ -57,13 +59,19 @@ module _ (text : List ℕ) where
         in_place = rest.in_place ∙ sym kept;
       }
 
-  takes : (at n : ℕ) (kind : Kind) (token : Token) (others : List Token) → Advances text at n (Some kind) → token ≡ record { start = at; end = at + n; line = line_at text at; kind = kind } → AreTokensFrom (at + n) others → AreTokensFrom at (token ∷ others)
+  takes : (at n : ℕ) (kind : Kind) (token : Token) (others : List Token) → Advances text at n (Some kind)
+      → token ≡ record { start = at; end = at + n; line = line_at text at; kind = kind } → AreTokensFrom (at + n) others
+      → AreTokensFrom at (token ∷ others)
   takes at n kind token others step is rest = rw is (record {
     each = All-cons (IsTokenOf text) made others shown rest.each;
     later = All-cons (λ t. at ≤ t.start) made others (omega arith) (later_from at n others rest.later);
     in_order = AllPairs-cons (λ a b. a.end ≤ b.start) made others rest.later rest.in_order;
-    together = ap (λ l. l ++ flat_map (slice_of text) others) slice ∙ ap (λ l. map (slice_index text) (range_with_len at n) ++ l) rest.together ∙ sym (map-append (slice_index text) (range_with_len at n) (kept_from text (at + n))) ∙ ap (map (slice_index text)) (sym kept);
-    in_place = ap (λ m. range_with_len at m ++ flat_map offsets_of others) size ∙ ap (λ l. range_with_len at n ++ l) rest.in_place ∙ sym kept;
+    together = ap (λ l. l ++ flat_map (slice_of text) others) slice
+        ∙ ap (λ l. map (slice_index text) (range_with_len at n) ++ l) rest.together
+        ∙ sym (map-append (slice_index text) (range_with_len at n) (kept_from text (at + n)))
+        ∙ ap (map (slice_index text)) (sym kept);
+    in_place = ap (λ m. range_with_len at m ++ flat_map offsets_of others) size ∙ ap (λ l. range_with_len at n ++ l) rest.in_place
+        ∙ sym kept;
   })
     where
       made : Token
@@ -87,7 +95,9 @@ module _ (text : List ℕ) where
       kept : kept_from text at ≡ range_with_len at n ++ kept_from text (at + n)
       kept = kept-stretch text at n true step.within step.stretch
 
-  after : (at n : ℕ) (kind : Option Kind) (tokens : List Token) (rest : Result (List Token) ℕ) → Advances text at n kind → with_token text at n kind rest ≡ Ok tokens → ((others : List Token) → rest ≡ Ok others → AreTokensFrom (at + n) others) → AreTokensFrom at tokens
+  after : (at n : ℕ) (kind : Option Kind) (tokens : List Token) (rest : Result (List Token) ℕ) → Advances text at n kind
+      → with_token text at n kind rest ≡ Ok tokens → ((others : List Token) → rest ≡ Ok others → AreTokensFrom (at + n) others)
+      → AreTokensFrom at tokens
   after at n None tokens (Ok others) step is so_far = let same : others ≡ tokens = cc in subst (AreTokensFrom at) same (skips at n others step (so_far others refl))
   after at n (Some kind) tokens (Ok others) step is so_far =
       let same : record { start = at; end = at + n; line = line_at text at; kind = kind } ∷ others ≡ tokens = cc in
@@ -96,7 +106,8 @@ module _ (text : List ℕ) where
   after at n (Some kind) tokens (Err bad) step is so_far = absurd cc
 
   -- `fuel` is at least the number of bytes that are left
-  from_here : (fuel at : ℕ) (tokens : List Token) → length text ≤ at + fuel → IsOutside text at → tokens_from text 0 at (drop at text) ≡ Ok tokens → AreTokensFrom at tokens
+  from_here : (fuel at : ℕ) (tokens : List Token) → length text ≤ at + fuel → IsOutside text at
+      → tokens_at text at ≡ Ok tokens → AreTokensFrom at tokens
   from_here zero at tokens enough outside is =
       let past : length text ≤ at = omega arith in
       let none : [] ≡ tokens = let both = sym (ends at past) ∙ is in cc in
@@ -105,31 +116,35 @@ module _ (text : List ℕ) where
     | inr past ↦ (let none : [] ≡ tokens = let both = sym (ends at past) ∙ is in cc in subst (AreTokensFrom at) none (no_tokens at past))
     | inl inside ↦ elim (step_of text at inside outside) [
       | halts stop bad ↦ absurd (let both = sym stop ∙ is in cc)
-      | goes n kind step ↦ after at n kind tokens (tokens_from text 0 (at + n) (drop (at + n) text)) step (sym step.moves_on ∙ is) (λ others rest. from_here fuel (at + n) others (omega (arith, step.some)) step.stretch.after rest)
+      | goes n kind step ↦ after at n kind tokens (tokens_at text (at + n)) step (sym step.moves_on ∙ is) (λ others rest. from_here fuel (at + n) others (omega (arith, step.some)) step.stretch.after rest)
     ]
   ]
 
-  err-with_token : (at n : ℕ) (kind : Option Kind) (rest : Result (List Token) ℕ) → result_err (with_token text at n kind rest) ≡ result_err rest
+  err-with_token : (at n : ℕ) (kind : Option Kind) (rest : Result (List Token) ℕ)
+      → result_err (with_token text at n kind rest) ≡ result_err rest
   err-with_token at n None (Ok others) = refl
   err-with_token at n (Some kind) (Ok others) = refl
   err-with_token at n None (Err bad) = refl
   err-with_token at n (Some kind) (Err bad) = refl
 
-  none_bad : (at : ℕ) → length text ≤ at → result_err (tokens_from text 0 at (drop at text)) ≡ bad_from text at
+  none_bad : (at : ℕ) → length text ≤ at → result_err (tokens_at text at) ≡ bad_from text at
   none_bad at past = ap result_err (ends at past) ∙ sym (ap (find (is_bad text)) (none_left at past))
 
   here_bad : (at : ℕ) → at < length text → is_bad text at ≡ true → bad_from text at ≡ Some at
-  here_bad at inside bad = let more : length text - at ≡ suc (length text - (at + 1)) = omega arith in ap (λ m. find (is_bad text) (range_with_len at m)) more ∙ rw bad refl
+  here_bad at inside bad = let more : length text - at ≡ suc (length text - (at + 1)) = omega arith in ap (λ m. find (is_bad text) (range_with_len at m)) more
+      ∙ rw bad refl
 
-  bad_from_here : (fuel at : ℕ) → length text ≤ at + fuel → IsOutside text at → result_err (tokens_from text 0 at (drop at text)) ≡ bad_from text at
+  bad_from_here : (fuel at : ℕ) → length text ≤ at + fuel → IsOutside text at
+      → result_err (tokens_at text at) ≡ bad_from text at
   bad_from_here zero at enough outside = none_bad at (omega arith)
   bad_from_here (suc fuel) at enough outside = elim (cases_lt at (length text)) [
     | inr past ↦ none_bad at past
     | inl inside ↦ elim (step_of text at inside outside) [
       | halts stop bad ↦ ap result_err stop ∙ sym (here_bad at inside bad)
       | goes n kind step ↦ (
-          ap result_err step.moves_on ∙ err-with_token at n kind (tokens_from text 0 (at + n) (drop (at + n) text))
-          ∙ bad_from_here fuel (at + n) (omega (arith, step.some)) step.stretch.after ∙ sym (bad-stretch text at n (is_some kind) step.within step.stretch)
+          ap result_err step.moves_on ∙ err-with_token at n kind (tokens_at text (at + n))
+          ∙ bad_from_here fuel (at + n) (omega (arith, step.some)) step.stretch.after
+          ∙ sym (bad-stretch text at n (is_some kind) step.within step.stretch)
           )
     ]
   ]
@@ -139,10 +154,9 @@ unfolding tokens_of
 tokens_are_of_text text tokens =
     let whole : length text - 0 ≡ length text = omega arith in
     let kept : kept_from text 0 ≡ kept_offsets text = ap (λ m. filter (is_kept text) (range_with_len 0 m)) whole in
-    let enough : length text ≤ 0 + length text = omega arith in
-    (
+    let enough : length text ≤ 0 + length text = omega arith in (
       λ is. let all = from_here text (length text) 0 tokens enough (outside_start text) is in
-      record { each = all.each; in_order = all.in_order; together = all.together ∙ ap (map (slice_index text)) kept; in_place = all.in_place ∙ kept },
+          record { each = all.each; in_order = all.in_order; together = all.together ∙ ap (map (slice_index text)) kept; in_place = all.in_place ∙ kept },
       λ are. only_from text (length text) 0 tokens enough (outside_start text) are.each (are.in_place ∙ sym kept),
     )
 
@@ -150,4 +164,5 @@ pub first_bad_byte_is_named : FirstBadByteIsNamed
 unfolding tokens_of
 first_bad_byte_is_named text =
     let whole : length text - 0 ≡ length text = omega arith in
-    bad_from_here text (length text) 0 (omega arith) (outside_start text) ∙ ap (λ m. find (is_bad text) (range_with_len 0 m)) whole
+    bad_from_here text (length text) 0 (omega arith) (outside_start text)
+    ∙ ap (λ m. find (is_bad text) (range_with_len 0 m)) whole

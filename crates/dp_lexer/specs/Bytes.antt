@@ -35,7 +35,8 @@ is_no_line_feed b = not (b == line_feed)
 
 -- the bytes that may stand outside comments
 abbrev pub is_in_alphabet : ℕ → Bool
-is_in_alphabet b = ((((is_name_byte b || is_blank b) || is_line_feed b) || b == hash) || b == colon) || b == star
+is_in_alphabet b =
+    ((((is_name_byte b || is_blank b) || is_line_feed b) || b == hash) || b == colon) || b == star
 
 -- what stands of a text after its last line feed
 abbrev pub last_line : List ℕ → List ℕ

@@ -27,12 +27,13 @@ IsOfKind Colon bytes = bytes ≡ colon ∷ []
 IsOfKind Star bytes = bytes ≡ star ∷ []
 IsOfKind LineEnd bytes = bytes ≡ line_feed ∷ []
 
--- a word or a number does not go on in the byte that follows it, where there is one
+-- a word or a number does not go on in the byte that follows it, which at the end of the text is 0
 abbrev pub IsLongest : Kind → ℕ → Type 0
 IsLongest Word next = is_name_byte next ≡ false
 IsLongest Number next = is_name_byte next ≡ false
 IsLongest _ next = Unit {0}
 
+-- one slice of the text, on this line, that is all of a word or a number, or a mark
 pub record IsTokenOf (text : List ℕ) (token : Token) : Type 0 where
   pub some : token.start < token.end
   pub within : token.end ≤ length text
@@ -50,8 +51,10 @@ pub record AreTokensOf (text : List ℕ) (tokens : List Token) : Type 0 where
 
 -- This describes the tokens of a text: they are so, and no other list is.
 abbrev pub TokensAreOfText : Type 0
-TokensAreOfText = (text : List ℕ) (tokens : List Token) → (tokens_of text ≡ Ok tokens) ↔ AreTokensOf text tokens
+TokensAreOfText =
+    (text : List ℕ) (tokens : List Token) → (tokens_of text ≡ Ok tokens) ↔ AreTokensOf text tokens
 
--- A text has no tokens exactly where a byte outside comments is not in the alphabet, and the first of these is named.
+-- A text has no tokens exactly where a byte outside comments is not in the alphabet, and the first of these is
+-- named.
 abbrev pub FirstBadByteIsNamed : Type 0
 FirstBadByteIsNamed = (text : List ℕ) → result_err (tokens_of text) ≡ first_bad text

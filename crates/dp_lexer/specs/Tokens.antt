@@ -37,9 +37,10 @@ kind_of LineFeed text = Some LineEnd
 kind_of (Mark kind) text = Some kind
 kind_of _ text = None
 
--- the token of this kind that begins here and has so many bytes, where there is one, before the other tokens
+-- the token of this kind that begins here and has so many bytes, where there is one, and then the other tokens
 abbrev pub with_token : List ℕ → ℕ → ℕ → Option Kind → Result (List Token) ℕ → Result (List Token) ℕ
-with_token text at len (Some kind) (Ok others) = Ok (record { start = at; end = at + len; line = line_at text at; kind = kind } ∷ others)
+with_token text at len (Some kind) (Ok others) =
+    Ok (record { start = at; end = at + len; line = line_at text at; kind = kind } ∷ others)
 with_token text at len None (Ok others) = Ok others
 with_token text at len kind (Err bad) = Err bad
 
@@ -65,5 +66,6 @@ tokens_of text = tokens_from text 0 0 text
 
 -- the fault is want of memory, or it names the first bad byte of the text by its line and column
 abbrev pub NamesFirstBadByte : List ℕ → LexFault → Type 0
-NamesFirstBadByte text (BadByte line column) = (at : ℕ) × (tokens_of text ≡ Err at) × (line ≡ line_at text at) × (column ≡ column_at text at)
+NamesFirstBadByte text (BadByte line column) =
+    (at : ℕ) × (tokens_of text ≡ Err at) × (line ≡ line_at text at) × (column ≡ column_at text at)
 NamesFirstBadByte text Memory = Unit {0}
