@@ -24,6 +24,7 @@ star = 42
 abbrev pub colon : ℕ
 colon = 58
 
+-- a blank: space, tab or carriage return
 abbrev pub is_blank : ℕ → Bool
 is_blank b = (b == space || b == tab) || b == carriage_return
 
@@ -31,7 +32,7 @@ abbrev pub is_line_feed : ℕ → Bool
 is_line_feed b = b == line_feed
 
 abbrev pub is_no_line_feed : ℕ → Bool
-is_no_line_feed b = not (b == line_feed)
+is_no_line_feed b = not (is_line_feed b)
 
 -- the bytes that may stand outside comments
 abbrev pub is_in_alphabet : ℕ → Bool

@@ -3,15 +3,16 @@ use Rattle.std.specs.Prelude.{ℕ, ◌+◌, Bool, not, ◌||◌, ◌==◌, List,
 use Rattle.std.specs.List.{list_any, range_with_len}
 use Rattle.dp_lexer.specs.Bytes.{hash, is_blank, is_in_alphabet, last_line}
 
--- The byte at this offset is in a comment: a `#` stands on its line, before it or at it. A line feed stands on
--- no line, and so in no comment.
+-- The byte at this offset is in a comment: from behind the last line feed up to it, and with it, there is a `#`.
+-- So a line feed is in no comment.
 abbrev pub is_in_comment : List ℕ → ℕ → Bool
 is_in_comment text at = list_any (λ b. b == hash) (last_line (take (at + 1) text))
 
+-- the offsets of the bytes of a text
 abbrev pub offsets : List ℕ → List ℕ
 offsets text = range_with_len 0 (length text)
 
--- the offset has neither a blank nor a byte of a comment
+-- the byte at this offset is neither a blank nor in a comment
 abbrev pub is_kept : List ℕ → ℕ → Bool
 is_kept text at = not (is_in_comment text at || is_blank (slice_index text at))
 

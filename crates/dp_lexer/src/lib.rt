@@ -39,7 +39,8 @@ pub struct Token {
 /// Why a text has no tokens.
 #[derive(Clone, Copy, Debug, PartialEq, Eq)]
 pub enum LexFault {
-    /// A byte outside comments that no token may have. Lines and columns count from 1, and columns count bytes.
+    /// A byte outside comments that is neither a blank nor one of a token. Lines and columns count from 1, and
+    /// columns count bytes.
     BadByte { line: u32, column: u32 },
     /// Memory ran out.
     Memory,
@@ -53,10 +54,12 @@ impl<T: Drop> From<AllocFailed<T>> for LexFault {
     }
 }
 
-/// The tokens of a text, in order, or its first bad byte.
+/// The tokens of a text of at most 64 MiB, in order.
 ///
 /// Blanks are space, tab and carriage return. A `#` begins a comment, which goes up to the next line feed and
 /// may hold any bytes. Takes time and memory linear in the bytes.
+///
+/// `BadByte` names the first byte outside comments that is neither a blank nor one of a token.
 pub fn lex(alloc: Global, bytes: &[u8]) -> Result<Vec<Token>, LexFault>
     requires { length bytes.now ≤ 2 ^ 26 }
     ensures tokens { IfOk result (λ tokens. tokens_of bytes.now ≡ Ok tokens.items) }
