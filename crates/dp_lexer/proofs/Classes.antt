@@ -10,7 +10,8 @@ use Rattle.dp_lexer.specs.Tokens.{class_of}
 -- a byte that passes a test which another fails is not that other
 pub differs : (test : ℕ → Bool) (other b : ℕ) → test other ≡ false → test b ≡ true → (b == other) ≡ false
 differs test other b fails passes = elim (cases_Bool (b == other)) [
-  | inl same ↦ absurd (let never : test other ≡ true = subst (λ x. test x ≡ true) (eqb-true b other same) passes in let clash : true ≡ false = sym never ∙ fails in cc)
+  | inl same ↦ absurd (let never : test other ≡ true = subst (λ x. test x ≡ true) (eqb-true b other same) passes in
+      let clash : true ≡ false = sym never ∙ fails in cc)
   | inr differ ↦ differ
 ]
 
@@ -37,7 +38,8 @@ byte_of b = elim (cases_Bool (is_name_byte b)) [
           | inl is ↦ colon_mark (eqb-true b colon is)
           | inr not_colon ↦ elim (cases_Bool (b == star)) [
             | inl is ↦ star_mark (eqb-true b star is)
-            | inr not_star ↦ unknown (rw (not_named, not_blank, not_line_feed, not_hash, not_colon, not_star) refl) (rw (not_named, not_blank, not_line_feed, not_hash, not_colon, not_star) refl)
+            | inr not_star ↦ unknown (rw (not_named, not_blank, not_line_feed, not_hash, not_colon, not_star) refl)
+                (rw (not_named, not_blank, not_line_feed, not_hash, not_colon, not_star) refl)
           ]
         ]
       ]

@@ -38,7 +38,8 @@ word_parts false all decimal h = absurd cc
 
 shape_of : (kind : Kind) (bytes : List ℕ) (next : ℕ) → IsOfKind kind bytes → IsLongest kind next → Shape kind bytes next
 unfolding is_word
-shape_of Word bytes next word ends = let parts = word_parts (nat_lt 0 (length bytes)) (list_all is_name_byte bytes) (is_decimal bytes) word in is_run parts.0 ends (rw parts.1 refl)
+shape_of Word bytes next word ends = let parts = word_parts (nat_lt 0 (length bytes)) (list_all is_name_byte bytes)
+    (is_decimal bytes) word in is_run parts.0 ends (rw parts.1 refl)
 shape_of Number bytes next number ends = is_run number.0 ends (rw number.1 refl)
 shape_of Colon bytes next is ends = is_mark colon refl refl is refl
 shape_of Star bytes next is ends = is_mark star refl refl is refl
@@ -53,7 +54,8 @@ module _ (text : List ℕ) (at : ℕ) where
 
   named_in : (m k : ℕ) → at + m ≤ length text → list_all is_name_byte (take m (drop at text)) ≡ true → k < m
       → is_name_byte (get_or text (at + k) 0) ≡ true
-  named_in m k within all lt = subst (λ b. is_name_byte b ≡ true) (byte_in m k lt) (AllPass-from_list_all is_name_byte (take m (drop at text)) all k 0 (omega (arith, size_of m within)))
+  named_in m k within all lt = subst (λ b. is_name_byte b ≡ true) (byte_in m k lt)
+      (AllPass-from_list_all is_name_byte (take m (drop at text)) all k 0 (omega (arith, size_of m within)))
 
   named_here : (m : ℕ) → 0 < m → at + m ≤ length text → list_all is_name_byte (take m (drop at text)) ≡ true
       → is_name_byte (get_or text at 0) ≡ true
@@ -111,7 +113,8 @@ module _ (text : List ℕ) where
       → Shape token.kind (take (token.end - at) (drop at text)) (get_or text (at + (token.end - at)) 0)
   shape_at at token starts is =
       let end : token.end ≡ at + (token.end - at) = omega (arith, is.some) in
-      shape_of token.kind _ _ (subst (λ s. IsOfKind token.kind (take (token.end - s) (drop s text))) starts is.kind) (subst (λ e. IsLongest token.kind (get_or text e 0)) end is.longest)
+      shape_of token.kind _ _ (subst (λ s. IsOfKind token.kind (take (token.end - s) (drop s text))) starts is.kind)
+      (subst (λ e. IsLongest token.kind (get_or text e 0)) end is.longest)
 
   -- what is left of a text that has a byte to keep here begins with a token that begins here
   starts_here : (at size : ℕ) (more : List ℕ) (token : Token) (others : List Token) → IsTokenOf text token
@@ -124,14 +127,17 @@ module _ (text : List ℕ) where
 
   takes : (at n : ℕ) (kind : Kind) (tokens : List Token) → Advances text at n (Some kind) → All (IsTokenOf text) tokens
       → flat_map offsets_of tokens ≡ range_with_len at n ++ kept_from text (at + n)
-      → ((others : List Token) → All (IsTokenOf text) others → flat_map offsets_of others ≡ kept_from text (at + n) → tokens_at text (at + n) ≡ Ok others) → tokens_at text at ≡ Ok tokens
+      → ((others : List Token) → All (IsTokenOf text) others → flat_map offsets_of others ≡ kept_from text (at + n)
+      → tokens_at text (at + n) ≡ Ok others) → tokens_at text at ≡ Ok tokens
   takes at zero kind tokens step each in_place rest = absurd (omega (arith, step.some))
   takes at (suc n) kind [] step each in_place rest = absurd cc
   takes at (suc n) kind (token ∷ others) step each in_place rest =
       let is : IsTokenOf text token = each 0 token (omega arith) in
       let starts : token.start ≡ at = starts_here at n (kept_from text (at + suc n)) token others is in_place in
       let size_and_kind
-      = same text at (token.end - at) (suc n) token.kind kind (omega (arith, is.some)) (omega arith) (omega (arith, is.some, is.within)) step.within (shape_at at token starts is) (shape_of kind _ _ step.shown.kind_is step.shown.longest) in
+      = same text at (token.end - at) (suc n) token.kind kind (omega (arith, is.some)) (omega arith)
+      (omega (arith, is.some, is.within)) step.within (shape_at at token starts is)
+      (shape_of kind _ _ step.shown.kind_is step.shown.longest) in
       let end : token.end ≡ at + suc n = omega (arith, is.some, size_and_kind.0) in
       let token_is : token ≡ record { start = at; end = at + suc n; line = line_at text at; kind = kind }
       = token_same token at (at + suc n) (line_at text at) kind starts end (is.line ∙ ap (line_at text) starts) size_and_kind.1 in
@@ -139,7 +145,8 @@ module _ (text : List ℕ) where
       let here : offsets_of token ≡ range_with_len at (suc n)
       = ap (λ s. range_with_len s (token.end - token.start)) starts ∙ ap (range_with_len at) length_is in
       let later : flat_map offsets_of others ≡ kept_from text (at + suc n)
-      = append_cancel_left (range_with_len at (suc n)) (flat_map offsets_of others) (kept_from text (at + suc n)) (ap (λ l. l ++ flat_map offsets_of others) (sym here) ∙ in_place) in
+      = append_cancel_left (range_with_len at (suc n)) (flat_map offsets_of others) (kept_from text (at + suc n))
+      (ap (λ l. l ++ flat_map offsets_of others) (sym here) ∙ in_place) in
       step.moves_on ∙ ap (with_token text at (suc n) (Some kind)) (rest others (λ k d lt. each (suc k) d (omega arith)) later)
       ∙ ap (λ t. Ok (t ∷ others)) (sym token_is)
 
@@ -177,15 +184,18 @@ module _ (text : List ℕ) where
           let is : IsTokenOf text token = each 0 token (omega arith) in
           let starts : token.start ≡ at = starts_here at 0 (kept_from text (at + 1)) token others is in_place in
           let allowed : is_in_alphabet b ≡ true
-          = allowed_here text at (token.end - at) _ token.kind (omega (arith, is.some)) (omega (arith, is.some, is.within)) (shape_at at token starts is) in
+          = allowed_here text at (token.end - at) _ token.kind (omega (arith, is.some)) (omega (arith, is.some, is.within))
+          (shape_at at token starts is) in
           let clash = sym allowed ∙ parts.1 in cc
 
   steps : (at n : ℕ) (kind : Option Kind) (tokens : List Token) → Advances text at n kind → All (IsTokenOf text) tokens
       → flat_map offsets_of tokens ≡ kept_from text at
-      → ((others : List Token) → All (IsTokenOf text) others → flat_map offsets_of others ≡ kept_from text (at + n) → tokens_at text (at + n) ≡ Ok others) → tokens_at text at ≡ Ok tokens
+      → ((others : List Token) → All (IsTokenOf text) others → flat_map offsets_of others ≡ kept_from text (at + n)
+      → tokens_at text (at + n) ≡ Ok others) → tokens_at text at ≡ Ok tokens
   steps at n None tokens step each in_place rest = step.moves_on
       ∙ ap (with_token text at n None) (rest tokens each (in_place ∙ kept-stretch text at n false step.within step.stretch))
-  steps at n (Some kind) tokens step each in_place rest = takes at n kind tokens step each (in_place ∙ kept-stretch text at n true step.within step.stretch) rest
+  steps at n (Some kind) tokens step each in_place rest = takes at n kind tokens step each
+      (in_place ∙ kept-stretch text at n true step.within step.stretch) rest
 
   ends : (at : ℕ) (tokens : List Token) → length text ≤ at → All (IsTokenOf text) tokens
       → flat_map offsets_of tokens ≡ kept_from text at → tokens_at text at ≡ Ok tokens
@@ -203,6 +213,8 @@ module _ (text : List ℕ) where
     | inr past ↦ ends at tokens past each in_place
     | inl inside ↦ elim (step_of text at inside outside) [
       | halts stop bad ↦ absurd (never_bad at tokens inside bad each in_place)
-      | goes n kind step ↦ steps at n kind tokens step each in_place (λ others each_other rest. only_from fuel (at + n) others (omega (arith, step.some)) step.stretch.after each_other rest)
+      | goes n kind step ↦ steps at n kind tokens step each in_place
+          (λ others each_other rest. only_from fuel (at + n) others
+          (omega (arith, step.some)) step.stretch.after each_other rest)
     ]
   ]

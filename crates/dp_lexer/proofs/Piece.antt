@@ -62,9 +62,12 @@ module _ (text : List ℕ) (at : ℕ) (inside : at < length text) where
         let b : ℕ = get_or text at 0 in
         let rest : List ℕ = drop (at + 1) text in
         let end : at + 1 + more_of class rest ≡ at + len = omega arith in
-        let here : tokens_from text 0 at (b ∷ rest) ≡ with_token text at len (kind_of class (take len (b ∷ rest))) (tokens_from text 0 (at + 1 + more_of class rest) (drop (more_of class rest) rest))
+        let here : tokens_from text 0 at (b ∷ rest) ≡ with_token text at len (kind_of class (take len (b ∷ rest)))
+        (tokens_from text 0 (at + 1 + more_of class rest) (drop (more_of class rest) rest))
         = rw (← class_is, passes text (more_of class rest) (at + 1) rest) (not_bad class at _ good) in
         ap (tokens_from text 0 at) cut ∙ here
-        ∙ ap (λ l. with_token text at len (kind_of class (take len l)) (tokens_from text 0 (at + 1 + more_of class rest) (drop (more_of class rest) rest))) (sym cut)
-        ∙ ap (λ l. with_token text at len (kind_of class (take len (drop at text))) (tokens_from text 0 (at + 1 + more_of class rest) l)) (drop-drop (more_of class rest) (at + 1) text)
+        ∙ ap (λ l. with_token text at len (kind_of class (take len l))
+        (tokens_from text 0 (at + 1 + more_of class rest) (drop (more_of class rest) rest))) (sym cut)
+        ∙ ap (λ l. with_token text at len (kind_of class (take len (drop at text)))
+        (tokens_from text 0 (at + 1 + more_of class rest) l)) (drop-drop (more_of class rest) (at + 1) text)
         ∙ ap (λ n. with_token text at len (kind_of class (take len (drop at text))) (tokens_at text n)) end

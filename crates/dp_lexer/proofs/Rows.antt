@@ -18,12 +18,15 @@ unfolding tokens_of tokens_from is_decimal
 commented = refl
 
 -- a carriage return ends neither a comment nor a line, and ends a run
-returns : tokens_of (codes "#a\rb\n1\r2:\n*") ≡ Ok (token 4 5 1 LineEnd ∷ token 5 6 2 Number ∷ token 7 8 2 Number ∷ token 8 9 2 Colon ∷ token 9 10 2 LineEnd ∷ token 10 11 3 Star ∷ [])
+returns : tokens_of (codes "#a\rb\n1\r2:\n*") ≡ Ok
+    (token 4 5 1 LineEnd ∷ token 5 6 2 Number ∷ token 7 8 2 Number ∷ token 8 9 2 Colon ∷ token 9 10 2 LineEnd
+    ∷ token 10 11 3 Star ∷ [])
 unfolding tokens_of tokens_from is_decimal
 returns = refl
 
 -- runs go on at points and signs, and a sign or a point alone is a word
-runs : tokens_of (codes "a.b-1 -.5e+2 + . 1-1") ≡ Ok (token 0 5 1 Word ∷ token 6 12 1 Number ∷ token 13 14 1 Word ∷ token 15 16 1 Word ∷ token 17 20 1 Word ∷ [])
+runs : tokens_of (codes "a.b-1 -.5e+2 + . 1-1") ≡ Ok
+    (token 0 5 1 Word ∷ token 6 12 1 Number ∷ token 13 14 1 Word ∷ token 15 16 1 Word ∷ token 17 20 1 Word ∷ [])
 unfolding tokens_of tokens_from is_decimal
 runs = refl
 

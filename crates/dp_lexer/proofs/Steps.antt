@@ -57,7 +57,8 @@ run_kind : (b : ℕ) (rest : List ℕ) (decimal : Bool) → list_all is_name_byt
     → IsOfKind (cond decimal Number Word) (b ∷ rest)
 unfolding is_word
 run_kind b rest true named decimal = (named, decimal)
-run_kind b rest false named other = let some : nat_lt 0 (length (b ∷ rest)) ≡ true = lt-ltb 0 (length (b ∷ rest)) (omega arith) in rw (some, named, other) refl
+run_kind b rest false named other = let some : nat_lt 0 (length (b ∷ rest)) ≡ true = lt-ltb 0 (length (b ∷ rest))
+    (omega arith) in rw (some, named, other) refl
 
 run_longest : (decimal : Bool) (next : ℕ) → is_name_byte next ≡ false → IsLongest (cond decimal Number Word) next
 run_longest true next ends = ends
@@ -117,7 +118,9 @@ module _ (text : List ℕ) (at : ℕ) (inside : at < length text) (outside : IsO
         moves_on = moves text at inside Run (sym class_is) (λ e. cc);
         stretch = plain_stretch text at run_more true (fits text at inside Run (sym class_is)) outside each;
         shown = record {
-          kind_is = subst (IsOfKind (cond decimal Number Word)) (sym bytes) (run_kind byte (take run_more rest) decimal (subst (λ l. list_all is_name_byte l ≡ true) bytes all) (ap is_decimal (sym bytes)));
+          kind_is = subst (IsOfKind (cond decimal Number Word)) (sym bytes)
+              (run_kind byte (take run_more rest) decimal (subst (λ l. list_all is_name_byte l ≡ true) bytes all)
+              (ap is_decimal (sym bytes)));
           longest = run_longest decimal (get_or text (at + n) 0) ends;
         };
       })
@@ -125,14 +128,18 @@ module _ (text : List ℕ) (at : ℕ) (inside : at < length text) (outside : IsO
       each : (k : ℕ) → k < suc run_more → IsPlain true (get_or text (at + k) 0)
       each k lt =
           let below : k < prefix_len is_name_byte (drop at text) = omega (arith, run_here named) in
-          named_plain (get_or text (at + k) 0) (subst (λ b. is_name_byte b ≡ true) (get_or-drop at text k 0) (prefix_len_passes is_name_byte (drop at text) k 0 below))
+          named_plain (get_or text (at + k) 0)
+          (subst (λ b. is_name_byte b ≡ true) (get_or-drop at text k 0)
+          (prefix_len_passes is_name_byte (drop at text) k 0 below))
 
       ends : is_name_byte (get_or text (at + suc run_more) 0) ≡ false
       ends = elim (cases_lt (at + suc run_more) (length text)) [
         | inl more ↦ (
             let below : prefix_len is_name_byte (drop at text) < length (drop at text)
             = omega (arith, run_here named, length-drop at text) in
-            subst (λ k. is_name_byte (get_or text (at + k) 0) ≡ false) (run_here named) (subst (λ b. is_name_byte b ≡ false) (get_or-drop at text (prefix_len is_name_byte (drop at text)) 0) (prefix_len_stops is_name_byte (drop at text) 0 below))
+            subst (λ k. is_name_byte (get_or text (at + k) 0) ≡ false) (run_here named)
+            (subst (λ b. is_name_byte b ≡ false) (get_or-drop at text (prefix_len is_name_byte (drop at text)) 0)
+            (prefix_len_stops is_name_byte (drop at text) 0 below))
             )
         | inr end ↦ ap is_name_byte (get_or_past text (at + suc run_more) 0 end)
       ]
@@ -153,7 +160,8 @@ module _ (text : List ℕ) (at : ℕ) (inside : at < length text) (outside : IsO
       each : (k : ℕ) → k < comment_more → is_line_feed (get_or text (at + suc k) 0) ≡ false
       each k lt =
           let same : at + 1 + k ≡ at + suc k = omega arith in
-          not-true _ (subst (λ b. is_no_line_feed b ≡ true) (get_or-drop (at + 1) text k 0 ∙ ap (λ i. get_or text i 0) same) (prefix_len_passes is_no_line_feed rest k 0 lt))
+          not-true _ (subst (λ b. is_no_line_feed b ≡ true) (get_or-drop (at + 1) text k 0 ∙ ap (λ i. get_or text i 0) same)
+          (prefix_len_passes is_no_line_feed rest k 0 lt))
 
       after : at + suc comment_more < length text
           → is_line_feed (get_or text (at + suc comment_more) 0) ≡ true
@@ -161,7 +169,9 @@ module _ (text : List ℕ) (at : ℕ) (inside : at < length text) (outside : IsO
           let n : ℕ = comment_more in
           let same : at + 1 + n ≡ at + suc n = omega arith in
           let below : n < length rest = omega (arith, length-drop (at + 1) text) in
-          not-false _ (subst (λ b. is_no_line_feed b ≡ false) (get_or-drop (at + 1) text n 0 ∙ ap (λ i. get_or text i 0) same) (prefix_len_stops is_no_line_feed rest 0 below))
+          not-false _ (subst (λ b. is_no_line_feed b ≡ false)
+          (get_or-drop (at + 1) text n 0 ∙ ap (λ i. get_or text i 0) same)
+          (prefix_len_stops is_no_line_feed rest 0 below))
 
   -- a piece that is one byte and a token
   mark : (b : ℕ) (class : Class) (kind : Kind) → byte ≡ b → class ≡ class_of b → (class ≡ Bad → ⊥)
@@ -169,15 +179,21 @@ module _ (text : List ℕ) (at : ℕ) (inside : at < length text) (outside : IsO
       → IsLongest kind (get_or text (at + 1) 0) → Step text at
   mark b class kind is class_is good none kind_is plain kind_fits longest =
       let bytes : take 1 (drop at text) ≡ b ∷ [] = ap (take 1) (cut text at inside) ∙ ap (λ x. x ∷ []) is in
-      single class (Some kind) (class_is ∙ ap class_of (sym is)) good none (ap (λ x. kind_of class (x ∷ [])) is ∙ kind_is) (subst (IsPlain true) (sym is) plain) (record { kind_is = subst (IsOfKind kind) (sym bytes) kind_fits; longest = longest })
+      single class (Some kind) (class_is ∙ ap class_of (sym is)) good none (ap (λ x. kind_of class (x ∷ [])) is ∙ kind_is)
+      (subst (IsPlain true) (sym is) plain)
+      (record { kind_is = subst (IsOfKind kind) (sym bytes) kind_fits; longest = longest })
 
   pub step_of : Step text at
   step_of = elim (byte_of byte) [
     | run class_is named ↦ of_run class_is named
     | blank class_is is ↦ single Blank None (sym class_is) (λ e. cc) (λ _. refl) refl (blank_plain byte is) tt
-    | line_end is ↦ mark line_feed LineFeed LineEnd is refl (λ e. cc) (λ _. refl) refl (record { no_hash = refl; blank = refl; allowed = refl }) refl tt
+    | line_end is ↦ mark line_feed LineFeed LineEnd is refl (λ e. cc) (λ _. refl) refl
+        (record { no_hash = refl; blank = refl; allowed = refl }) refl tt
     | comment is ↦ of_comment is
-    | colon_mark is ↦ mark colon (Mark Colon) Colon is refl (λ e. cc) (λ _. refl) refl (record { no_hash = refl; blank = refl; allowed = refl }) refl tt
+    | colon_mark is ↦ mark colon (Mark Colon) Colon is refl (λ e. cc) (λ _. refl) refl
+        (record { no_hash = refl; blank = refl; allowed = refl }) refl tt
     | star_mark is ↦ mark star (Mark Star) Star is refl (λ e. cc) (λ _. refl) refl (record { no_hash = refl; blank = refl; allowed = refl }) refl tt
-    | unknown class_is is ↦ halts (stops text at inside class_is) (ap (λ v. not (v || is_in_alphabet byte)) (outside inside ∙ differs (λ x. not (is_in_alphabet x)) hash byte refl (ap not is)) ∙ ap not is)
+    | unknown class_is is ↦ halts (stops text at inside class_is)
+        (ap (λ v. not (v || is_in_alphabet byte))
+        (outside inside ∙ differs (λ x. not (is_in_alphabet x)) hash byte refl (ap not is)) ∙ ap not is)
   ]

@@ -104,7 +104,8 @@ module _ (text : List ℕ) where
   plain_stretch at n kept within outside plain = record {
     kept_is = λ k lt. rw (closed k lt) ((plain k lt).blank);
     good = λ k lt. rw (closed k lt, (plain k lt).allowed) refl;
-    after = let next : at + suc n ≡ at + n + 1 = omega arith in outside_closed text (at + suc n) (ap (λ i. is_open (take i text)) next ∙ closed n (omega arith));
+    after = let next : at + suc n ≡ at + n + 1 = omega arith in outside_closed text (at + suc n)
+        (ap (λ i. is_open (take i text)) next ∙ closed n (omega arith));
   }
     where
       closed : (k : ℕ) → k < suc n → is_in_comment text (at + k) ≡ false

@@ -98,10 +98,13 @@ module _ (text : List ℕ) where
   after : (at n : ℕ) (kind : Option Kind) (tokens : List Token) (rest : Result (List Token) ℕ) → Advances text at n kind
       → with_token text at n kind rest ≡ Ok tokens → ((others : List Token) → rest ≡ Ok others → AreTokensFrom (at + n) others)
       → AreTokensFrom at tokens
-  after at n None tokens (Ok others) step is so_far = let same : others ≡ tokens = cc in subst (AreTokensFrom at) same (skips at n others step (so_far others refl))
+  after at n None tokens (Ok others) step is so_far = let same : others ≡ tokens = cc in subst (AreTokensFrom at) same
+      (skips at n others step (so_far others refl))
   after at n (Some kind) tokens (Ok others) step is so_far =
       let same : record { start = at; end = at + n; line = line_at text at; kind = kind } ∷ others ≡ tokens = cc in
-      subst (AreTokensFrom at) same (takes at n kind (record { start = at; end = at + n; line = line_at text at; kind = kind }) others step refl (so_far others refl))
+      subst (AreTokensFrom at) same
+      (takes at n kind (record { start = at; end = at + n; line = line_at text at; kind = kind }) others step refl
+      (so_far others refl))
   after at n None tokens (Err bad) step is so_far = absurd cc
   after at n (Some kind) tokens (Err bad) step is so_far = absurd cc
 
@@ -116,7 +119,8 @@ module _ (text : List ℕ) where
     | inr past ↦ (let none : [] ≡ tokens = let both = sym (ends at past) ∙ is in cc in subst (AreTokensFrom at) none (no_tokens at past))
     | inl inside ↦ elim (step_of text at inside outside) [
       | halts stop bad ↦ absurd (let both = sym stop ∙ is in cc)
-      | goes n kind step ↦ after at n kind tokens (tokens_at text (at + n)) step (sym step.moves_on ∙ is) (λ others rest. from_here fuel (at + n) others (omega (arith, step.some)) step.stretch.after rest)
+      | goes n kind step ↦ after at n kind tokens (tokens_at text (at + n)) step (sym step.moves_on ∙ is)
+          (λ others rest. from_here fuel (at + n) others (omega (arith, step.some)) step.stretch.after rest)
     ]
   ]
 
@@ -131,7 +135,8 @@ module _ (text : List ℕ) where
   none_bad at past = ap result_err (ends at past) ∙ sym (ap (find (is_bad text)) (none_left at past))
 
   here_bad : (at : ℕ) → at < length text → is_bad text at ≡ true → bad_from text at ≡ Some at
-  here_bad at inside bad = let more : length text - at ≡ suc (length text - (at + 1)) = omega arith in ap (λ m. find (is_bad text) (range_with_len at m)) more
+  here_bad at inside bad = let more : length text - at ≡ suc (length text - (at + 1)) = omega arith in ap
+      (λ m. find (is_bad text) (range_with_len at m)) more
       ∙ rw bad refl
 
   bad_from_here : (fuel at : ℕ) → length text ≤ at + fuel → IsOutside text at
@@ -156,7 +161,13 @@ tokens_are_of_text text tokens =
     let kept : kept_from text 0 ≡ kept_offsets text = ap (λ m. filter (is_kept text) (range_with_len 0 m)) whole in
     let enough : length text ≤ 0 + length text = omega arith in (
       λ is. let all = from_here text (length text) 0 tokens enough (outside_start text) is in
-          record { each = all.each; in_order = all.in_order; together = all.together ∙ ap (map (slice_index text)) kept; in_place = all.in_place ∙ kept },
+          record {
+            each = all.each;
+            in_order = all.in_order;
+            together = all.together ∙ ap
+                (map (slice_index text)) kept;
+            in_place = all.in_place ∙ kept;
+          },
       λ are. only_from text (length text) 0 tokens enough (outside_start text) are.each (are.in_place ∙ sym kept),
     )
 

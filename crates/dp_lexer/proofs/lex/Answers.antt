@@ -7,7 +7,13 @@ pub loop-at-init : goal.loop-at-init
 loop-at-init c = rw c.new-tokens.ensures.items (starts c.args.bytes.now)
 
 pub returns-in-Bad-clause-first_bad_byte : goal.returns-in-Bad-clause-first_bad_byte
-returns-in-Bad-clause-first_bad_byte c = (c.loop-at.at, is_bad c.loop-at.invariant c.loop-at-test.true (sym c.class_of-class.ensures ∙ c.in-Bad.is), c.loop-at.invariant.line_is, c.column_at.ensures)
+returns-in-Bad-clause-first_bad_byte c = (
+  c.loop-at.at,
+  is_bad c.loop-at.invariant c.loop-at-test.true
+      (sym c.class_of-class.ensures ∙ c.in-Bad.is),
+  c.loop-at.invariant.line_is,
+  c.column_at.ensures,
+)
 
 -- what an iteration learns
 piece : (c : After-kind_of) → IsPiece c.args.bytes.now c.loop-at.at c.more_of.result c.class_of-class.result c.kind_of.result
@@ -24,7 +30,8 @@ loop-at-preserved-in-LineFeed c =
     let found = piece (goal.at.loop-at-preserved-in-LineFeed c).After-kind_of in
     let line_is = next_line_feed c.loop-at.invariant _ _ _ found c.in-LineFeed.is in
     elim c.match-kind_of.branch [
-      | in-Some+in_ok-push w ↦ rw (w.tokens-is, w.in_ok-push.ensures.items) (keeps_token c.loop-at.invariant _ _ w.in-Some.kind _ _ (rw w.in-Some.is at found) refl line_is)
+      | in-Some+in_ok-push w ↦ rw (w.tokens-is, w.in_ok-push.ensures.items)
+          (keeps_token c.loop-at.invariant _ _ w.in-Some.kind _ _ (rw w.in-Some.is at found) refl line_is)
       | in_default-kind_of w ↦ rw w.tokens-is (keeps_none c.loop-at.invariant _ _ _ (rw w.in_default-kind_of.is at found) line_is)
     ]
 
@@ -33,7 +40,8 @@ loop-at-preserved c =
     let found = piece (goal.at.loop-at-preserved c).After-kind_of in
     let line_is = next_line_other c.loop-at.invariant _ _ _ found c.in_default-class.not-LineFeed in
     elim c.match-kind_of.branch [
-      | in-Some+in_ok-push w ↦ rw (w.tokens-is, w.in_ok-push.ensures.items) (keeps_token c.loop-at.invariant _ _ w.in-Some.kind _ _ (rw w.in-Some.is at found) refl line_is)
+      | in-Some+in_ok-push w ↦ rw (w.tokens-is, w.in_ok-push.ensures.items)
+          (keeps_token c.loop-at.invariant _ _ w.in-Some.kind _ _ (rw w.in-Some.is at found) refl line_is)
       | in_default-kind_of w ↦ rw w.tokens-is (keeps_none c.loop-at.invariant _ _ _ (rw w.in_default-kind_of.is at found) line_is)
     ]
 
