@@ -10,6 +10,7 @@ use Rattle.dp_lexer.specs.declared.LexFault.{LexFault}
 use Rattle.dp_lexer.specs.declared.LexFault.TheVariants.{BadByte, Memory}
 use Rattle.dp_lexer.specs.declared.pieces.Class.{Class}
 use Rattle.dp_lexer.specs.declared.pieces.Class.TheVariants.{Blank, Comment, Run, LineFeed, Mark, Bad}
+use Rattle.dp_lexer.specs.Comments.{first_bad}
 use Rattle.dp_lexer.specs.Bytes.{is_blank, is_line_feed, is_no_line_feed, hash, colon, star, line_at, column_at}
 
 -- what begins at a byte that stands in no comment and in no run
@@ -64,8 +65,9 @@ tokens_from text zero at (b ∷ rest) =
 unfoldable pub tokens_of : List ℕ → Result (List Token) ℕ
 tokens_of text = tokens_from text 0 0 text
 
--- the fault is want of memory, or it names the first bad byte of the text by its line and column
+-- the fault is want of memory, or it names the first bad byte by its line and column
 abbrev pub NamesFirstBadByte : List ℕ → LexFault → Type 0
 NamesFirstBadByte text (BadByte line column) =
-    (at : ℕ) × (tokens_of text ≡ Err at) × (line ≡ line_at text at) × (column ≡ column_at text at)
+    (at : ℕ) × (tokens_of text ≡ Err at) × (first_bad text ≡ Some at)
+    × (line ≡ line_at text at) × (column ≡ column_at text at)
 NamesFirstBadByte text Memory = Unit {0}

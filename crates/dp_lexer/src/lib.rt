@@ -2,6 +2,7 @@
 #![tactic(auto)]
 
 ghost use Rattle.std.specs.Prelude.{◌≡◌, ◌^◌, ◌≤◌, length, Ok, IfOk, IfErr};
+ghost use Rattle.dp_lexer.specs.TokenLaws.{AreTokensOf};
 ghost use Rattle.dp_lexer.specs.Tokens.{tokens_of, NamesFirstBadByte};
 ghost use Rattle.dp_lexer.specs.declared.LexFault.TheVariants.{Memory};
 
@@ -63,6 +64,7 @@ impl<T: Drop> From<AllocFailed<T>> for LexFault {
 pub fn lex(alloc: Global, bytes: &[u8]) -> Result<Vec<Token>, LexFault>
     requires { length bytes.now ≤ 2 ^ 26 }
     ensures tokens { IfOk result (λ tokens. tokens_of bytes.now ≡ Ok tokens.items) }
+    ensures described { IfOk result (λ tokens. AreTokensOf bytes.now tokens.items) }
     ensures first_bad_byte { IfErr result (NamesFirstBadByte bytes.now) }
 {
     let mut tokens = Vec::new(alloc);
