@@ -25,6 +25,7 @@ pub data Byte (b : ℕ) : Type 0 where
   star_mark : b ≡ star → Byte b
   unknown : class_of b ≡ Bad → is_in_alphabet b ≡ false → Byte b
 
+-- each byte is of one of these kinds
 pub byte_of : (b : ℕ) → Byte b
 byte_of b = elim (cases_Bool (is_name_byte b)) [
   | inl named ↦ run (rw named refl) named
@@ -47,5 +48,6 @@ byte_of b = elim (cases_Bool (is_name_byte b)) [
   ]
 ]
 
+-- a byte of names and numbers is no blank
 pub name_not_blank : (b : ℕ) → is_name_byte b ≡ true → is_blank b ≡ false
 name_not_blank b named = rw (differs is_name_byte space b refl named, differs is_name_byte tab b refl named, differs is_name_byte carriage_return b refl named) refl

@@ -13,6 +13,7 @@ use Rattle.dp_lexer.proofs.Classes.{differs}
 abbrev pub is_open : List ℕ → Bool
 is_open bytes = list_any (λ b. b == hash) (last_line bytes)
 
+-- behind a line feed no comment is open
 after_feed : (bytes : List ℕ) (b : ℕ) → is_line_feed b ≡ true → is_open (bytes ++ b ∷ []) ≡ false
 after_feed bytes b feed =
     let none : suffix_len is_no_line_feed (bytes ++ b ∷ []) ≡ 0
@@ -21,6 +22,7 @@ after_feed bytes b feed =
     = ap (λ n. drop (length (bytes ++ b ∷ []) - n) (bytes ++ b ∷ [])) none ∙ drop_all _ (bytes ++ b ∷ []) (omega arith) in
     ap (list_any (λ b. b == hash)) past
 
+-- behind another byte one is open where one was, or where the byte is a `#`
 after_other : (bytes : List ℕ) (b : ℕ) → is_line_feed b ≡ false
     → is_open (bytes ++ b ∷ []) ≡ (is_open bytes || (b == hash || false))
 after_other bytes b other =
@@ -33,6 +35,7 @@ after_other bytes b other =
     ∙ drop-append-le (length bytes - s) bytes (b ∷ []) (omega arith) in
     ap (list_any (λ b. b == hash)) line ∙ list_any-append (λ b. b == hash) (last_line bytes) (b ∷ [])
 
+-- false on both sides of `or` changes nothing
 or_false : (v : Bool) → (false || (v || false)) ≡ v
 or_false true = refl
 or_false false = refl
@@ -42,23 +45,28 @@ module _ (text : List ℕ) where
   abbrev pub IsOutside : ℕ → Type 0
   IsOutside at = at < length text → is_in_comment text at ≡ (get_or text at 0 == hash)
 
+  -- a line feed is in no comment
   at_feed : (at : ℕ) → at < length text → is_line_feed (get_or text at 0) ≡ true → is_in_comment text at ≡ false
   at_feed at inside feed = ap is_open (take_more text at 0 inside) ∙ after_feed (take at text) (get_or text at 0) feed
 
+  -- another byte is in a comment where one was open before it, or where it is a `#`
   at_other : (at : ℕ) → at < length text → is_line_feed (get_or text at 0) ≡ false
       → is_in_comment text at ≡ (is_open (take at text) || (get_or text at 0 == hash || false))
   at_other at inside other = ap is_open (take_more text at 0 inside) ∙ after_other (take at text) (get_or text at 0) other
 
+  -- in front of a line feed a comment can only begin
   pub outside_feed : (at : ℕ) → (at < length text → is_line_feed (get_or text at 0) ≡ true) → IsOutside at
   outside_feed at feed inside = at_feed at inside (feed inside)
       ∙ sym (differs is_line_feed hash (get_or text at 0) refl (feed inside))
 
+  -- where no comment is open, one can only begin
   pub outside_closed : (at : ℕ) → is_open (take at text) ≡ false → IsOutside at
   outside_closed at closed inside = elim (cases_Bool (is_line_feed (get_or text at 0))) [
     | inl feed ↦ outside_feed at (λ _. feed) inside
     | inr other ↦ at_other at inside other ∙ rw closed (or_false (get_or text at 0 == hash))
   ]
 
+  -- at the start of a text none is open
   pub outside_start : IsOutside 0
   outside_start = outside_closed 0 refl
 

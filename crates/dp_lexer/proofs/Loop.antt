@@ -27,6 +27,7 @@ pub record IsAt (text : List ℕ) (tokens : List Token) (at line : ℕ) : Type 0
   pub line_is : line ≡ line_at text at
   pub so_far : before tokens (tokens_at text at) ≡ tokens_of text
 
+-- before the first iteration
 pub starts : (text : List ℕ) → IsAt text [] 0 1
 unfolding tokens_of
 starts text = record { within = omega arith; line_is = refl; so_far = none_before (tokens_from text 0 0 text) }
@@ -37,13 +38,16 @@ starts text = record { within = omega arith; line_is = refl; so_far = none_befor
 
 -- ---- lines
 
+-- how many line feeds a text has
 abbrev feeds : List ℕ → ℕ
 feeds text = count_by is_line_feed text
 
+-- a first byte more
 feeds-cons : (b : ℕ) (rest : List ℕ) → feeds (b ∷ rest) ≡ cond (is_line_feed b) 1 0 + feeds rest
 feeds-cons b rest = sum_by-cons (λ x. cond (is_line_feed x) 1 0) b rest
 
 module _ (p : ℕ → Bool) (none : (b : ℕ) → p b ≡ true → is_line_feed b ≡ false) where
+  -- one byte more without a line feed
   one_more : (b : ℕ) (rest : List ℕ) (v : Bool) → p b ≡ v → feeds (take (prefix_len p rest) rest) ≡ 0
       → feeds (take (cond v (1 + prefix_len p rest) 0) (b ∷ rest)) ≡ 0
   one_more b rest true passes others = rw one-add (feeds-cons b (take (prefix_len p rest) rest) ∙ rw (none b passes) (zero-add _ ∙ others))
@@ -75,6 +79,7 @@ feed_is b feed = elim (byte_of b) [
   | unknown class_is is ↦ absurd (let clash = sym class_is ∙ feed in cc)
 ]
 
+-- another byte is no line feed
 other_is : (b : ℕ) → (class_of b ≡ LineFeed → ⊥) → is_line_feed b ≡ false
 other_is b other = elim (cases_Bool (is_line_feed b)) [
   | inl feed ↦ absurd (other (ap class_of (eqb-true b line_feed feed)))
@@ -88,6 +93,7 @@ pub record IsPiece (text : List ℕ) (at more : ℕ) (class : Class) (kind : Opt
   pub inside : at < length text
   pub class_is : class ≡ class_of (get_or text at 0)
   pub good : class ≡ Bad → ⊥
+  -- what the code counts is what the definition says
   pub more_is : more ≡ more_of class (take (length text - (at + 1)) (drop (at + 1) text))
   pub kind_is : kind ≡ kind_of class (take (at + 1 + more - at) (drop at text))
 
@@ -98,9 +104,11 @@ module _ {text : List ℕ} {at more : ℕ} {class : Class} {kind : Option Kind} 
   more_is : more ≡ more_of class rest
   more_is = piece.more_is ∙ ap (more_of class) (take_rest text (at + 1))
 
+  -- both end at the same offset
   end_is : at + suc (more_of class rest) ≡ at + 1 + more
   end_is = omega (arith, more_is)
 
+  -- what `moves` says, in the numbers of the code
   moved : tokens_at text at ≡ with_token text at (suc more) kind (tokens_at text (at + 1 + more))
   moved =
       let len : at + 1 + more - at ≡ suc more = omega arith in
@@ -112,6 +120,7 @@ module _ {text : List ℕ} {at more : ℕ} {class : Class} {kind : Option Kind} 
       ∙ ap (λ n. with_token text at (suc more) (kind_of class (take (suc more) (drop at text))) (tokens_at text n)) end_is
       ∙ ap (λ k. with_token text at (suc more) k (tokens_at text (at + 1 + more))) kind_is
 
+  -- the piece ends within the text
   more_fits : at + 1 + more ≤ length text
   more_fits = omega (arith, end_is, fits text at piece.inside class piece.class_is)
 
@@ -135,6 +144,7 @@ puts : (tokens : List Token) (token : Token) (text : List ℕ) (at len : ℕ) (k
 puts tokens token text at len kind (Ok others) is = rw is (ap (λ (l : List Token). Ok l) (sym (append_assoc tokens (_ ∷ []) others)))
 puts tokens token text at len kind (Err bad) is = refl
 
+-- the piece is none
 skips : (tokens : List Token) (text : List ℕ) (at len : ℕ) (rest : Result (List Token) ℕ)
     → before tokens (with_token text at len None rest) ≡ before tokens rest
 skips tokens text at len (Ok others) = refl
@@ -164,6 +174,7 @@ module _ {text : List ℕ} {tokens : List Token} {at line : ℕ} (here : IsAt te
     so_far = sym (ap (before tokens) (moved piece) ∙ skips tokens text at (suc more) _) ∙ here.so_far;
   }
 
+  -- the line behind a line feed is one more
   pub next_line_feed : (more : ℕ) (class : Class) (kind : Option Kind) → IsPiece text at more class kind → class ≡ LineFeed
       → line + 1 ≡ line_at text (at + 1 + more)
   next_line_feed more class kind piece feed =
@@ -171,6 +182,7 @@ module _ {text : List ℕ} {tokens : List Token} {at line : ℕ} (here : IsAt te
       = rw (feed_is (get_or text at 0) (sym piece.class_is ∙ feed)) refl in
       omega (arith, here.line_is, line_moves piece, one)
 
+  -- the line behind another piece is the same
   pub next_line_other : (more : ℕ) (class : Class) (kind : Option Kind) → IsPiece text at more class kind → (class ≡ LineFeed → ⊥)
       → line ≡ line_at text (at + 1 + more)
   next_line_other more class kind piece other =
@@ -178,9 +190,11 @@ module _ {text : List ℕ} {tokens : List Token} {at line : ℕ} (here : IsAt te
       = rw (other_is (get_or text at 0) (λ e. other (piece.class_is ∙ e))) refl in
       omega (arith, here.line_is, line_moves piece, none)
 
+  -- a bad byte here is the first
   pub is_bad : at < length text → class_of (get_or text at 0) ≡ Bad → tokens_of text ≡ Err at
   is_bad inside bad = sym here.so_far ∙ ap (before tokens) (stops text at inside bad)
 
+  -- at the end of the text all tokens are there
   pub is_done : length text ≤ at → tokens_of text ≡ Ok tokens
   unfolding tokens_from
   is_done past = sym here.so_far ∙ ap (before tokens) (ap (tokens_from text 0 at) (drop_all at text past))

@@ -30,12 +30,14 @@ data Shape (kind : Kind) (bytes : List ℕ) (next : ℕ) : Type 0 where
   is_mark : (b : ℕ) → is_name_byte b ≡ false → is_in_alphabet b ≡ true → bytes ≡ b ∷ [] → kind ≡ mark_kind b
       → Shape kind bytes next
 
+-- what the test of a word says of its parts
 word_parts : (some all decimal : Bool) → ((some && all) && not decimal) ≡ true → (all ≡ true) × (decimal ≡ false)
 word_parts true all true h = absurd (elim all as (λ v. (v && false) ≡ true → ⊥) [ true ↦ λ e. cc | false ↦ λ e. cc ] h)
 word_parts true true false h = (refl, refl)
 word_parts true false false h = absurd cc
 word_parts false all decimal h = absurd cc
 
+-- the bytes of a token have one of the two shapes
 shape_of : (kind : Kind) (bytes : List ℕ) (next : ℕ) → IsOfKind kind bytes → IsLongest kind next → Shape kind bytes next
 unfolding is_word
 shape_of Word bytes next word ends = let parts = word_parts (nat_lt 0 (length bytes)) (list_all is_name_byte bytes)
@@ -46,30 +48,38 @@ shape_of Star bytes next is ends = is_mark star refl refl is refl
 shape_of LineEnd bytes next is ends = is_mark line_feed refl refl is refl
 
 module _ (text : List ℕ) (at : ℕ) where
+  -- a byte of a slice is a byte of the text
   byte_in : (m k : ℕ) → k < m → get_or (take m (drop at text)) k 0 ≡ get_or text (at + k) 0
   byte_in m k lt = get_or-take m (drop at text) k 0 lt ∙ get_or-drop at text k 0
 
+  -- a slice within the text has its size
   size_of : (m : ℕ) → at + m ≤ length text → length (take m (drop at text)) ≡ m
   size_of m within = length-take-le m (drop at text) (omega (arith, length-drop at text))
 
+  -- each byte of a run is one of names and numbers
   named_in : (m k : ℕ) → at + m ≤ length text → list_all is_name_byte (take m (drop at text)) ≡ true → k < m
       → is_name_byte (get_or text (at + k) 0) ≡ true
   named_in m k within all lt = subst (λ b. is_name_byte b ≡ true) (byte_in m k lt)
       (AllPass-from_list_all is_name_byte (take m (drop at text)) all k 0 (omega (arith, size_of m within)))
 
+  -- so is the first
   named_here : (m : ℕ) → 0 < m → at + m ≤ length text → list_all is_name_byte (take m (drop at text)) ≡ true
       → is_name_byte (get_or text at 0) ≡ true
   named_here m some within all = rw add-zero at (named_in m 0 within all some)
 
+  -- the one byte of a mark is the first
   mark_here : (m b : ℕ) → 0 < m → take m (drop at text) ≡ b ∷ [] → b ≡ get_or text at 0
   mark_here m b some is = sym (ap (λ l. get_or l 0 0) is) ∙ (rw add-zero at (byte_in m 0 some))
 
+  -- a mark has one byte
   mark_size : (m b : ℕ) → at + m ≤ length text → take m (drop at text) ≡ b ∷ [] → m ≡ 1
   mark_size m b within is = sym (size_of m within) ∙ ap (λ l. length l) is
 
+  -- no byte both passes and fails a test
   clash_of : (b : ℕ) → is_name_byte b ≡ true → is_name_byte b ≡ false → ⊥
   clash_of b named other = let clash = sym named ∙ other in cc
 
+  -- the first byte of a token is in the alphabet
   allowed_here : (m next : ℕ) (kind : Kind) → 0 < m → at + m ≤ length text → Shape kind (take m (drop at text)) next
       → is_in_alphabet (get_or text at 0) ≡ true
   allowed_here m next kind some within (is_run all ends kind_is) = rw (named_here m some within all) refl
@@ -96,6 +106,7 @@ module _ (text : List ℕ) (at : ℕ) where
     kind_is ∙ ap mark_kind (mark_here m b some_m is ∙ sym (mark_here n c some_n is_c)) ∙ sym other_is,
   )
 
+-- a token is its four fields
 token_same : (token : Token) (start end line : ℕ) (kind : Kind) → token.start ≡ start → token.end ≡ end → token.line ≡ line
     → token.kind ≡ kind → token ≡ record { start = start; end = end; line = line; kind = kind }
 token_same token start end line kind a b c d = λ i. record { start = a i; end = b i; line = c i; kind = d i }
@@ -109,6 +120,7 @@ bad_kept false true false h bad = absurd (let clash = h refl in cc)
 bad_kept false false false h bad = (refl, refl)
 
 module _ (text : List ℕ) where
+  -- the shape of a token that begins here
   shape_at : (at : ℕ) (token : Token) → token.start ≡ at → IsTokenOf text token
       → Shape token.kind (take (token.end - at) (drop at text)) (get_or text (at + (token.end - at)) 0)
   shape_at at token starts is =
@@ -125,6 +137,7 @@ module _ (text : List ℕ) where
       = ap (λ n. range_with_len token.start n ++ flat_map offsets_of others) (sym some) ∙ in_place in
       cc
 
+  -- where a piece is a token, the first of the list is that token
   takes : (at n : ℕ) (kind : Kind) (tokens : List Token) → Advances text at n (Some kind) → All (IsTokenOf text) tokens
       → flat_map offsets_of tokens ≡ range_with_len at n ++ kept_from text (at + n)
       → ((others : List Token) → All (IsTokenOf text) others → flat_map offsets_of others ≡ kept_from text (at + n)
@@ -188,6 +201,7 @@ module _ (text : List ℕ) where
           (shape_at at token starts is) in
           let clash = sym allowed ∙ parts.1 in cc
 
+  -- one piece, and what follows it
   steps : (at n : ℕ) (kind : Option Kind) (tokens : List Token) → Advances text at n kind → All (IsTokenOf text) tokens
       → flat_map offsets_of tokens ≡ kept_from text at
       → ((others : List Token) → All (IsTokenOf text) others → flat_map offsets_of others ≡ kept_from text (at + n)
@@ -197,6 +211,7 @@ module _ (text : List ℕ) where
   steps at n (Some kind) tokens step each in_place rest = takes at n kind tokens step each
       (in_place ∙ kept-stretch text at n true step.within step.stretch) rest
 
+  -- at the end of the text no token is left
   ends : (at : ℕ) (tokens : List Token) → length text ≤ at → All (IsTokenOf text) tokens
       → flat_map offsets_of tokens ≡ kept_from text at → tokens_at text at ≡ Ok tokens
   unfolding tokens_from

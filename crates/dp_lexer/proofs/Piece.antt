@@ -23,6 +23,7 @@ passes text (suc more) at (b ∷ rest) =
     let on : at + 1 + more ≡ at + suc more = omega arith in
     passes text more (at + 1) rest ∙ ap (λ n. tokens_from text 0 n (drop more rest)) on
 
+-- a byte that is not bad does not end the tokens
 not_bad : (class : Class) (at : ℕ) (others : Result (List Token) ℕ) → (class ≡ Bad → ⊥) → unless_bad class at others ≡ others
 not_bad Bad at others good = absurd (good refl)
 not_bad Blank at others good = refl
@@ -31,6 +32,7 @@ not_bad LineFeed at others good = refl
 not_bad Run at others good = refl
 not_bad (Mark kind) at others good = refl
 
+-- a piece ends within the text
 more_of-le-length : (class : Class) (rest : List ℕ) → more_of class rest ≤ length rest
 more_of-le-length Run rest = prefix_len-le-length is_name_byte rest
 more_of-le-length Comment rest = prefix_len-le-length is_no_line_feed rest
@@ -40,9 +42,11 @@ more_of-le-length (Mark kind) rest = omega arith
 more_of-le-length Bad rest = omega arith
 
 module _ (text : List ℕ) (at : ℕ) (inside : at < length text) where
+  -- the rest of a text is a byte and what follows it
   pub cut : drop at text ≡ get_or text at 0 ∷ drop (at + 1) text
   cut = rw add-one (drop-cons text at 0 inside)
 
+  -- a bad byte ends the tokens
   pub stops : class_of (get_or text at 0) ≡ Bad → tokens_at text at ≡ Err at
   unfolding tokens_from
   stops bad = ap (tokens_from text 0 at) cut ∙ rw bad refl
@@ -52,9 +56,11 @@ module _ (text : List ℕ) (at : ℕ) (inside : at < length text) where
     abbrev pub len : ℕ
     len = suc (more_of class (drop (at + 1) text))
 
+    -- the piece ends within the text
     pub fits : at + len ≤ length text
     fits = omega (arith, more_of-le-length class (drop (at + 1) text), length-drop (at + 1) text)
 
+    -- the tokens from here on are those behind the piece, and its own where it is one
     pub moves : (class ≡ Bad → ⊥)
         → tokens_at text at ≡ with_token text at len (kind_of class (take len (drop at text))) (tokens_at text (at + len))
     unfolding tokens_from

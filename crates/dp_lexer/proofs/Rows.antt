@@ -9,6 +9,7 @@ use Rattle.dp_lexer.specs.Bytes.{line_at, column_at}
 use Rattle.dp_lexer.specs.Comments.{kept_offsets, without_blanks_and_comments, first_bad}
 use Rattle.dp_lexer.specs.Tokens.{tokens_of, tokens_from}
 
+-- a token by its start, end, line and kind
 abbrev token : ℕ → ℕ → ℕ → Kind → Token
 token start end line kind = record { start = start; end = end; line = line; kind = kind }
 

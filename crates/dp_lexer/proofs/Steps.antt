@@ -26,6 +26,7 @@ pub record IsShown (text : List ℕ) (at n : ℕ) (kind : Kind) : Type 0 where
   pub kind_is : IsOfKind kind (take n (drop at text))
   pub longest : IsLongest kind (get_or text (at + n) 0)
 
+-- the same of a piece that is a token; nothing of another
 abbrev pub ShowsToken : List ℕ → ℕ → ℕ → Option Kind → Type 0
 ShowsToken text at n None = Unit {0}
 ShowsToken text at n (Some kind) = IsShown text at n kind
@@ -38,6 +39,7 @@ pub record Advances (text : List ℕ) (at n : ℕ) (kind : Option Kind) : Type 0
   pub stretch : IsStretch text at n (is_some kind)
   pub shown : ShowsToken text at n kind
 
+-- a step from an offset: a bad byte stands there, or a piece
 pub data Step (text : List ℕ) (at : ℕ) : Type 0 where
   halts : tokens_at text at ≡ Err at → is_bad text at ≡ true → Step text at
   goes : (n : ℕ) (kind : Option Kind) → Advances text at n kind → Step text at
@@ -48,6 +50,7 @@ more_pass : (p : ℕ → Bool) (x : ℕ) (xs : List ℕ) (v : Bool) → p x ≡ 
 more_pass p x xs true passes others = let more : 1 + prefix_len p xs ≡ suc (prefix_len p xs) = omega arith in rw (more, passes) others
 more_pass p x xs false fails others = refl
 
+-- so do all that a prefix counts
 all_pass : (p : ℕ → Bool) (xs : List ℕ) → list_all p (take (prefix_len p xs) xs) ≡ true
 all_pass p [] = refl
 all_pass p (x ∷ xs) = more_pass p x xs (p x) refl (all_pass p xs)
@@ -60,11 +63,13 @@ run_kind b rest true named decimal = (named, decimal)
 run_kind b rest false named other = let some : nat_lt 0 (length (b ∷ rest)) ≡ true = lt-ltb 0 (length (b ∷ rest))
     (omega arith) in rw (some, named, other) refl
 
+-- and it is the longest where another byte follows
 run_longest : (decimal : Bool) (next : ℕ) → is_name_byte next ≡ false → IsLongest (cond decimal Number Word) next
 run_longest true next ends = ends
 run_longest false next ends = ends
 
 module _ (text : List ℕ) (at : ℕ) (inside : at < length text) (outside : IsOutside text at) where
+  -- the byte at the offset
   abbrev byte : ℕ
   byte = get_or text at 0
 
@@ -104,6 +109,7 @@ module _ (text : List ℕ) (at : ℕ) (inside : at < length text) (outside : IsO
   run_here : is_name_byte byte ≡ true → prefix_len is_name_byte (drop at text) ≡ suc run_more
   run_here named = ap (prefix_len is_name_byte) (cut text at inside) ∙ rw named (omega arith)
 
+  -- a run begins here
   of_run : class_of byte ≡ Run → is_name_byte byte ≡ true → Step text at
   of_run class_is named =
       let n : ℕ = suc run_more in
@@ -144,6 +150,7 @@ module _ (text : List ℕ) (at : ℕ) (inside : at < length text) (outside : IsO
         | inr end ↦ ap is_name_byte (get_or_past text (at + suc run_more) 0 end)
       ]
 
+  -- a comment begins here
   of_comment : byte ≡ hash → Step text at
   of_comment is =
       let n : ℕ = comment_more in
@@ -183,6 +190,7 @@ module _ (text : List ℕ) (at : ℕ) (inside : at < length text) (outside : IsO
       (subst (IsPlain true) (sym is) plain)
       (record { kind_is = subst (IsOfKind kind) (sym bytes) kind_fits; longest = longest })
 
+  -- from each offset at which a comment can only begin there is a step
   pub step_of : Step text at
   step_of = elim (byte_of byte) [
     | run class_is named ↦ of_run class_is named

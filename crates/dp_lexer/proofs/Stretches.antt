@@ -13,6 +13,7 @@ use Rattle.dp_lexer.proofs.Classes.{differs, name_not_blank}
 use Rattle.dp_lexer.proofs.CommentSteps.{is_open, IsOutside, outside_closed, stays_closed, stays_open}
 use Rattle.dp_lexer.proofs.Piece.{cut}
 
+-- numbers in a row, in two parts
 range-append : (a n m : ℕ) → range_with_len a (n + m) ≡ range_with_len a n ++ range_with_len (a + n) m
 range-append a zero m = rw (zero-add, add-zero) refl
 range-append a (suc n) m =
@@ -38,6 +39,7 @@ filter-range p v a (suc n) each = rw (here, filter-range p v (a + 1) n later) (b
     both true = refl
     both false = refl
 
+-- a search that passes none finds none
 find-range : (p : ℕ → Bool) (a n : ℕ) → ((k : ℕ) → k < n → p (a + k) ≡ false) → find p (range_with_len a n) ≡ None
 find-range p a zero each = refl
 find-range p a (suc n) each = rw here (find-range p (a + 1) n later)
@@ -61,9 +63,11 @@ pub record IsPlain (kept : Bool) (b : ℕ) : Type 0 where
   pub blank : not (is_blank b) ≡ kept
   pub allowed : is_in_alphabet b ≡ true
 
+-- a byte of names and numbers is kept
 pub named_plain : (b : ℕ) → is_name_byte b ≡ true → IsPlain true b
 named_plain b named = record { no_hash = differs is_name_byte hash b refl named; blank = ap not (name_not_blank b named); allowed = rw named refl }
 
+-- a blank is not
 pub blank_plain : (b : ℕ) → is_blank b ≡ true → IsPlain false b
 blank_plain b is = record { no_hash = differs is_blank hash b refl is; blank = ap not is; allowed = rw (is, or-true (is_name_byte b)) refl }
 
@@ -72,20 +76,24 @@ module _ (text : List ℕ) where
   abbrev pub kept_from : ℕ → List ℕ
   kept_from at = filter (is_kept text) (range_with_len at (length text - at))
 
+  -- the first bad byte from an offset on
   abbrev pub bad_from : ℕ → Option ℕ
   bad_from at = find (is_bad text) (range_with_len at (length text - at))
 
+  -- from this offset on so many bytes are all kept or all not, and not bad, and behind them a comment can only begin
   pub record IsStretch (at n : ℕ) (kept : Bool) : Type 0 where
     pub kept_is : (k : ℕ) → k < n → is_kept text (at + k) ≡ kept
     pub good : (k : ℕ) → k < n → is_bad text (at + k) ≡ false
     pub after : IsOutside text (at + n)
 
+  -- the offsets from here on are those of a stretch and those behind it
   apart : (at n : ℕ) → at + n ≤ length text
       → range_with_len at (length text - at) ≡ range_with_len at n ++ range_with_len (at + n) (length text - (at + n))
   apart at n within =
       let sum : length text - at ≡ n + (length text - (at + n)) = omega arith in
       ap (range_with_len at) sum ∙ range-append at n (length text - (at + n))
 
+  -- what is kept from here on is what is kept of the stretch and behind it
   pub kept-stretch : (at n : ℕ) (kept : Bool) → at + n ≤ length text → IsStretch at n kept
       → kept_from at ≡ cond kept (range_with_len at n) [] ++ kept_from (at + n)
   kept-stretch at n kept within stretch =
@@ -93,12 +101,14 @@ module _ (text : List ℕ) where
       ∙ filter-append (is_kept text) (range_with_len at n) (range_with_len (at + n) (length text - (at + n)))
       ∙ ap (λ l. l ++ kept_from (at + n)) (filter-range (is_kept text) kept at n stretch.kept_is)
 
+  -- a stretch has no bad byte
   pub bad-stretch : (at n : ℕ) (kept : Bool) → at + n ≤ length text → IsStretch at n kept → bad_from at ≡ bad_from (at + n)
   bad-stretch at n kept within stretch =
       ap (find (is_bad text)) (apart at n within)
       ∙ find-append (is_bad text) (range_with_len at n) (range_with_len (at + n) (length text - (at + n)))
       ∙ ap (λ o. option_or o (bad_from (at + n))) (find-range (is_bad text) at n stretch.good)
 
+  -- bytes that begin no comment are a stretch
   pub plain_stretch : (at n : ℕ) (kept : Bool) → at + suc n ≤ length text → IsOutside text at
       → ((k : ℕ) → k < suc n → IsPlain kept (get_or text (at + k) 0)) → IsStretch at (suc n) kept
   plain_stretch at n kept within outside plain = record {
@@ -111,6 +121,7 @@ module _ (text : List ℕ) where
       closed : (k : ℕ) → k < suc n → is_in_comment text (at + k) ≡ false
       closed = stays_closed text at (suc n) within (λ k lt. (plain k lt).no_hash) outside
 
+  -- a comment is a stretch
   pub comment_stretch : (at n : ℕ) → at + suc n ≤ length text → is_in_comment text at ≡ true
       → ((k : ℕ) → k < n → is_line_feed (get_or text (at + suc k) 0) ≡ false) → IsOutside text (at + suc n)
       → IsStretch at (suc n) false

@@ -28,13 +28,16 @@ module _ (text : List ℕ) where
     together : flat_map (slice_of text) tokens ≡ map (slice_index text) (kept_from text at)
     in_place : flat_map offsets_of tokens ≡ kept_from text at
 
+  -- at the end of a text no offset is left
   none_left : (at : ℕ) → length text ≤ at → range_with_len at (length text - at) ≡ []
   none_left at past = let none : length text - at ≡ 0 = omega arith in ap (range_with_len at) none
 
+  -- nor a token
   ends : (at : ℕ) → length text ≤ at → tokens_at text at ≡ Ok []
   unfolding tokens_from
   ends at past = ap (tokens_from text 0 at) (drop_all at text past)
 
+  -- so the tokens there are none
   no_tokens : (at : ℕ) → length text ≤ at → AreTokensFrom at []
   no_tokens at past = record {
     each = All-nil (IsTokenOf text);
@@ -44,10 +47,12 @@ module _ (text : List ℕ) where
     in_place = sym (ap (filter (is_kept text)) (none_left at past));
   }
 
+  -- what begins behind a piece begins behind its start
   later_from : (at n : ℕ) (tokens : List Token) → All (λ token. at + n ≤ token.start) tokens
       → All (λ token. at ≤ token.start) tokens
   later_from at n tokens later k d lt = omega (arith, later k d lt)
 
+  -- a piece that is no token
   skips : (at n : ℕ) (others : List Token) → Advances text at n None → AreTokensFrom (at + n) others → AreTokensFrom at others
   skips at n others step rest =
       let kept : kept_from text at ≡ kept_from text (at + n) = kept-stretch text at n false step.within step.stretch in
@@ -59,6 +64,7 @@ module _ (text : List ℕ) where
         in_place = rest.in_place ∙ sym kept;
       }
 
+  -- a piece that is a token
   takes : (at n : ℕ) (kind : Kind) (token : Token) (others : List Token) → Advances text at n (Some kind)
       → token ≡ record { start = at; end = at + n; line = line_at text at; kind = kind } → AreTokensFrom (at + n) others
       → AreTokensFrom at (token ∷ others)
@@ -95,6 +101,7 @@ module _ (text : List ℕ) where
       kept : kept_from text at ≡ range_with_len at n ++ kept_from text (at + n)
       kept = kept-stretch text at n true step.within step.stretch
 
+  -- a piece, and the tokens behind it
   after : (at n : ℕ) (kind : Option Kind) (tokens : List Token) (rest : Result (List Token) ℕ) → Advances text at n kind
       → with_token text at n kind rest ≡ Ok tokens → ((others : List Token) → rest ≡ Ok others → AreTokensFrom (at + n) others)
       → AreTokensFrom at tokens
@@ -124,6 +131,7 @@ module _ (text : List ℕ) where
     ]
   ]
 
+  -- a token hides no bad byte
   err-with_token : (at n : ℕ) (kind : Option Kind) (rest : Result (List Token) ℕ)
       → result_err (with_token text at n kind rest) ≡ result_err rest
   err-with_token at n None (Ok others) = refl
@@ -131,14 +139,17 @@ module _ (text : List ℕ) where
   err-with_token at n None (Err bad) = refl
   err-with_token at n (Some kind) (Err bad) = refl
 
+  -- at the end of a text no byte is bad
   none_bad : (at : ℕ) → length text ≤ at → result_err (tokens_at text at) ≡ bad_from text at
   none_bad at past = ap result_err (ends at past) ∙ sym (ap (find (is_bad text)) (none_left at past))
 
+  -- a bad byte here is the first
   here_bad : (at : ℕ) → at < length text → is_bad text at ≡ true → bad_from text at ≡ Some at
   here_bad at inside bad = let more : length text - at ≡ suc (length text - (at + 1)) = omega arith in ap
       (λ m. find (is_bad text) (range_with_len at m)) more
       ∙ rw bad refl
 
+  -- the first bad byte from an offset on ends the tokens
   bad_from_here : (fuel at : ℕ) → length text ≤ at + fuel → IsOutside text at
       → result_err (tokens_at text at) ≡ bad_from text at
   bad_from_here zero at enough outside = none_bad at (omega arith)
@@ -154,6 +165,7 @@ module _ (text : List ℕ) where
     ]
   ]
 
+-- the tokens of a text are as described, and no other list is
 pub tokens_are_of_text : TokensAreOfText
 unfolding tokens_of
 tokens_are_of_text text tokens =
@@ -171,6 +183,7 @@ tokens_are_of_text text tokens =
       λ are. only_from text (length text) 0 tokens enough (outside_start text) are.each (are.in_place ∙ sym kept),
     )
 
+-- a text has no tokens exactly where it has a bad byte, and the first is named
 pub first_bad_byte_is_named : FirstBadByteIsNamed
 unfolding tokens_of
 first_bad_byte_is_named text =

@@ -3,6 +3,7 @@ use Rattle.std.specs.Prelude.{ℕ, ◌+◌, Bool, not, ◌||◌, ◌==◌, List,
 use Rattle.std.specs.List.{after_last}
 use Rattle.dp_num.specs.Bytes.{is_name_byte}
 
+-- the bytes, by name
 abbrev pub tab : ℕ
 tab = 9
 
@@ -28,6 +29,7 @@ colon = 58
 abbrev pub is_blank : ℕ → Bool
 is_blank b = (b == space || b == tab) || b == carriage_return
 
+-- a line feed, and any other byte
 abbrev pub is_line_feed : ℕ → Bool
 is_line_feed b = b == line_feed
 
