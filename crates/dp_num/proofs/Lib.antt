@@ -1,0 +1,11 @@
+pub mod DigitRuns
+pub mod DivisorLaws
+pub mod Exponents
+pub mod Grammar
+pub mod Magnitudes
+pub mod NumberRows
+pub mod Outcomes
+pub mod Rounded
+pub mod ShapeRows
+pub mod SignificandLaws
+pub mod Shortest
