@@ -28,3 +28,8 @@ pub mod Claims
 pub mod TextLines
 pub mod PolicyText
 pub mod CertificateText
+pub mod Sizes
+pub mod SizesOfEarnings
+pub mod SizesOfTable
+pub mod SizesOfLookAhead
+pub mod SizesOfFronts
