@@ -1,3 +1,4 @@
+pub mod ActingHistories
 pub mod AdvancedBound
 pub mod AdvancedFronts
 pub mod AgreeingActions
@@ -14,6 +15,11 @@ pub mod EarnedValue
 pub mod EmptyClasses
 pub mod EnclosedQuantities
 pub mod ExactArithmetic
+pub mod ExactHistorySizes
+pub mod ExactRoom
+pub mod ExactSizes
+pub mod ExactValueRoom
+pub mod ExactValueSizes
 pub mod FittingTrees
 pub mod Floors
 pub mod FollowedBound
@@ -41,11 +47,17 @@ pub mod MergedFronts
 pub mod MergedKept
 pub mod MergedTrees
 pub mod Merging
+pub mod ModeCondition
 pub mod Modes
 pub mod NaturalSums
 pub mod OneStep
 pub mod Order
+pub mod OrderedSpans
 pub mod OutwardArithmetic
+pub mod OutwardHistoryRoom
+pub mod OutwardLookRoom
+pub mod OutwardRoom
+pub mod OutwardSizes
 pub mod OwnHistories
 pub mod PolicyTexts
 pub mod QuantityLaws
@@ -53,6 +65,8 @@ pub mod Recursion
 pub mod Ring
 pub mod RootFront
 pub mod Scales
+pub mod SizeLaws
+pub mod SizeSums
 pub mod Sums
 pub mod TableBound
 pub mod TreeActions

@@ -53,7 +53,7 @@ pub scale_of_first : (m : Model) → m.scales.start ≡ m.scales.start * step_sc
 scale_of_first m = rw pow-zero (omega arith)
 
 -- a product of numbers that are not 0
-product_positive : (a b : ℕ) → 0 < a → 0 < b → 0 < a * b
+pub product_positive : (a b : ℕ) → 0 < a → 0 < b → 0 < a * b
 product_positive zero b p q = absurd (omega arith)
 product_positive (suc a) zero p q = absurd (omega arith)
 product_positive (suc a) (suc b) p q = omega arith
