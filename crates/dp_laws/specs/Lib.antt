@@ -12,5 +12,6 @@ pub mod LookAheadLaws
 pub mod MergingLaws
 pub mod OneSpelling
 pub mod RootFrontLaws
+pub mod SizeLaws
 pub mod TreeDepthLaws
 pub mod TreeLaws

@@ -14,6 +14,7 @@ mod look_ahead;
 mod lossless_merging;
 mod policy_trees;
 mod root_fronts;
+mod sizes;
 mod texts;
 mod tree_depth;
 
@@ -55,6 +56,11 @@ pub use policy_trees::{
     actions_are_of_the_agent, tree_of_any_actions_exists, trees_with_equal_actions_are_equal,
 };
 pub use root_fronts::{every_policy_keeps_the_root_front, root_front_is_well_formed};
+pub use sizes::{
+    history_weights_are_within_bound, mode_allows_bounds, mode_allows_class_weights,
+    mode_allows_earnings, mode_allows_look_ahead, mode_allows_pushes, mode_allows_rewards,
+    mode_allows_table, mode_allows_worth,
+};
 pub use texts::{certificates_have_one_text, policies_have_one_text};
 pub use tree_depth::{
     paths_below_a_front_are_short, paths_below_the_root_are_short, paths_of_valid_trees_are_short,
