@@ -1,5 +1,5 @@
 -- The joint actions that a well-formed front has fixed and those of a joint policy exist, and the weights of joint histories and classes are weights where pushes are allowed.
-use Rattle.std.proofs.Common.{◌≡◌, ℕ, zero, suc, ◌+◌, ◌-◌, ◌^◌, ◌<◌, ◌≤◌, pos, Bool, cond, eqb, List, [], ◌∷◌, length, sym, subst, arith}
+use Rattle.std.proofs.Common.{◌≡◌, ℕ, zero, suc, ◌+◌, ◌-◌, ◌<◌, ◌≤◌, pos, cond, eqb, List, [], ◌∷◌, sym, subst, arith}
 use Rattle.dp_laws.proofs.KeptActions.{history_length}
 use Rattle.dp_laws.proofs.OwnHistories.{Below, Within, joint_below, own_histories_within}
 use Rattle.dp_laws.proofs.OneStep.{trees_after_fit, root_joint_action_below}

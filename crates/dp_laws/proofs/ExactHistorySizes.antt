@@ -1,28 +1,27 @@
 -- In exact arithmetic: how large weights and earnings along joint histories and the bound of a front are.
-use Rattle.std.proofs.Common.{◌≡◌, ℕ, zero, suc, ◌+◌, ◌-◌, ◌*◌, ◌^◌, ◌<◌, ◌≤◌, ℤ, pos, ◌+ℤ◌, unsigned_abs, List, [], ◌∷◌, Bool, true, false, filter, refl, sym, ap, ◌∙◌, arith}
-use Rattle.std.proofs.Math.Nat.{pow-suc, pow-zero, mul-le-mul_left, mul-le-mul_right, mul-le-mul}
+use Rattle.std.proofs.Common.{◌≡◌, ℕ, zero, suc, ◌+◌, ◌-◌, ◌*◌, ◌^◌, ◌<◌, ◌≤◌, unsigned_abs, List, ◌∷◌, sym, ap, ◌∙◌, arith}
+use Rattle.std.proofs.Math.Nat.{mul-le-mul_right}
 use Rattle.std.proofs.lemmas.Nat.{pow-add}
 use Rattle.dp_spec.specs.declared.span.Span.{Span}
 use Rattle.dp_laws.proofs.ExactSizes.{pushed_total, reward_total}
-use Rattle.dp_laws.proofs.ExactValueSizes.{look_most, looks_most, value_most}
+use Rattle.dp_laws.proofs.ExactValueSizes.{looks_most, value_most}
 use Rattle.dp_laws.proofs.ModeCondition.{reward_most}
 use Rattle.dp_laws.proofs.NaturalSums.{nat_history_sum_times, nat_sum_times}
 use Rattle.dp_laws.proofs.OrderedSpans.{classes_total, total_size}
 use Rattle.dp_laws.proofs.Scales.{scale_of_first, scale_of_next}
-use Rattle.dp_laws.proofs.SizeSums.{abs_add, action_look_le, agreeing_below, greatest_abs, int_sum_abs, nat_history_sum_le, nat_sum_le, reward_size_le}
+use Rattle.dp_laws.proofs.SizeSums.{action_look_le, agreeing_below, greatest_abs, nat_history_sum_le, nat_sum_le}
 use Rattle.dp_laws.proofs.Sums.{nat_sum_ext}
 use Rattle.dp_spec.specs.Arithmetic.{exact}
 use Rattle.dp_spec.specs.Bound.{agreeing_actions}
 use Rattle.dp_spec.specs.Calls.{size}
 use Rattle.dp_spec.specs.Front.{Front, class_counts, fixed_joint_action}
-use Rattle.dp_spec.specs.JointHistory.{IsJointHistory, nat_history_sum}
+use Rattle.dp_spec.specs.JointHistory.{nat_history_sum}
 use Rattle.dp_spec.specs.JointNumbers.{product}
 use Rattle.dp_spec.specs.Model.{IsModel, Model, joint_actions, joint_observations, start_at, step_scale}
 use Rattle.dp_spec.specs.Quantities.{action_look_ahead_in, class_weight_in, history_weight_in}
 use Rattle.dp_spec.specs.Sizes.{reward_size}
 use Rattle.dp_spec.specs.SizesOfEarnings.{IsActing, earned_size}
 use Rattle.dp_spec.specs.SizesOfFronts.{class_look_size}
-use Rattle.dp_spec.specs.SizesOfLookAhead.{next_look_size}
 use Rattle.dp_spec.specs.Sums.{greatest, nat_sum}
 
 module _ (m : Model) (is : IsModel m) where

@@ -1,26 +1,22 @@
 -- In exact mode every size record holds, by the mode's condition.
-use Rattle.std.proofs.Common.{◌≡◌, ℕ, zero, suc, ◌+◌, ◌*◌, ◌^◌, ◌<◌, ◌≤◌, Bool, true, ℤ, pos, ◌*ℤ◌, ◌≤ℤ◌, unsigned_abs, List, refl, sym, ap, ◌∙◌, subst, arith}
+use Rattle.std.proofs.Common.{◌≡◌, ℕ, suc, ◌*◌, ◌^◌, ◌<◌, ◌≤◌, true, ℤ, pos, ◌*ℤ◌, ◌≤ℤ◌, refl, ap, ◌∙◌, arith}
 use Rattle.std.proofs.lemmas.Int.{ints}
-use Rattle.std.proofs.Math.Nat.{le-mul_of_pos_right, pow-suc, pow-zero, mul-le-mul_left, mul-le-mul_right, mul-le-mul, one-le-pow, pow-le-pow_right}
+use Rattle.std.proofs.Math.Nat.{le-mul_of_pos_right, mul-le-mul_left, mul-le-mul_right, mul-le-mul, pow-le-pow_right}
 use Rattle.dp_spec.specs.declared.span.Span.{Span}
 use Rattle.dp_spec.specs.declared.scales.Scales.{Scales}
-use Rattle.dp_laws.proofs.ExactHistorySizes.{class_looks_most, earned_most, front_total, histories_total, start_total}
-use Rattle.dp_laws.proofs.ExactSizes.{carry_size, chance_size, gain_size, later_size, next_parts, pushed_total, reward_factor_is, reward_total, tail_size}
-use Rattle.dp_laws.proofs.ExactValueSizes.{looks_most, table_most, table_parts_most, value_most, weighted_table_most, worth_most}
-use Rattle.dp_laws.proofs.ModeCondition.{exact_condition, reward_at_most, reward_most, reward_most_some, step_scale_some}
+use Rattle.dp_laws.proofs.ExactHistorySizes.{start_total}
+use Rattle.dp_laws.proofs.ExactSizes.{chance_size, later_size, next_parts, pushed_total}
+use Rattle.dp_laws.proofs.ModeCondition.{exact_condition, reward_most, reward_most_some, step_scale_some}
 use Rattle.dp_laws.proofs.OrderedSpans.{IsOrdered, sum_ordered, sum_point, times_ordered, total_size, weight_ordered}
 use Rattle.dp_laws.proofs.Ring.{zle_of}
-use Rattle.dp_laws.proofs.Scales.{product_positive, scale_of_first, scale_of_next, step_scale_is}
-use Rattle.dp_laws.proofs.SizeSums.{nat_sum_at, nat_sum_le}
-use Rattle.dp_spec.specs.Arithmetic.{exact, point, reward_factor}
+use Rattle.dp_laws.proofs.Scales.{scale_of_first, scale_of_next, step_scale_is}
+use Rattle.dp_laws.proofs.SizeSums.{nat_sum_at}
+use Rattle.dp_spec.specs.Arithmetic.{exact}
 use Rattle.dp_spec.specs.Calls.{IsPoint, exact_calls, size}
 use Rattle.dp_spec.specs.Mode.{is_exact_mode}
-use Rattle.dp_spec.specs.Model.{IsModel, Model, joint_actions, joint_observations, obs_at, reward_at, start_at, step_scale, trans_at}
-use Rattle.dp_spec.specs.Quantities.{mdp_table_in, weights_after_in}
-use Rattle.dp_spec.specs.Sizes.{AreWeights, CanPush, CanReward, IsStep, reward_size}
-use Rattle.dp_spec.specs.SizesOfEarnings.{CanEarn, CanEvaluate, IsActing, worth_size}
-use Rattle.dp_spec.specs.SizesOfLookAhead.{CanLookAhead, next_look_size, weighted_table_size}
-use Rattle.dp_spec.specs.SizesOfTable.{CanTabulate, table_later_size, table_reward_size}
+use Rattle.dp_spec.specs.Model.{IsModel, Model, joint_actions, joint_observations, obs_at, start_at, step_scale, trans_at}
+use Rattle.dp_spec.specs.Quantities.{weights_after_in}
+use Rattle.dp_spec.specs.Sizes.{AreWeights, CanPush, IsStep}
 use Rattle.dp_spec.specs.Sums.{nat_sum}
 
 pub chance_point : (c : Scales) (w : Span) (p z : ℕ) → IsPoint w → IsPoint ((exact c).chance w p z)

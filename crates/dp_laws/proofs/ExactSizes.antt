@@ -1,7 +1,7 @@
 -- In exact arithmetic magnitudes are multiplied, so what weights come to is bounded by their sum.
-use Rattle.std.proofs.Common.{◌≡◌, ◌⊎◌, inl, inr, ℕ, zero, suc, ◌+◌, ◌*◌, ◌^◌, ◌<◌, ◌≤◌, max, ℤ, pos, ◌+ℤ◌, ◌*ℤ◌, unsigned_abs, List, [], ◌∷◌, refl, sym, ap, ◌∙◌, arith}
+use Rattle.std.proofs.Common.{◌≡◌, ◌⊎◌, inl, inr, ℕ, suc, ◌*◌, ◌^◌, ◌<◌, ◌≤◌, max, ℤ, pos, ◌*ℤ◌, unsigned_abs, refl, ap, ◌∙◌, arith}
 use Rattle.std.proofs.lemmas.Int.{unsigned_abs-mul}
-use Rattle.std.proofs.Math.Nat.{pow-suc, pow-zero, mul-le-mul_left, mul-le-mul_right, mul-le-mul}
+use Rattle.std.proofs.Math.Nat.{pow-suc, mul-le-mul_left, mul-le-mul_right}
 use Rattle.dp_spec.specs.declared.span.Span.{Span}
 use Rattle.dp_spec.specs.declared.scales.Scales.{Scales}
 use Rattle.dp_laws.proofs.ModeCondition.{reward_at_most, reward_most}
@@ -10,7 +10,7 @@ use Rattle.dp_laws.proofs.OrderedSpans.{total_size}
 use Rattle.dp_laws.proofs.Scales.{step_scale_is}
 use Rattle.dp_laws.proofs.SizeSums.{nat_sum_at, nat_sum_le, pushed_size_le}
 use Rattle.dp_laws.proofs.Sums.{nat_sum_ext, nat_sum_scale}
-use Rattle.dp_spec.specs.Arithmetic.{exact, point, reward_factor}
+use Rattle.dp_spec.specs.Arithmetic.{exact, reward_factor}
 use Rattle.dp_spec.specs.Calls.{size}
 use Rattle.dp_spec.specs.LookAhead.{weights_after}
 use Rattle.dp_spec.specs.Model.{IsModel, Model, joint_actions, joint_observations, obs_at, reward_at, step_scale, trans_at}

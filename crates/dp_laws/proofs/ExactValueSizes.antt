@@ -1,30 +1,25 @@
 -- In exact arithmetic: how large worth, the table, look-ahead, earnings and bounds are, by the sum of the weights.
-use Rattle.std.proofs.Common.{◌≡◌, ℕ, zero, suc, ◌+◌, ◌-◌, ◌*◌, ◌^◌, ◌<◌, ◌≤◌, ℤ, pos, ◌+ℤ◌, unsigned_abs, List, [], ◌∷◌, Bool, true, false, filter, refl, sym, ap, ◌∙◌, arith}
-use Rattle.std.proofs.Math.Nat.{pow-suc, pow-zero, mul-le-mul_left, mul-le-mul_right, mul-le-mul}
-use Rattle.std.proofs.lemmas.Nat.{pow-add}
+use Rattle.std.proofs.Common.{◌≡◌, ℕ, zero, suc, ◌+◌, ◌*◌, ◌^◌, ◌<◌, ◌≤◌, ◌+ℤ◌, unsigned_abs, List, refl, ap, arith}
+use Rattle.std.proofs.Math.Nat.{pow-suc, mul-le-mul_left, mul-le-mul_right, mul-le-mul}
 use Rattle.dp_spec.specs.declared.span.Span.{Span}
 use Rattle.dp_laws.proofs.ExactSizes.{carry_size, gained_total, pushed_total, reward_total, tail_size}
 use Rattle.dp_laws.proofs.ModeCondition.{reward_most}
-use Rattle.dp_laws.proofs.NaturalSums.{nat_history_sum_times, nat_sum_times}
+use Rattle.dp_laws.proofs.NaturalSums.{nat_sum_times}
 use Rattle.dp_laws.proofs.OneStep.{trees_after_fit, root_joint_action_below}
-use Rattle.dp_laws.proofs.OrderedSpans.{classes_total, total_size}
+use Rattle.dp_laws.proofs.OrderedSpans.{total_size}
 use Rattle.dp_laws.proofs.Scales.{step_scale_is}
-use Rattle.dp_laws.proofs.SizeSums.{abs_add, abs_min, below_in, greatest_abs, int_sum_abs, nat_history_sum_le, nat_sum_le, reward_size_le, table_action_le}
-use Rattle.dp_laws.proofs.Sums.{nat_sum_ext, nat_sum_scale}
-use Rattle.dp_spec.specs.Arithmetic.{exact, point}
-use Rattle.dp_spec.specs.Bound.{agreeing_actions}
+use Rattle.dp_laws.proofs.SizeSums.{abs_add, abs_min, below_in, greatest_abs, int_sum_abs, nat_sum_le, reward_size_le, table_action_le}
+use Rattle.dp_laws.proofs.Sums.{nat_sum_scale}
+use Rattle.dp_spec.specs.Arithmetic.{exact}
 use Rattle.dp_spec.specs.Calls.{size}
-use Rattle.dp_spec.specs.Front.{Front, class_counts, fixed_joint_action}
-use Rattle.dp_spec.specs.JointHistory.{IsJointHistory, nat_history_sum}
-use Rattle.dp_spec.specs.JointNumbers.{product}
-use Rattle.dp_spec.specs.Model.{IsModel, Model, joint_actions, joint_observations, obs_at, reward_at, start_at, step_scale, trans_at}
+use Rattle.dp_spec.specs.Model.{IsModel, Model, joint_actions, joint_observations, step_scale, trans_at}
 use Rattle.dp_spec.specs.PolicyTree.{IsPolicyOf, PolicyTree}
-use Rattle.dp_spec.specs.Quantities.{class_weight_in, history_weight_in, look_ahead_in, mdp_table_in, span_sum, weighted_reward_in, weighted_table_in, weights_after_in}
+use Rattle.dp_spec.specs.Quantities.{look_ahead_in, mdp_table_in, weighted_reward_in, weighted_table_in, weights_after_in}
 use Rattle.dp_spec.specs.Sizes.{reward_size}
-use Rattle.dp_spec.specs.SizesOfEarnings.{IsActing, earned_size, worth_size}
+use Rattle.dp_spec.specs.SizesOfEarnings.{worth_size}
 use Rattle.dp_spec.specs.SizesOfLookAhead.{next_look_size, weighted_table_size}
 use Rattle.dp_spec.specs.SizesOfTable.{table_later_size, table_reward_size}
-use Rattle.dp_spec.specs.Sums.{greatest, int_sum, nat_sum, numbers_below}
+use Rattle.dp_spec.specs.Sums.{int_sum, nat_sum, numbers_below}
 use Rattle.dp_spec.specs.Value.{joint_root_action, trees_after}
 
 -- a reward now and r rewards after it

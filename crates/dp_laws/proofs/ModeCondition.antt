@@ -1,5 +1,5 @@
 -- The condition of exact mode in numbers, and the greatest magnitude of a reward.
-use Rattle.std.proofs.Common.{◌≡◌, ℕ, zero, suc, ◌+◌, ◌*◌, ◌^◌, ◌<◌, ◌≤◌, Bool, true, max, ℤ, pos, unsigned_abs, List, [], ◌∷◌, get_or, sym, arith}
+use Rattle.std.proofs.Common.{◌≡◌, ℕ, zero, suc, ◌+◌, ◌*◌, ◌^◌, ◌<◌, ◌≤◌, true, max, ℤ, pos, unsigned_abs, List, [], ◌∷◌, get_or, sym, arith}
 use Rattle.std.proofs.lemmas.Bool.{leb-true}
 use Rattle.dp_laws.proofs.Scales.{product_positive}
 use Rattle.dp_spec.specs.Mode.{greatest_magnitude, is_exact_mode}

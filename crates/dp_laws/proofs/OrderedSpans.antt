@@ -1,5 +1,5 @@
 -- Spans of weights: from 0 and in order.
-use Rattle.std.proofs.Common.{◌≡◌, ℕ, zero, suc, ◌+◌, ◌*◌, ◌<◌, ◌≤◌, ◌⊎◌, inl, inr, ℤ, pos, negsuc, ◌+ℤ◌, ◌*ℤ◌, ◌≤ℤ◌, unsigned_abs, cond, Bool, true, false, eqb, List, [], ◌∷◌, refl, ◌∙◌, sym, ap, arith}
+use Rattle.std.proofs.Common.{◌≡◌, ℕ, zero, suc, ◌<◌, ◌≤◌, inl, inr, ℤ, pos, negsuc, ◌+ℤ◌, ◌*ℤ◌, ◌≤ℤ◌, cond, Bool, true, false, eqb, List, [], ◌∷◌, refl, ◌∙◌, arith}
 use Rattle.std.proofs.lemmas.Int.{ints}
 use Rattle.std.proofs.lemmas.Bool.Decides.{nat_tests}
 use Rattle.dp_spec.specs.declared.span.Span.{Span}
@@ -8,7 +8,7 @@ use Rattle.dp_laws.proofs.Order.{mul_le_right}
 use Rattle.dp_laws.proofs.Ring.{zadd_le, zle_of, zle_trans}
 use Rattle.dp_laws.proofs.SizeSums.{nat_history_sum_le, nat_sum_le, span_history_sum_size}
 use Rattle.dp_laws.proofs.Sums.{dec_eq, nat_sum_ext}
-use Rattle.dp_spec.specs.Arithmetic.{Arithmetic, point, span_add}
+use Rattle.dp_spec.specs.Arithmetic.{Arithmetic, point}
 use Rattle.dp_spec.specs.Calls.{IsPoint, size}
 use Rattle.dp_spec.specs.Front.{Front, fixed_joint_action, joint_class}
 use Rattle.dp_spec.specs.JointHistory.{IsJointHistory, nat_history_sum}

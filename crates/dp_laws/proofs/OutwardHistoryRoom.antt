@@ -1,6 +1,6 @@
 -- In outward mode what is added up along joint histories stays within its type, by the limits of a horizon.
-use Rattle.std.proofs.Common.{◌≡◌, ℕ, zero, suc, ◌+◌, ◌-◌, ◌*◌, ◌^◌, ◌<◌, ◌≤◌, Bool, false, ℤ, unsigned_abs, List, [], ◌∷◌, refl, sym, ap, ◌∙◌, arith}
-use Rattle.std.proofs.Math.Nat.{le-mul_of_pos_right, mul-le-mul, mul-le-mul_left, mul-le-mul_right, one-le-pow, pow-le-pow_right, pow-suc, pow-zero}
+use Rattle.std.proofs.Common.{◌≡◌, ℕ, zero, suc, ◌+◌, ◌-◌, ◌*◌, ◌^◌, ◌<◌, ◌≤◌, false, unsigned_abs, List, [], ◌∷◌, ap, arith}
+use Rattle.std.proofs.Math.Nat.{le-mul_of_pos_right, mul-le-mul, mul-le-mul_right, one-le-pow, pow-le-pow_right, pow-suc, pow-zero}
 use Rattle.dp_spec.specs.declared.span.Span.{Span}
 use Rattle.dp_laws.proofs.ClassCounts.{joint_classes_within_histories}
 use Rattle.dp_laws.proofs.ActingHistories.{class_weights, front_acting, history_weights}
@@ -8,17 +8,17 @@ use Rattle.dp_laws.proofs.NaturalSums.{nat_history_sum_const}
 use Rattle.dp_laws.proofs.OneStep.{trees_after_fit, root_joint_action_below}
 use Rattle.dp_laws.proofs.OrderedSpans.{classes_total, total_size, weight_ordered}
 use Rattle.dp_laws.proofs.OutwardLookRoom.{looks_room}
-use Rattle.dp_laws.proofs.OutwardRoom.{limit_room, next_weights, outward_can_push, reward_room, state_squares}
+use Rattle.dp_laws.proofs.OutwardRoom.{next_weights, outward_can_push, reward_room, state_squares}
 use Rattle.dp_laws.proofs.OutwardSizes.{next_total, start_total}
-use Rattle.dp_laws.proofs.SizeSums.{action_look_le, agreeing_below, greatest_abs, nat_history_sum_le, nat_sum_at, nat_sum_le, nat_sum_most}
+use Rattle.dp_laws.proofs.SizeSums.{action_look_le, agreeing_below, greatest_abs, nat_history_sum_le, nat_sum_at, nat_sum_most}
 use Rattle.dp_spec.specs.Arithmetic.{outward}
 use Rattle.dp_spec.specs.Bound.{agreeing_actions}
-use Rattle.dp_spec.specs.Calls.{outward_calls, size}
+use Rattle.dp_spec.specs.Calls.{outward_calls}
 use Rattle.dp_spec.specs.Front.{Front, class_counts, fixed_joint_action}
 use Rattle.dp_spec.specs.JointHistory.{IsJointHistory, nat_history_sum}
 use Rattle.dp_spec.specs.JointNumbers.{product}
 use Rattle.dp_spec.specs.Mode.{IsWithin}
-use Rattle.dp_spec.specs.Model.{IsModel, Model, joint_actions, joint_observations}
+use Rattle.dp_spec.specs.Model.{IsModel, Model, joint_observations}
 use Rattle.dp_spec.specs.PolicyTree.{IsPolicyOf, PolicyTree}
 use Rattle.dp_spec.specs.Quantities.{action_look_ahead_in, class_weight_in, history_weight_in, weights_after_in}
 use Rattle.dp_spec.specs.Sizes.{AreWeights, reward_size, weight_limit}

@@ -1,7 +1,7 @@
 -- In outward mode look-ahead stays within its type up to a horizon of 24: from above by the table, and from below by the true value.
-use Rattle.std.proofs.Common.{◌≡◌, ℕ, zero, suc, ◌+◌, ◌*◌, ◌^◌, ◌<◌, ◌≤◌, max, Bool, true, false, ℤ, pos, negsuc, ◌+ℤ◌, ◌*ℤ◌, neg_ℤ, ◌≤ℤ◌, unsigned_abs, refl, sym, ap, ◌∙◌, subst, arith}
+use Rattle.std.proofs.Common.{◌≡◌, ℕ, zero, suc, ◌+◌, ◌*◌, ◌^◌, ◌<◌, ◌≤◌, max, false, ℤ, pos, negsuc, ◌*ℤ◌, neg_ℤ, ◌≤ℤ◌, unsigned_abs, refl, sym, ap, subst, arith}
 use Rattle.std.proofs.lemmas.Int.{ints, clamps, unsigned_abs-mul}
-use Rattle.std.proofs.Math.Nat.{le_of_mul-le-mul_right, mul-le-mul, mul-le-mul_left, mul-le-mul_right, one-le-pow}
+use Rattle.std.proofs.Math.Nat.{le_of_mul-le-mul_right, mul-le-mul, mul-le-mul_right, one-le-pow}
 use Rattle.std.specs.Int.{int_min}
 use Rattle.dp_spec.specs.declared.span.Span.{Span}
 use Rattle.dp_laws.proofs.EnclosedQuantities.{look_ahead_enclosed}

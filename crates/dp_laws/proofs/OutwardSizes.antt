@@ -1,15 +1,15 @@
 -- In outward arithmetic each product grows by at most one in rounding.
-use Rattle.std.proofs.Common.{◌≡◌, ◌⊎◌, inl, inr, ℕ, zero, suc, ◌+◌, ◌*◌, ◌/◌, ◌^◌, ◌<◌, ◌≤◌, max, ℤ, pos, negsuc, ◌+ℤ◌, ◌*ℤ◌, neg_ℤ, ◌≤ℤ◌, unsigned_abs, refl, sym, ap, ◌∙◌, subst, arith}
+use Rattle.std.proofs.Common.{◌≡◌, ℕ, zero, suc, ◌+◌, ◌*◌, ◌^◌, ◌<◌, ◌≤◌, ℤ, pos, negsuc, ◌*ℤ◌, neg_ℤ, ◌≤ℤ◌, unsigned_abs, refl, sym, ap, arith}
 use Rattle.std.proofs.lemmas.Int.{ints, unsigned_abs-mul}
-use Rattle.std.proofs.Math.Nat.{div-mul-le_self, le_of_mul-le-mul_right, mul-le-mul_left, mul-le-mul_right, mul-le-mul, pow-le-pow_right}
+use Rattle.std.proofs.Math.Nat.{div-mul-le_self, le_of_mul-le-mul_right, mul-le-mul_right, mul-le-mul}
 use Rattle.dp_spec.specs.declared.span.Span.{Span}
 use Rattle.dp_laws.proofs.Floors.{le_mul_up, mul_down_le, part_abs}
 use Rattle.dp_laws.proofs.ModeCondition.{reward_within}
 use Rattle.dp_laws.proofs.NaturalSums.{nat_sum_add, nat_sum_const, nat_sum_swap, nat_sum_times}
 use Rattle.dp_laws.proofs.Order.{le_of_mul_le_right, mul_le_right}
-use Rattle.dp_laws.proofs.OrderedSpans.{IsOrdered, high_is_size, from_high, total_size}
+use Rattle.dp_laws.proofs.OrderedSpans.{IsOrdered, high_is_size, total_size}
 use Rattle.dp_laws.proofs.Ring.{zle_of, zle_trans}
-use Rattle.dp_laws.proofs.SizeSums.{nat_sum_at, nat_sum_le, nat_sum_most, pushed_size_le}
+use Rattle.dp_laws.proofs.SizeSums.{nat_sum_at, nat_sum_le, pushed_size_le}
 use Rattle.dp_spec.specs.Arithmetic.{outward}
 use Rattle.dp_spec.specs.Calls.{size}
 use Rattle.dp_spec.specs.Model.{IsModel, Model, joint_actions, joint_observations, obs_at, reward_at, start_at, trans_at}

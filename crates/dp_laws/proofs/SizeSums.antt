@@ -1,11 +1,10 @@
 -- Magnitudes of sums: no part of a sum and no order of adding is larger than the magnitudes of all parts together.
-use Rattle.std.proofs.Common.{◌≡◌, ◌⊎◌, inl, inr, ℕ, zero, suc, ◌+◌, ◌-◌, ◌*◌, ◌<◌, ◌≤◌, max, ℤ, pos, ◌+ℤ◌, unsigned_abs, List, [], ◌∷◌, cond, filter, Bool, true, false, refl, sym, subst, arith}
+use Rattle.std.proofs.Common.{◌≡◌, ◌⊎◌, inl, inr, ℕ, zero, suc, ◌+◌, ◌-◌, ◌*◌, ◌<◌, ◌≤◌, ℤ, ◌+ℤ◌, unsigned_abs, List, [], ◌∷◌, refl, arith}
 use Rattle.std.proofs.lemmas.Int.{ints, clamps}
 use Rattle.std.specs.Int.{int_max, int_min}
 use Rattle.dp_spec.specs.declared.span.Span.{Span}
 use Rattle.dp_laws.proofs.AgreeingActions.{IsIn_filter}
 use Rattle.dp_laws.proofs.Best.{IsIn}
-use Rattle.dp_laws.proofs.NaturalSums.{nat_sum_times}
 use Rattle.dp_spec.specs.Arithmetic.{Arithmetic, span_add}
 use Rattle.dp_spec.specs.Bound.{agreeing_actions}
 use Rattle.dp_spec.specs.Calls.{size}
