@@ -16,9 +16,9 @@ pub mod EmptyClasses
 pub mod EnclosedQuantities
 pub mod ExactArithmetic
 pub mod ExactHistorySizes
-pub mod ExactRoom
+pub mod ExactModeSizes
+pub mod ExactPushes
 pub mod ExactSizes
-pub mod ExactValueRoom
 pub mod ExactValueSizes
 pub mod FittingTrees
 pub mod Floors
@@ -54,9 +54,9 @@ pub mod OneStep
 pub mod Order
 pub mod OrderedSpans
 pub mod OutwardArithmetic
-pub mod OutwardHistoryRoom
-pub mod OutwardLookRoom
-pub mod OutwardRoom
+pub mod OutwardHistorySizes
+pub mod OutwardLookSizes
+pub mod OutwardModeSizes
 pub mod OutwardSizes
 pub mod OwnHistories
 pub mod PolicyTexts

@@ -1,16 +1,16 @@
 -- The size records of either mode.
-use Rattle.std.proofs.Common.{◌≡◌, ℕ, ◌<◌, ◌≤◌, Bool, true, false, List, refl}
+use Rattle.std.proofs.Common.{◌≡◌, ℕ, ◌-◌, ◌*◌, ◌^◌, ◌<◌, ◌≤◌, Bool, true, false, List, refl}
 use Rattle.dp_spec.specs.declared.scales.Scales.{Scales}
-use Rattle.dp_laws.proofs.ExactRoom.{exact_can_push}
-use Rattle.dp_laws.proofs.ExactValueRoom.{exact_can_bound, exact_can_classify, exact_can_earn, exact_can_evaluate, exact_can_look_ahead, exact_can_reward, exact_can_tabulate}
+use Rattle.dp_laws.proofs.ExactPushes.{exact_can_push}
+use Rattle.dp_laws.proofs.ExactModeSizes.{exact_can_bound, exact_can_classify, exact_can_earn, exact_can_evaluate, exact_can_look_ahead, exact_can_reward, exact_can_tabulate}
 use Rattle.dp_laws.proofs.ActingHistories.{history_weights}
-use Rattle.dp_laws.proofs.OutwardHistoryRoom.{outward_can_bound, outward_can_classify, outward_can_earn, outward_can_evaluate}
-use Rattle.dp_laws.proofs.OutwardLookRoom.{outward_can_look_ahead}
-use Rattle.dp_laws.proofs.OutwardRoom.{outward_can_push, outward_can_reward, outward_can_tabulate}
+use Rattle.dp_laws.proofs.OutwardHistorySizes.{outward_can_bound, outward_can_classify, outward_can_earn, outward_can_evaluate}
+use Rattle.dp_laws.proofs.OutwardLookSizes.{outward_can_look_ahead}
+use Rattle.dp_laws.proofs.OutwardModeSizes.{outward_can_push, outward_can_reward, outward_can_tabulate}
 use Rattle.dp_spec.specs.Arithmetic.{arithmetic, exact, outward}
 use Rattle.dp_spec.specs.Calls.{calls_in, exact_calls, outward_calls}
 use Rattle.dp_spec.specs.JointHistory.{IsJointHistory}
-use Rattle.dp_spec.specs.Mode.{IsWithin, is_exact_mode}
+use Rattle.dp_spec.specs.Mode.{is_exact_mode}
 use Rattle.dp_spec.specs.Model.{IsModel, Model, joint_observations}
 use Rattle.dp_spec.specs.Quantities.{history_weight_in}
 use Rattle.dp_spec.specs.Sizes.{AreWeights, CanPush, CanReward}
@@ -54,19 +54,19 @@ unfolding exact outward
 arithmetic_is_exact true c = refl
 arithmetic_is_exact false c = refl
 
--- ---- within the limits of a horizon
-pub mode_can_earn : (m : Model) → IsModel m → (h : ℕ) → IsWithin m h → (e : Bool) → e ≡ is_exact_mode m h → CanEarn (arithmetic e m.scales) m h
-mode_can_earn m is h within true mode = exact_can_earn m is h within.some_step mode
-mode_can_earn m is h within false mode = outward_can_earn m is h within
+-- ---- along joint histories, in outward mode within the limit of stage cells
+pub mode_can_earn : (m : Model) → IsModel m → (h : ℕ) → 0 < h → h ≤ 24 → (e : Bool) → e ≡ is_exact_mode m h → (e ≡ false → m.states * joint_observations m ^ (h - 1) ≤ 2 ^ 22) → CanEarn (arithmetic e m.scales) m h
+mode_can_earn m is h some le true mode cells = exact_can_earn m is h some mode
+mode_can_earn m is h some le false mode cells = outward_can_earn m is h le (cells refl)
 
-pub mode_can_evaluate : (m : Model) → IsModel m → (h : ℕ) → IsWithin m h → (e : Bool) → e ≡ is_exact_mode m h → CanEvaluate (arithmetic e m.scales) m h
-mode_can_evaluate m is h within true mode = exact_can_evaluate m is h within.some_step mode
-mode_can_evaluate m is h within false mode = outward_can_evaluate m is h within
+pub mode_can_evaluate : (m : Model) → IsModel m → (h : ℕ) → 0 < h → h ≤ 24 → (e : Bool) → e ≡ is_exact_mode m h → (e ≡ false → m.states * joint_observations m ^ (h - 1) ≤ 2 ^ 22) → CanEvaluate (arithmetic e m.scales) m h
+mode_can_evaluate m is h some le true mode cells = exact_can_evaluate m is h some mode
+mode_can_evaluate m is h some le false mode cells = outward_can_evaluate m is h le (cells refl)
 
-pub mode_can_classify : (m : Model) → IsModel m → (h : ℕ) → IsWithin m h → (e : Bool) → e ≡ is_exact_mode m h → CanClassify (arithmetic e m.scales) m h
-mode_can_classify m is h within true mode = exact_can_classify m is h within.some_step mode
-mode_can_classify m is h within false mode = outward_can_classify m is h within
+pub mode_can_classify : (m : Model) → IsModel m → (h : ℕ) → 0 < h → h ≤ 24 → (e : Bool) → e ≡ is_exact_mode m h → (e ≡ false → m.states * joint_observations m ^ (h - 1) ≤ 2 ^ 22) → CanClassify (arithmetic e m.scales) m h
+mode_can_classify m is h some le true mode cells = exact_can_classify m is h some mode
+mode_can_classify m is h some le false mode cells = outward_can_classify m is h le (cells refl)
 
-pub mode_can_bound : (m : Model) → IsModel m → (h : ℕ) → IsWithin m h → (e : Bool) → e ≡ is_exact_mode m h → CanBound (arithmetic e m.scales) m h
-mode_can_bound m is h within true mode = exact_can_bound m is h within.some_step mode
-mode_can_bound m is h within false mode = outward_can_bound m is h within
+pub mode_can_bound : (m : Model) → IsModel m → (h : ℕ) → 0 < h → h ≤ 24 → (e : Bool) → e ≡ is_exact_mode m h → (e ≡ false → m.states * joint_observations m ^ (h - 1) ≤ 2 ^ 22) → CanBound (arithmetic e m.scales) m h
+mode_can_bound m is h some le true mode cells = exact_can_bound m is h some mode
+mode_can_bound m is h some le false mode cells = outward_can_bound m is h le (cells refl)

@@ -1,9 +1,9 @@
 -- That no number of either mode leaves its type: in exact mode by the mode's condition, in outward mode by the limits.
-use Rattle.std.specs.Prelude.{ℕ, ◌<◌, ◌≤◌, ◌≡◌, Bool, List}
+use Rattle.std.specs.Prelude.{ℕ, ◌*◌, ◌-◌, ◌^◌, ◌<◌, ◌≤◌, ◌≡◌, Bool, false, List}
 use Rattle.dp_spec.specs.Arithmetic.{arithmetic}
 use Rattle.dp_spec.specs.Calls.{calls_in}
 use Rattle.dp_spec.specs.JointHistory.{IsJointHistory}
-use Rattle.dp_spec.specs.Mode.{IsWithin, is_exact_mode}
+use Rattle.dp_spec.specs.Mode.{is_exact_mode}
 use Rattle.dp_spec.specs.Model.{IsModel, Model, joint_observations}
 use Rattle.dp_spec.specs.Quantities.{history_weight_in}
 use Rattle.dp_spec.specs.Sizes.{AreWeights, CanPush, CanReward}
@@ -36,20 +36,24 @@ HistoryWeightsAreWithinBound =
     (m : Model) → IsModel m → (h : ℕ) → 0 < h → h ≤ 24 → (e : Bool) → e ≡ is_exact_mode m h → (act : List ℕ → ℕ) (t : ℕ) (H : List ℕ) → t ≤ h → IsActing m t act → IsJointHistory (joint_observations m) t H →
     AreWeights e m t (history_weight_in (arithmetic e m.scales) m act H)
 
--- ---- sums along joint histories, within the limits of a horizon
+-- ---- sums along joint histories, in outward mode within the limit of stage cells
 
 -- what is earned
 abbrev pub ModeAllowsEarnings : Type 0
-ModeAllowsEarnings = (m : Model) → IsModel m → (h : ℕ) → IsWithin m h → (e : Bool) → e ≡ is_exact_mode m h → CanEarn (arithmetic e m.scales) m h
+ModeAllowsEarnings =
+    (m : Model) → IsModel m → (h : ℕ) → 0 < h → h ≤ 24 → (e : Bool) → e ≡ is_exact_mode m h → (e ≡ false → m.states * joint_observations m ^ (h - 1) ≤ 2 ^ 22) → CanEarn (arithmetic e m.scales) m h
 
 -- the worth of a joint policy
 abbrev pub ModeAllowsWorth : Type 0
-ModeAllowsWorth = (m : Model) → IsModel m → (h : ℕ) → IsWithin m h → (e : Bool) → e ≡ is_exact_mode m h → CanEvaluate (arithmetic e m.scales) m h
+ModeAllowsWorth =
+    (m : Model) → IsModel m → (h : ℕ) → 0 < h → h ≤ 24 → (e : Bool) → e ≡ is_exact_mode m h → (e ≡ false → m.states * joint_observations m ^ (h - 1) ≤ 2 ^ 22) → CanEvaluate (arithmetic e m.scales) m h
 
 -- the weights of joint classes
 abbrev pub ModeAllowsClassWeights : Type 0
-ModeAllowsClassWeights = (m : Model) → IsModel m → (h : ℕ) → IsWithin m h → (e : Bool) → e ≡ is_exact_mode m h → CanClassify (arithmetic e m.scales) m h
+ModeAllowsClassWeights =
+    (m : Model) → IsModel m → (h : ℕ) → 0 < h → h ≤ 24 → (e : Bool) → e ≡ is_exact_mode m h → (e ≡ false → m.states * joint_observations m ^ (h - 1) ≤ 2 ^ 22) → CanClassify (arithmetic e m.scales) m h
 
 -- the bound of a front
 abbrev pub ModeAllowsBounds : Type 0
-ModeAllowsBounds = (m : Model) → IsModel m → (h : ℕ) → IsWithin m h → (e : Bool) → e ≡ is_exact_mode m h → CanBound (arithmetic e m.scales) m h
+ModeAllowsBounds =
+    (m : Model) → IsModel m → (h : ℕ) → 0 < h → h ≤ 24 → (e : Bool) → e ≡ is_exact_mode m h → (e ≡ false → m.states * joint_observations m ^ (h - 1) ≤ 2 ^ 22) → CanBound (arithmetic e m.scales) m h

@@ -31,7 +31,8 @@ pub fn history_weights_are_within_bound()
     ensures { HistoryWeightsAreWithinBound }
 {}
 
-/// Within the limits of a horizon what is earned along joint histories can be added up.
+/// What is earned along joint histories can be added up: in exact mode always, and in outward
+/// mode within the limit of stage cells.
 #[tactic(auto, using(crate::proofs::SizeLaws::mode_can_earn))]
 pub fn mode_allows_earnings()
     ensures { ModeAllowsEarnings }

@@ -4,7 +4,7 @@ use Rattle.std.proofs.Math.Nat.{le-mul_of_pos_right, pow-suc, mul-le-mul_left, m
 use Rattle.std.proofs.lemmas.Nat.{pow-add}
 use Rattle.dp_spec.specs.declared.span.Span.{Span}
 use Rattle.dp_laws.proofs.ExactHistorySizes.{class_looks_most, earned_most, front_total, histories_total}
-use Rattle.dp_laws.proofs.ExactRoom.{exact_can_push, chance_point, chances_step, power_grows, weight_room, whole_room}
+use Rattle.dp_laws.proofs.ExactPushes.{exact_can_push, chance_point, chances_step, power_grows, weight_room, whole_room}
 use Rattle.dp_laws.proofs.ExactSizes.{chance_size, gained_total, reward_factor_is, reward_total, tail_size}
 use Rattle.dp_laws.proofs.ExactValueSizes.{looks_most, one_size, table_most, table_parts_most, value_most, weighted_table_most, worth_most}
 use Rattle.dp_laws.proofs.ActingHistories.{class_weights, front_acting}

@@ -1,4 +1,4 @@
--- In outward mode what is added up along joint histories stays within its type, by the limits of a horizon.
+-- In outward mode what is added up along joint histories stays within its type, up to a horizon of 24, by the limit of stage cells.
 use Rattle.std.proofs.Common.{◌≡◌, ℕ, zero, suc, ◌+◌, ◌-◌, ◌*◌, ◌^◌, ◌<◌, ◌≤◌, false, unsigned_abs, List, [], ◌∷◌, ap, arith}
 use Rattle.std.proofs.Math.Nat.{le-mul_of_pos_right, mul-le-mul, mul-le-mul_right, one-le-pow, pow-le-pow_right, pow-suc, pow-zero}
 use Rattle.dp_spec.specs.declared.span.Span.{Span}
@@ -7,8 +7,8 @@ use Rattle.dp_laws.proofs.ActingHistories.{class_weights, front_acting, history_
 use Rattle.dp_laws.proofs.NaturalSums.{nat_history_sum_const}
 use Rattle.dp_laws.proofs.OneStep.{trees_after_fit, root_joint_action_below}
 use Rattle.dp_laws.proofs.OrderedSpans.{classes_total, total_size, weight_ordered}
-use Rattle.dp_laws.proofs.OutwardLookRoom.{looks_room}
-use Rattle.dp_laws.proofs.OutwardRoom.{next_weights, outward_can_push, reward_room, state_squares}
+use Rattle.dp_laws.proofs.OutwardLookSizes.{looks_room}
+use Rattle.dp_laws.proofs.OutwardModeSizes.{next_weights, outward_can_push, reward_room, state_squares}
 use Rattle.dp_laws.proofs.OutwardSizes.{next_total, start_total}
 use Rattle.dp_laws.proofs.SizeSums.{action_look_le, agreeing_below, greatest_abs, nat_history_sum_le, nat_sum_at, nat_sum_most}
 use Rattle.dp_spec.specs.Arithmetic.{outward}
@@ -17,7 +17,6 @@ use Rattle.dp_spec.specs.Calls.{outward_calls}
 use Rattle.dp_spec.specs.Front.{Front, class_counts, fixed_joint_action}
 use Rattle.dp_spec.specs.JointHistory.{IsJointHistory, nat_history_sum}
 use Rattle.dp_spec.specs.JointNumbers.{product}
-use Rattle.dp_spec.specs.Mode.{IsWithin}
 use Rattle.dp_spec.specs.Model.{IsModel, Model, joint_observations}
 use Rattle.dp_spec.specs.PolicyTree.{IsPolicyOf, PolicyTree}
 use Rattle.dp_spec.specs.Quantities.{action_look_ahead_in, class_weight_in, history_weight_in, weights_after_in}
@@ -42,10 +41,7 @@ some_of_sum : (n d : ℕ) (f : ℕ → ℕ) → 0 < d → nat_sum n f ≡ d → 
 some_of_sum zero d f some e = absurd (omega arith)
 some_of_sum (suc n) d f some e = omega arith
 
-module _ (m : Model) (is : IsModel m) (h : ℕ) (within : IsWithin m h) where
-  horizon : h ≤ 24
-  horizon = let limit = within.horizon in omega arith
-
+module _ (m : Model) (is : IsModel m) (h : ℕ) (horizon : h ≤ 24) (cells : m.states * joint_observations m ^ (h - 1) ≤ 2 ^ 22) where
   some_state : 0 < m.states
   some_state = some_of_sum m.states m.scales.start _ is.scales.start is.rows.start
 
@@ -57,7 +53,7 @@ module _ (m : Model) (is : IsModel m) (h : ℕ) (within : IsWithin m h) where
   histories_before t lt =
       let grows : joint_observations m ^ t ≤ joint_observations m ^ (h - 1) = pow-le-pow_right some_observation (omega arith) in
       let states = le-mul_of_pos_right (joint_observations m ^ (h - 1)) some_state in
-      let cells = within.stage_cells in omega arith
+      omega arith
 
   -- ---- worth and earnings
   worth_room : (t r : ℕ) (ws : ℕ → Span) (qs : List PolicyTree) → t + r ≡ h → AreWeights false m t ws → IsPolicyOf m r qs → worth_size (outward m.scales) m r ws qs ≤ reward_count (joint_observations m) r * 2 ^ 82
@@ -72,9 +68,9 @@ module _ (m : Model) (is : IsModel m) (h : ℕ) (within : IsWithin m h) where
       let more = mul-le-mul_right (2 ^ 82) (count_more O r some_observation) in
       omega arith
 
-  count_room : (r : ℕ) → r ≤ h → reward_count (joint_observations m) r ≤ 2 ^ 26
+  count_room : (r : ℕ) → r ≤ h → reward_count (joint_observations m) r ≤ 2 ^ 27
   count_room zero le = omega arith
-  count_room (suc r) le = let steps : suc r ≤ 2 ^ 4 = (let limit = within.horizon in omega arith) in mul-le-mul steps (histories_before r le)
+  count_room (suc r) le = let steps : suc r ≤ 2 ^ 5 = omega arith in mul-le-mul steps (histories_before r le)
 
   worth_fits : (t r : ℕ) (ws : ℕ → Span) (qs : List PolicyTree) → t + r ≡ h → AreWeights false m t ws → IsPolicyOf m r qs → worth_size (outward m.scales) m r ws qs < 2 ^ 127
   worth_fits t r ws qs e are p = let most = worth_room t r ws qs e are p in let few = mul-le-mul_right (2 ^ 82) (count_room r (omega arith)) in omega arith
@@ -100,8 +96,8 @@ module _ (m : Model) (is : IsModel m) (h : ℕ) (within : IsWithin m h) where
       let few = mul-le-mul_right (2 ^ 82) (histories_before f le) in
       omega arith
 
-  earned_most : (act : List ℕ → ℕ) (f : ℕ) → f ≤ h → IsActing m f act → earned_size (outward m.scales) m act h f ≤ 2 ^ 108
-  earned_most act f le acts = let most = earned_room act f le acts in let limit = within.horizon in omega arith
+  earned_most : (act : List ℕ → ℕ) (f : ℕ) → f ≤ h → IsActing m f act → earned_size (outward m.scales) m act h f ≤ 2 ^ 109
+  earned_most act f le acts = let most = earned_room act f le acts in omega arith
 
   pub outward_can_earn : CanEarn (outward m.scales) m h
   outward_can_earn = record { add = λ act f le acts. let most = earned_most act f le acts in omega arith }
@@ -124,7 +120,7 @@ module _ (m : Model) (is : IsModel m) (h : ℕ) (within : IsWithin m h) where
   history_small act t H le acts hist =
       let most = history_total act t H le acts hist in
       let states = is.sizes.states_limit in
-      let steps : t ≤ 2 ^ 4 = (let limit = within.horizon in omega arith) in
+      let steps : t ≤ 2 ^ 5 = omega arith in
       let grown = mul-le-mul steps (state_squares m is).0 in
       omega arith
 

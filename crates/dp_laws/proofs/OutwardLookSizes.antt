@@ -12,7 +12,7 @@ use Rattle.dp_laws.proofs.NaturalSums.{nat_sum_add, nat_sum_const, nat_sum_times
 use Rattle.dp_laws.proofs.Order.{mul_le_right}
 use Rattle.dp_laws.proofs.OrderedSpans.{IsOrdered, total_size, weight_ordered}
 use Rattle.dp_laws.proofs.OutwardArithmetic.{outward_sound}
-use Rattle.dp_laws.proofs.OutwardRoom.{limit_room, next_weights, reward_room, table_room, weight_le, weight_of}
+use Rattle.dp_laws.proofs.OutwardModeSizes.{limit_room, next_weights, reward_room, table_room, weight_le, weight_of}
 use Rattle.dp_laws.proofs.OutwardSizes.{tail_most}
 use Rattle.dp_laws.proofs.Ring.{zle_of}
 use Rattle.dp_laws.proofs.Scales.{product_positive}
