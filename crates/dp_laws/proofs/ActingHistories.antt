@@ -17,17 +17,20 @@ use Rattle.dp_spec.specs.Value.{joint_root_action}
 use Rattle.dp_spec.specs.WellFormed.{AreAgentFronts, IsFront}
 use Rattle.dp_spec.specs.WellFormed.AreAgentFronts.{and_agent, no_agents}
 
+-- the fixed actions after own histories are actions of the agents
 fixed_below : {f : ℕ} {bs ns : List ℕ} {ds : List AgentFront} → AreAgentFronts f bs ns ds → (t : ℕ) (xs : List ℕ) → t < f → Within ns t xs → Below bs (fixed_actions ds t xs)
 fixed_below no_agents t xs lt inside = tt
 fixed_below (and_agent k ks) t [] lt inside = absurd inside
 fixed_below (and_agent k ks) t (x ∷ xs) lt inside = (k.fixed_below t x lt inside.0, fixed_below ks t xs lt inside.1)
 
+-- the joint actions that a well-formed front has fixed exist
 pub front_acting : (m : Model) (h : ℕ) (F : Front) → IsFront m h F → IsActing m F.stage (fixed_joint_action m F)
 unfolding fixed_joint_action joint_actions joint_observations
 front_acting m h F front i H lt hist =
     joint_below m.actions _
     (subst (λ (t : ℕ). Below m.actions (fixed_actions F.agents t (own_histories m.observations H))) (sym (history_length _ i H hist)) (fixed_below front.agents i (own_histories m.observations H) lt (own_histories_within m.observations i H hist)))
 
+-- what remains of a joint policy after a joint history is a joint policy of the steps that are left
 trees_after_history_fit : (m : Model) (h : ℕ) (qs : List PolicyTree) → IsPolicyOf m h qs → (t r : ℕ) (H : List ℕ) → t + r ≡ h → IsJointHistory (joint_observations m) t H → IsPolicyOf m r (trees_after_history m qs H)
 trees_after_history_fit m h qs p zero r [] e hist = let same : r ≡ h = omega arith in subst (λ (n : ℕ). IsPolicyOf m n qs) (sym same) p
 trees_after_history_fit m h qs p zero r (o ∷ H) e hist = absurd hist

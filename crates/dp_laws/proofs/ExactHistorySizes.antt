@@ -25,6 +25,7 @@ use Rattle.dp_spec.specs.SizesOfFronts.{class_look_size}
 use Rattle.dp_spec.specs.Sums.{greatest, nat_sum}
 
 module _ (m : Model) (is : IsModel m) where
+  -- a start weight is its chance
   start_size : (b : ℕ) → size ((exact m.scales).start b) ≡ b
   unfolding exact
   start_size b = omega arith
@@ -46,9 +47,11 @@ module _ (m : Model) (is : IsModel m) where
       let e = scale_of_next m t in
       omega arith
 
+  -- the power of the horizon by a time and the steps that are left
   split_power : (f r h : ℕ) → f + r ≡ h → step_scale m ^ f * step_scale m ^ r ≡ step_scale m ^ h
   split_power f r h e = sym (pow-add (step_scale m) f r) ∙ ap (λ (n : ℕ). step_scale m ^ n) e
 
+  -- a reward of the weights of a time, counted in the whole value
   regroup : (d p x q k : ℕ) → p * q ≡ k → d * p * (x * q) ≡ d * k * x
   regroup d p x q k e = omega (arith, ap (λ (n : ℕ). d * n * x) e)
 
@@ -76,6 +79,7 @@ module _ (m : Model) (is : IsModel m) where
   pub action_look_most : (r k : ℕ) (ws : ℕ → Span) (a : ℕ) → a < joint_actions m → unsigned_abs (action_look_ahead_in (exact m.scales) m r ws a k) ≤ total_size m ws * value_most m (suc r)
   action_look_most r k ws a pa = let parts = action_look_le (exact m.scales) m r ws a k in let most = looks_most m is r (k - 1) ws a pa in omega arith
 
+  -- a value over the steps that are left against the weights of a stage
   value_at_stage : (f r h : ℕ) → f + suc r ≡ h → m.scales.start * step_scale m ^ f * value_most m (suc r) ≡ suc r * (m.scales.start * step_scale m ^ h * reward_most m)
   unfolding value_most
   value_at_stage f r h e = grouped m.scales.start (step_scale m ^ f) (suc r) (reward_most m) (step_scale m ^ suc r) (step_scale m ^ h) (split_power f (suc r) h e)
@@ -83,6 +87,7 @@ module _ (m : Model) (is : IsModel m) where
       grouped : (d p r x q k : ℕ) → p * q ≡ k → d * p * (r * x * q) ≡ r * (d * k * x)
       grouped d p r x q k e = omega (arith, ap (λ (n : ℕ). r * d * n * x) e)
 
+  -- the best look-aheads of all joint classes together
   pub class_looks_most : (F : Front) (r k h : ℕ) → F.stage + suc r ≡ h → IsActing m F.stage (fixed_joint_action m F) → class_look_size (exact m.scales) m r F k ≤ suc r * (m.scales.start * step_scale m ^ h * reward_most m)
   unfolding class_look_size
   class_looks_most F r k h e acts =

@@ -29,32 +29,40 @@ max_times a b n =
     either : (a b : ℕ) → (a ≤ b) ⊎ (b ≤ a)
     either a b = grind arith
 
+-- a span whose ends are multiplied
 size_times : (w v : Span) (n : ℕ) → unsigned_abs v.low ≡ unsigned_abs w.low * n → unsigned_abs v.high ≡ unsigned_abs w.high * n → size v ≡ size w * n
 size_times w v n e f = rw (e, f) (max_times (unsigned_abs w.low) (unsigned_abs w.high) n)
 
+-- a weight times chances
 pub chance_size : (c : Scales) (w : Span) (p z : ℕ) → size ((exact c).chance w p z) ≡ size w * (p * z)
 unfolding exact
 chance_size c w p z = size_times w ((exact c).chance w p z) (p * z) (unsigned_abs-mul w.low (pos (p * z))) (unsigned_abs-mul w.high (pos (p * z)))
 
+-- a weight times the discount
 pub later_size : (c : Scales) (w : Span) → size ((exact c).later w) ≡ size w * c.gain
 unfolding exact
 later_size c w = size_times w ((exact c).later w) c.gain (unsigned_abs-mul w.low (pos c.gain)) (unsigned_abs-mul w.high (pos c.gain))
 
+-- a product of three
 abs_times : (x r : ℤ) (k : ℕ) → unsigned_abs (x *ℤ (r *ℤ pos k)) ≡ unsigned_abs x * (unsigned_abs r * k)
 abs_times x r k = unsigned_abs-mul x (r *ℤ pos k) ∙ ap (λ (n : ℕ). unsigned_abs x * n) (unsigned_abs-mul r (pos k))
 
+-- a weight times a reward
 pub gain_size : (c : Scales) (w : Span) (r : ℤ) (rest : ℕ) → size ((exact c).gain w r rest) ≡ size w * (unsigned_abs r * reward_factor c rest)
 unfolding exact
 gain_size c w r rest = size_times w ((exact c).gain w r rest) (unsigned_abs r * reward_factor c rest) (abs_times w.low r (reward_factor c rest)) (abs_times w.high r (reward_factor c rest))
 
+-- a value of the table one step earlier
 pub carry_size : (c : Scales) (v : ℤ) (p : ℕ) → unsigned_abs ((exact c).carry v p) ≡ unsigned_abs v * (p * c.obs * c.gain)
 unfolding exact
 carry_size c v p = unsigned_abs-mul v (pos (p * c.obs * c.gain))
 
+-- a weight against a value of the table
 pub tail_size : (c : Scales) (w : Span) (v : ℤ) → unsigned_abs ((exact c).tail w v) ≤ size w * unsigned_abs v
 unfolding exact
 tail_size c w v = let le : unsigned_abs w.low ≤ size w = omega arith in rw (unsigned_abs-mul w.low v) (mul-le-mul_right (unsigned_abs v) le)
 
+-- the factor of a reward by the step scale
 pub reward_factor_is : (m : Model) (r : ℕ) → reward_factor m.scales r ≡ m.scales.discount * step_scale m ^ r
 unfolding reward_factor step_scale
 reward_factor_is m r = refl
@@ -63,6 +71,7 @@ reward_factor_is m r = refl
 pushed_part : (c : Scales) (w : Span) (p z : ℕ) → size ((exact c).later ((exact c).chance w p z)) ≡ size w * (p * z * c.gain)
 pushed_part c w p z = later_size c ((exact c).chance w p z) ∙ ap (λ (n : ℕ). n * c.gain) (chance_size c w p z) ∙ omega arith
 
+-- one weight with its chances and reward
 gained_part : (m : Model) (w : Span) (p z r : ℕ) (x : ℤ) → size ((exact m.scales).gain ((exact m.scales).chance w p z) x r) ≡ size w * (p * z) * (unsigned_abs x * (m.scales.discount * step_scale m ^ r))
 gained_part m w p z r x =
     gain_size m.scales ((exact m.scales).chance w p z) x r ∙ ap (λ (n : ℕ). n * (unsigned_abs x * reward_factor m.scales r)) (chance_size m.scales w p z)
@@ -90,6 +99,7 @@ module _ (m : Model) (is : IsModel m) where
       over_t : (w z g d n : ℕ) (f : ℕ → ℕ) → nat_sum n f ≡ d → nat_sum n (λ t. w * (f t * z * g)) ≡ w * (d * z * g)
       over_t w z g d n f e = nat_sum_ext n _ (λ t. w * f t * (z * g)) (λ t h. omega arith) ∙ nat_sum_scale n w (z * g) f ∙ ap (λ (x : ℕ). w * x * (z * g)) e ∙ omega arith
 
+  -- the parts of a next weight are those of the exact definition, from the magnitudes
   pushed_parts : (ws : ℕ → Span) (a o t : ℕ) → nat_sum m.states (λ s. size ((exact m.scales).later ((exact m.scales).chance (ws s) (trans_at m a s t) (obs_at m a t o)))) ≡ weights_after m (λ s. size (ws s)) a o t
   unfolding weights_after
   pushed_parts ws a o t = nat_sum_ext m.states _ _ (λ s p. pushed_part m.scales (ws s) (trans_at m a s t) (obs_at m a t o))
@@ -117,6 +127,7 @@ module _ (m : Model) (is : IsModel m) where
       omega arith
 
   -- ---- rewards
+  -- a reward over the scales of a step
   step_of : (most r w : ℕ) → w * m.scales.trans * (m.scales.obs * (most * (m.scales.discount * step_scale m ^ r))) ≡ w * (most * step_scale m ^ suc r)
   step_of most r w = scaled w m.scales.trans m.scales.obs m.scales.discount most (step_scale m ^ r) (step_scale m) _ (step_scale_is m) (pow-suc (step_scale m) r)
     where

@@ -30,16 +30,19 @@ one_more M K r most p q e = omega (arith, ap (λ (n : ℕ). M * r * most * n) e)
 unfoldable pub value_most : Model → ℕ → ℕ
 value_most m r = r * reward_most m * step_scale m ^ r
 
+-- the weight 1
 pub one_size : (m : Model) → size (exact m.scales).one ≡ 1
 unfolding exact
 one_size m = refl
 
 module _ (m : Model) (is : IsModel m) where
+  -- a reward now and the values after it are a value over one step more
   one_step_more : (M r : ℕ) → M * (reward_most m * step_scale m ^ suc r) + M * step_scale m * value_most m r ≡ M * value_most m (suc r)
   unfolding value_most
   one_step_more M r = one_more M (step_scale m) r (reward_most m) (step_scale m ^ r) (step_scale m ^ suc r) (pow-suc (step_scale m) r)
 
   -- ---- worth
+  -- all parts of the worth of a joint policy
   pub worth_most : (r : ℕ) (ws : ℕ → Span) (qs : List PolicyTree) → IsPolicyOf m r qs → worth_size (exact m.scales) m r ws qs ≤ total_size m ws * value_most m r
   worth_most zero ws qs p = omega arith
   worth_most (suc r) ws qs p =
@@ -55,15 +58,18 @@ module _ (m : Model) (is : IsModel m) where
       omega arith
 
   -- ---- the table
+  -- all parts of the reward now
   pub table_reward_most : (r a s : ℕ) → a < joint_actions m → s < m.states → table_reward_size (exact m.scales) m r a s ≤ reward_most m * step_scale m ^ suc r
   unfolding table_reward_size
   table_reward_most r a s pa ps =
       let all = gained_total m is (exact m.scales).one a s r pa ps in
       let e = ap (λ (n : ℕ). n * (reward_most m * step_scale m ^ suc r)) (one_size m) in omega arith
 
+  -- one part of a value one step earlier
   carry_part : (V p z g d : ℕ) (v : ℕ) → v ≤ V → g ≤ d → v * (p * z * g) ≤ V * p * (z * d)
   carry_part V p z g d v le lg = let one = mul-le-mul le (mul-le-mul_left (p * z) lg) in omega arith
 
+  -- all parts of the value after it
   pub table_later_most : (r a s : ℕ) → a < joint_actions m → s < m.states → ((t : ℕ) → t < m.states → unsigned_abs (mdp_table_in (exact m.scales) m r t) ≤ value_most m r) → table_later_size (exact m.scales) m r a s ≤ step_scale m * value_most m r
   unfolding table_later_size
   table_later_most r a s pa ps small =
@@ -77,6 +83,7 @@ module _ (m : Model) (is : IsModel m) where
       joined : (V dt do' dg k n : ℕ) → n ≡ dt → dt * do' * dg ≡ k → V * n * (do' * dg) ≡ k * V
       joined V dt do' dg k n e f = omega (arith, ap (λ (x : ℕ). V * x * (do' * dg)) e, ap (λ (x : ℕ). V * x) f)
 
+  -- both together
   pub table_parts_most : (r a s : ℕ) → a < joint_actions m → s < m.states → ((t : ℕ) → t < m.states → unsigned_abs (mdp_table_in (exact m.scales) m r t) ≤ value_most m r) →
       table_reward_size (exact m.scales) m r a s + table_later_size (exact m.scales) m r a s ≤ value_most m (suc r)
   table_parts_most r a s pa ps small =
@@ -84,6 +91,7 @@ module _ (m : Model) (is : IsModel m) where
       let after = table_later_most r a s pa ps small in
       let both = one_step_more 1 r in omega arith
 
+  -- a value of the table
   pub table_most : (r s : ℕ) → s < m.states → unsigned_abs (mdp_table_in (exact m.scales) m r s) ≤ value_most m r
   table_most zero s ps = omega arith
   table_most (suc r) s ps =
@@ -91,6 +99,7 @@ module _ (m : Model) (is : IsModel m) where
       (λ a h. let pa = below_in (joint_actions m) a h in let parts = table_action_le (exact m.scales) m r a s in let most = table_parts_most r a s pa ps (λ t pt. table_most r t pt) in omega arith)
 
   -- ---- look-ahead
+  -- all weights against the table
   pub weighted_table_most : (r : ℕ) (ws : ℕ → Span) → weighted_table_size (exact m.scales) m r ws ≤ total_size m ws * value_most m r
   unfolding weighted_table_size
   weighted_table_most r ws =
@@ -98,6 +107,7 @@ module _ (m : Model) (is : IsModel m) where
       (λ s ps. let part = tail_size m.scales (ws s) (mdp_table_in (exact m.scales) m r s) in let le = mul-le-mul_left (size (ws s)) (table_most r s ps) in omega arith) in
       let e = nat_sum_times m.states (λ s. size (ws s)) (value_most m r) in omega arith
 
+  -- their sum
   weighted_table_abs : (r : ℕ) (ws : ℕ → Span) → unsigned_abs (weighted_table_in (exact m.scales) m r ws) ≤ total_size m ws * value_most m r
   unfolding weighted_table_in weighted_table_size
   weighted_table_abs r ws = let parts = int_sum_abs m.states (λ s. (exact m.scales).tail (ws s) (mdp_table_in (exact m.scales) m r s)) in let most = weighted_table_most r ws in omega arith
@@ -116,6 +126,7 @@ module _ (m : Model) (is : IsModel m) where
       let both = one_step_more (total_size m ws) r in
       omega arith
 
+  -- look-ahead of a joint action by its parts
   look_parts : (r k : ℕ) (ws : ℕ → Span) (a : ℕ) →
       unsigned_abs ((weighted_reward_in (exact m.scales) m r ws a).high +ℤ int_sum (joint_observations m) (λ o. look_ahead_in (exact m.scales) m r (weights_after_in (exact m.scales) m ws a o) k)) ≤ reward_size (exact m.scales) m r ws a + next_look_size (exact m.scales) m r ws a k
   unfolding next_look_size
@@ -125,6 +136,7 @@ module _ (m : Model) (is : IsModel m) where
       let after = int_sum_abs (joint_observations m) V in
       let both = abs_add (weighted_reward_in (exact m.scales) m r ws a).high (int_sum (joint_observations m) V) in omega arith
 
+  -- look-ahead
   pub look_most : (r k : ℕ) (ws : ℕ → Span) → unsigned_abs (look_ahead_in (exact m.scales) m r ws k) ≤ total_size m ws * value_most m r
   look_most zero k ws = omega arith
   look_most (suc r) zero ws = weighted_table_abs (suc r) ws

@@ -9,6 +9,7 @@ use Rattle.dp_spec.specs.Model.{IsModel, Model, joint_observations, reward_at, s
 pub reward_most : Model → ℕ
 reward_most m = max (max (greatest_magnitude m.reward) m.scales.reward) 1
 
+-- each number of a list is within the greatest magnitude
 magnitude_at : (rs : List ℤ) (i : ℕ) → unsigned_abs (get_or rs i (pos 0)) ≤ greatest_magnitude rs
 magnitude_at [] i = omega arith
 magnitude_at (r ∷ rs) zero = omega arith
@@ -19,6 +20,7 @@ pub reward_at_most : (m : Model) (a s t o : ℕ) → unsigned_abs (reward_at m a
 unfolding reward_most reward_at
 reward_at_most m a s t o = let one = magnitude_at m.reward (((a * m.states + s) * m.states + t) * joint_observations m + o) in omega arith
 
+-- it is at least 1
 pub reward_most_some : (m : Model) → 1 ≤ reward_most m
 unfolding reward_most
 reward_most_some m = omega arith
@@ -38,6 +40,7 @@ pub reward_within : (m : Model) → IsModel m → (a s t o : ℕ) → unsigned_a
 unfolding reward_at
 reward_within m is a s t o = is.tables.reward_limit (((a * m.states + s) * m.states + t) * joint_observations m + o)
 
+-- a limit of all numbers is one of the greatest magnitude
 magnitude_most : (rs : List ℤ) (c : ℕ) → ((i : ℕ) → unsigned_abs (get_or rs i (pos 0)) ≤ c) → greatest_magnitude rs ≤ c
 magnitude_most [] c h = omega arith
 magnitude_most (r ∷ rs) c h = let here : unsigned_abs r ≤ c = h 0 in let rest = magnitude_most rs c (λ i. h (suc i)) in omega arith

@@ -30,6 +30,7 @@ total_size m ws = nat_sum m.states (λ s. size (ws s))
 pub weight_ordered : {e : Bool} {m : Model} {t : ℕ} {ws : ℕ → Span} → AreWeights e m t ws → (s : ℕ) → s < m.states → IsOrdered (ws s)
 weight_ordered are s p = record { from = are.from s p; order = are.order s p }
 
+-- the high end is from 0 too
 pub from_high : (w : Span) → IsOrdered w → pos 0 ≤ℤ w.high
 from_high w o = zle_trans _ _ _ o.from o.order
 
@@ -41,9 +42,11 @@ high_is_size w o = let low = o.from in let order = o.order in omega (arith, ints
 pub none_ordered : IsOrdered (point (pos 0))
 none_ordered = record { from = zle_of _ _ refl; order = zle_of _ _ refl }
 
+-- a sum of two numbers from 0
 from_both : (x y : ℤ) → pos 0 ≤ℤ x → pos 0 ≤ℤ y → pos 0 ≤ℤ (x +ℤ y)
 from_both x y p q = omega (arith, ints)
 
+-- sums of such spans
 pub sum_ordered : (n : ℕ) (f : ℕ → Span) → ((i : ℕ) → i < n → IsOrdered (f i)) → IsOrdered (span_sum n f)
 sum_ordered zero f h = none_ordered
 sum_ordered (suc n) f h =
@@ -71,6 +74,7 @@ from_times : (x : ℤ) (n : ℕ) → pos 0 ≤ℤ x → pos 0 ≤ℤ (x *ℤ pos
 from_times (pos k) n h = omega (arith, ints)
 from_times (negsuc k) n h = absurd (omega (arith, ints))
 
+-- such a span times a natural
 pub times_ordered : (w : Span) (n : ℕ) → IsOrdered w → IsOrdered (record { low = w.low *ℤ pos n; high = w.high *ℤ pos n })
 times_ordered w n o = record { from = from_times w.low n o.from; order = mul_le_right n w.low w.high o.order }
 
@@ -80,10 +84,12 @@ pub where_ordered : (b : Bool) (w : Span) → IsOrdered w → IsOrdered (cond b 
 where_ordered true w o = o
 where_ordered false w o = none_ordered
 
+-- one number where a test holds, and else 0
 pub where_point : (b : Bool) (w : Span) → IsPoint w → IsPoint (cond b w (point (pos 0)))
 where_point true w e = e
 where_point false w e = refl
 
+-- its magnitude
 where_size : (b : Bool) (w : Span) → size (cond b w (point (pos 0))) ≡ cond b (size w) 0
 where_size true w = refl
 where_size false w = refl
@@ -104,6 +110,7 @@ class_total A m F C =
     (λ H p. nat_sum_ext S _ (λ s. cond (test H) (size (W H s)) 0) (λ s q. where_size (test H) (W H s)) ∙ nat_sum_cond S (test H) (λ s. size (W H s))) in
     omega arith
 
+-- a place past the end counts nowhere
 none_before : (n k x : ℕ) → n ≤ k → nat_sum n (λ i. cond (eqb k i) x 0) ≡ 0
 none_before zero k x h = refl
 none_before (suc n) k x h = let rest = none_before n k x (omega arith) in let here : cond (eqb k n) x 0 ≡ 0 = other (omega arith) in omega arith

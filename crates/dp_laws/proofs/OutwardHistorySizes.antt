@@ -32,6 +32,7 @@ abbrev pub reward_count : ℕ → ℕ → ℕ
 reward_count n zero = 0
 reward_count n (suc r) = suc r * n ^ r
 
+-- one reward and those after each joint observation
 count_more : (n r : ℕ) → 0 < n → 1 + n * reward_count n r ≤ reward_count n (suc r)
 count_more n zero some = let e = pow-zero n in omega arith
 count_more n (suc r) some = let e = ap (λ (k : ℕ). suc r * k) (pow-suc n r) in let one = one-le-pow (suc r) n some in omega arith
@@ -42,9 +43,11 @@ some_of_sum zero d f some e = absurd (omega arith)
 some_of_sum (suc n) d f some e = omega arith
 
 module _ (m : Model) (is : IsModel m) (h : ℕ) (horizon : h ≤ 24) (cells : m.states * joint_observations m ^ (h - 1) ≤ 2 ^ 22) where
+  -- there is a state
   some_state : 0 < m.states
   some_state = some_of_sum m.states m.scales.start _ is.scales.start is.rows.start
 
+  -- there is a joint observation
   some_observation : 0 < joint_observations m
   some_observation = some_of_sum (joint_observations m) m.scales.obs _ is.scales.obs (is.rows.obs 0 0 is.sizes.some_action some_state)
 
@@ -56,6 +59,7 @@ module _ (m : Model) (is : IsModel m) (h : ℕ) (horizon : h ≤ 24) (cells : m.
       omega arith
 
   -- ---- worth and earnings
+  -- the worth of a joint policy by the number of its rewards
   worth_room : (t r : ℕ) (ws : ℕ → Span) (qs : List PolicyTree) → t + r ≡ h → AreWeights false m t ws → IsPolicyOf m r qs → worth_size (outward m.scales) m r ws qs ≤ reward_count (joint_observations m) r * 2 ^ 82
   worth_room t zero ws qs e are p = omega arith
   worth_room t (suc r) ws qs e are p =
@@ -68,21 +72,26 @@ module _ (m : Model) (is : IsModel m) (h : ℕ) (horizon : h ≤ 24) (cells : m.
       let more = mul-le-mul_right (2 ^ 82) (count_more O r some_observation) in
       omega arith
 
+  -- their number is at most 2^27
   count_room : (r : ℕ) → r ≤ h → reward_count (joint_observations m) r ≤ 2 ^ 27
   count_room zero le = omega arith
   count_room (suc r) le = let steps : suc r ≤ 2 ^ 5 = omega arith in mul-le-mul steps (histories_before r le)
 
+  -- all parts of the worth of a joint policy
   worth_fits : (t r : ℕ) (ws : ℕ → Span) (qs : List PolicyTree) → t + r ≡ h → AreWeights false m t ws → IsPolicyOf m r qs → worth_size (outward m.scales) m r ws qs < 2 ^ 127
   worth_fits t r ws qs e are p = let most = worth_room t r ws qs e are p in let few = mul-le-mul_right (2 ^ 82) (count_room r (omega arith)) in omega arith
 
+  -- in outward mode worth can be added up
   pub outward_can_evaluate : CanEvaluate (outward m.scales) m h
   unfolding outward
   outward_can_evaluate = record { add = worth_fits }
 
+  -- the weights of a joint history are weights of its time
   weights_of : (act : List ℕ → ℕ) (t : ℕ) (H : List ℕ) → t ≤ h → IsActing m t act → IsJointHistory (joint_observations m) t H → AreWeights false m t (history_weight_in (outward m.scales) m act H)
   unfolding outward
   weights_of act t H le acts hist = history_weights (outward m.scales) (outward_calls m.scales) m h (outward_can_push m is h horizon) act t H le acts hist
 
+  -- what is earned by the time
   earned_room : (act : List ℕ → ℕ) (f : ℕ) → f ≤ h → IsActing m f act → earned_size (outward m.scales) m act h f ≤ f * 2 ^ 104
   earned_room act zero le acts = omega arith
   earned_room act (suc f) le acts =
@@ -96,9 +105,11 @@ module _ (m : Model) (is : IsModel m) (h : ℕ) (horizon : h ≤ 24) (cells : m.
       let few = mul-le-mul_right (2 ^ 82) (histories_before f le) in
       omega arith
 
+  -- it is at most 2^109
   earned_most : (act : List ℕ → ℕ) (f : ℕ) → f ≤ h → IsActing m f act → earned_size (outward m.scales) m act h f ≤ 2 ^ 109
   earned_most act f le acts = let most = earned_room act f le acts in omega arith
 
+  -- in outward mode earnings can be added up
   pub outward_can_earn : CanEarn (outward m.scales) m h
   outward_can_earn = record { add = λ act f le acts. let most = earned_most act f le acts in omega arith }
 
@@ -124,15 +135,18 @@ module _ (m : Model) (is : IsModel m) (h : ℕ) (horizon : h ≤ 24) (cells : m.
       let grown = mul-le-mul steps (state_squares m is).0 in
       omega arith
 
+  -- all weights of a time
   histories_total : (act : List ℕ → ℕ) (t : ℕ) → t ≤ h → IsActing m t act → nat_history_sum (joint_observations m) t (λ H. total_size m (history_weight_in (outward m.scales) m act H)) ≤ joint_observations m ^ t * 2 ^ 40
   histories_total act t le acts =
       let each = nat_history_sum_le (joint_observations m) t (λ H. total_size m (history_weight_in (outward m.scales) m act H)) (λ H. 2 ^ 40) (λ H hist. history_small act t H le acts hist) in
       let flat = nat_history_sum_const (joint_observations m) t (2 ^ 40) in omega arith
 
+  -- the joint histories of a time up to the horizon are at most 2^30
   histories_to : (t : ℕ) → t ≤ h → joint_observations m ^ t ≤ 2 ^ 30
   histories_to zero le = let e = pow-zero (joint_observations m) in omega arith
   histories_to (suc t) le = let before = histories_before t le in let few = mul-le-mul before is.sizes.joint_observations_limit in let e = pow-suc (joint_observations m) t in omega arith
 
+  -- the weights of a joint class
   class_limit : (F : Front) (C : ℕ) → IsFront m h F → F.stage < h → total_size m (class_weight_in (outward m.scales) m F C) ≤ weight_limit false m F.stage
   class_limit F C front lt =
       let all = histories_total (fixed_joint_action m F) F.stage (omega arith) (front_acting m h F front) in
@@ -140,17 +154,21 @@ module _ (m : Model) (is : IsModel m) (h : ℕ) (horizon : h ≤ 24) (cells : m.
       let one = nat_sum_at (suc C) (λ C. total_size m (class_weight_in (outward m.scales) m F C)) C (omega arith) in
       let few = mul-le-mul_right (2 ^ 40) (histories_before F.stage lt) in omega arith
 
+  -- they are weights of the stage
   weights_of_class : (F : Front) (C : ℕ) → IsFront m h F → F.stage < h → AreWeights false m F.stage (class_weight_in (outward m.scales) m F C)
   unfolding outward
   weights_of_class F C front lt = class_weights (outward m.scales) (outward_calls m.scales) m h (outward_can_push m is h horizon) F C front lt (class_limit F C front lt)
 
+  -- all weights of a time fit
   weights_fit : (act : List ℕ → ℕ) (t : ℕ) → t ≤ h → IsActing m t act → nat_history_sum (joint_observations m) t (λ H. total_size m (history_weight_in (outward m.scales) m act H)) < 2 ^ 127
   weights_fit act t le acts = let all = histories_total act t le acts in let few = mul-le-mul_right (2 ^ 40) (histories_to t le) in omega arith
 
+  -- in outward mode weights of joint classes can be added up
   pub outward_can_classify : CanClassify (outward m.scales) m h
   unfolding outward
   outward_can_classify = record { add = weights_fit; weights = weights_of_class }
 
+  -- the best look-ahead of a joint class
   class_look_most : (F : Front) (C r k : ℕ) → IsFront m h F → F.stage + suc r ≡ h → unsigned_abs (greatest (λ a. action_look_ahead_in (outward m.scales) m r (class_weight_in (outward m.scales) m F C) a k) (agreeing_actions m F C)) ≤ 2 ^ 97
   class_look_most F C r k front e =
       let W = class_weight_in (outward m.scales) m F C in
@@ -158,6 +176,7 @@ module _ (m : Model) (is : IsModel m) (h : ℕ) (horizon : h ≤ 24) (cells : m.
       greatest_abs (λ a. action_look_ahead_in (outward m.scales) m r W a k) (2 ^ 97) (agreeing_actions m F C)
       (λ a inside. let parts = action_look_le (outward m.scales) m r W a k in let most = looks_room m is h horizon F.stage r (k - 1) W a e are (agreeing_below m F C a inside) in omega arith)
 
+  -- those of all joint classes together
   class_looks_most : (F : Front) (r k : ℕ) → IsFront m h F → F.stage + suc r ≡ h → class_look_size (outward m.scales) m r F k ≤ 2 ^ 119
   unfolding class_look_size
   class_looks_most F r k front e =
@@ -169,10 +188,12 @@ module _ (m : Model) (is : IsModel m) (h : ℕ) (horizon : h ≤ 24) (cells : m.
       let all = mul-le-mul_right (2 ^ 97) few in
       omega arith
 
+  -- what a front has earned and its best look-aheads
   front_fits : (F : Front) (r k : ℕ) → IsFront m h F → F.stage + suc r ≡ h → earned_size (outward m.scales) m (fixed_joint_action m F) h F.stage + class_look_size (outward m.scales) m r F k < 2 ^ 127
   front_fits F r k front e =
       let earned = earned_most (fixed_joint_action m F) F.stage (omega arith) (front_acting m h F front) in
       let looks = class_looks_most F r k front e in omega arith
 
+  -- in outward mode the bound of a front can be added up
   pub outward_can_bound : CanBound (outward m.scales) m h
   outward_can_bound = record { add = front_fits }

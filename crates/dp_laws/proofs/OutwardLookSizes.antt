@@ -44,9 +44,11 @@ below_zero (negsuc n) x c d B h small some =
     through : (a b : ℤ) (k l : ℕ) → a ≤ℤ pos 0 → unsigned_abs a ≡ k → unsigned_abs b ≤ l → b ≤ℤ a → k ≤ l
     through a b k l p e q h = omega (arith, ints)
 
+-- a number between two bounds
 between : (v u : ℤ) (B : ℕ) → neg_ℤ (pos B) ≤ℤ v → v ≤ℤ u → unsigned_abs u ≤ B → unsigned_abs v ≤ B
 between v u B p q h = omega (arith, ints)
 
+-- the smaller is at most the second
 min_le : (a b : ℤ) → int_min a b ≤ℤ b
 min_le a b = omega (arith, ints, clamps)
 
@@ -69,14 +71,17 @@ module _ (m : Model) (is : IsModel m) where
       same n = omega arith
 
   -- ---- what the low ends of spans come to
+  -- a number from 0 is its magnitude
   low_number : (low : ℤ) → pos 0 ≤ℤ low → pos (unsigned_abs low) ≡ low
   low_number low h = omega (arith, ints)
 
+  -- a span encloses its low end
   low_enclosed : (w : Span) → IsOrdered w → Encloses (10 ^ 12) (10 ^ 12) (pos (unsigned_abs w.low)) w
   low_enclosed w o =
       let e = low_number w.low o.from in
       record { from = zle_of _ _ (ap (λ (x : ℤ). x *ℤ pos (10 ^ 12)) (sym e)); to = subst (λ (x : ℤ). (x *ℤ pos (10 ^ 12)) ≤ℤ (w.high *ℤ pos (10 ^ 12))) (sym e) (mul_le_right (10 ^ 12) w.low w.high o.order) }
 
+  -- a true value of 2^64 weights over 24 steps
   scaled_value : (W r most dr q : ℕ) → W ≤ 2 ^ 64 → r ≤ 24 → most ≤ 10 ^ 8 * dr → W * (r * most * q) * 10 ^ 9 ≤ 2 ^ 88 * (10 ^ 12 * (dr * q))
   scaled_value W r most dr q p s le =
       let first = mul-le-mul p s in
@@ -96,9 +101,11 @@ module _ (m : Model) (is : IsModel m) where
       below_zero (look_ahead_in (outward m.scales) m r ws k) (look_ahead m r w k) (10 ^ 9) (10 ^ 12 * (m.scales.reward * step_scale m ^ r)) (2 ^ 88) above (omega arith) scale
 
   module _ (h : ℕ) (horizon : h ≤ 24) where
+    -- one weight against the table
     tail_part : (t r s : ℕ) (ws : ℕ → Span) → t + r ≡ h → AreWeights false m t ws → s < m.states → unsigned_abs ((outward m.scales).tail (ws s) (mdp_table_in (outward m.scales) m r s)) ≤ size (ws s) * 2 ^ 23 + 1
     tail_part t r s ws e are ps = tail_most m is (ws s) (mdp_table_in (outward m.scales) m r s) (table_room m is h horizon r s (omega arith) ps)
 
+    -- all weights against the table
     weighted_table_most : (t r : ℕ) (ws : ℕ → Span) → t + r ≡ h → AreWeights false m t ws → weighted_table_size (outward m.scales) m r ws ≤ 2 ^ 88
     unfolding weighted_table_size
     weighted_table_most t r ws e are =
@@ -110,10 +117,12 @@ module _ (m : Model) (is : IsModel m) where
         let states = is.sizes.states_limit in
         omega arith
 
+    -- their sum
     weighted_table_abs : (t r : ℕ) (ws : ℕ → Span) → t + r ≡ h → AreWeights false m t ws → unsigned_abs (weighted_table_in (outward m.scales) m r ws) ≤ 2 ^ 88
     unfolding weighted_table_in weighted_table_size
     weighted_table_abs t r ws e are = let parts = int_sum_abs m.states (λ s. (outward m.scales).tail (ws s) (mdp_table_in (outward m.scales) m r s)) in let most = weighted_table_most t r ws e are in omega arith
 
+    -- look-ahead is at most 2^88
     pub look_room : (t r k : ℕ) (ws : ℕ → Span) → t + r ≡ h → AreWeights false m t ws → unsigned_abs (look_ahead_in (outward m.scales) m r ws k) ≤ 2 ^ 88
     look_room t zero k ws e are = omega arith
     look_room t (suc r) zero ws e are = weighted_table_abs t (suc r) ws e are
@@ -134,9 +143,11 @@ module _ (m : Model) (is : IsModel m) where
         let few = mul-le-mul_right (2 ^ 88) is.sizes.joint_observations_limit in
         omega arith
 
+    -- the call for a weight against the table
     may_tail : (t r s : ℕ) (ws : ℕ → Span) → t + r ≡ h → AreWeights false m t ws → s < m.states → (outward_calls m.scales).Tail (ws s) (mdp_table_in (outward m.scales) m r s)
     may_tail t r s ws e are ps = (weight_of (ws s) (weight_ordered are s ps) (weight_le m is h horizon t s ws (omega arith) are ps), table_room m is h horizon r s (omega arith) ps)
 
+    -- in outward mode look-ahead can be computed
     pub outward_can_look_ahead : CanLookAhead (outward m.scales) (outward_calls m.scales) m h
     unfolding outward
     outward_can_look_ahead = record {

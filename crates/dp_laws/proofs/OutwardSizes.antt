@@ -19,21 +19,26 @@ use Rattle.dp_spec.specs.Sizes.{reward_size}
 use Rattle.dp_spec.specs.Sums.{nat_sum}
 
 -- ---- one quotient
+-- a negated number
 abs_negated : (a : ℤ) → unsigned_abs (neg_ℤ a) ≡ unsigned_abs a
 abs_negated a = omega (arith, ints)
 
+-- a quotient rounded down
 floor_abs : (a : ℤ) (d : ℕ) → unsigned_abs (floor_of a d) * d ≤ unsigned_abs a + d
 floor_abs (pos n) d = let q = div-mul-le_self n d in omega arith
 floor_abs (negsuc n) d = let q = div-mul-le_self n d in omega arith
 
+-- a quotient rounded up
 ceiling_abs : (a : ℤ) (d : ℕ) → unsigned_abs (ceiling_of a d) * d ≤ unsigned_abs a + d
 unfolding ceiling_of
 ceiling_abs a d = let q = floor_abs (neg_ℤ a) d in let e = abs_negated a in rw (abs_negated (floor_of (neg_ℤ a) d)) (omega arith)
 
+-- a product over d, rounded down
 pub mul_down_abs : (a b : ℤ) (d : ℕ) → unsigned_abs (mul_down a b d) * d ≤ unsigned_abs a * unsigned_abs b + d
 unfolding mul_down
 mul_down_abs a b d = let q = floor_abs (a *ℤ b) d in let e = unsigned_abs-mul a b in omega arith
 
+-- a product over d, rounded up
 pub mul_up_abs : (a b : ℤ) (d : ℕ) → unsigned_abs (mul_up a b d) * d ≤ unsigned_abs a * unsigned_abs b + d
 unfolding mul_up
 mul_up_abs a b d = let q = ceiling_abs (a *ℤ b) d in let e = unsigned_abs-mul a b in omega arith
@@ -47,15 +52,18 @@ shares n w d p x some e h = le_of_mul-le-mul_right {m = nat_sum n x} {n = w + n}
     parts (suc n) w d p x h = let here = h n (omega arith) in let rest = parts n w d p x (λ u q. h u (omega arith)) in omega arith
 
 -- ---- spans of weights
+-- a part of a number from 0 is from 0
 down_from : (a : ℤ) (p d : ℕ) → pos 0 ≤ℤ a → pos 0 ≤ℤ mul_down a (pos p) d
 unfolding mul_down
 down_from (pos n) p d h = omega (arith, ints)
 down_from (negsuc n) p d h = absurd (omega (arith, ints))
 
+-- a part rounded down is at most a part rounded up
 in_order : (l h : ℤ) (p d : ℕ) → 0 < d → l ≤ℤ h → mul_down l (pos p) d ≤ℤ mul_up h (pos p) d
 in_order l h p d some le =
     le_of_mul_le_right d _ _ some (zle_trans _ _ _ (mul_down_le l (pos p) d some) (zle_trans _ _ _ (mul_le_right p l h le) (le_mul_up h (pos p) d some)))
 
+-- a part of a span of weights
 pub rounded_ordered : (l h : ℤ) (p d : ℕ) → 0 < d → pos 0 ≤ℤ l → l ≤ℤ h → IsOrdered (record { low = mul_down l (pos p) d; high = mul_up h (pos p) d })
 rounded_ordered l h p d some from order = record { from = down_from l p d from; order = in_order l h p d some order }
 
@@ -74,12 +82,14 @@ reward_part q x r dr W some le small h = le_of_mul-le-mul_right {m = q} {n = W *
 
 module _ (m : Model) (is : IsModel m) where
   -- ---- the operations
+  -- a weight times chances is from 0 and in order
   pub chance_ordered : (w : Span) (p z : ℕ) → IsOrdered w → IsOrdered ((outward m.scales).chance w p z)
   unfolding outward
   chance_ordered w p z o =
       let one = rounded_ordered w.low w.high p m.scales.trans is.scales.trans o.from o.order in
       rounded_ordered _ _ z m.scales.obs is.scales.obs one.from one.order
 
+  -- so is a weight times the discount
   pub later_ordered : (w : Span) → IsOrdered w → IsOrdered ((outward m.scales).later w)
   unfolding outward
   later_ordered w o = rounded_ordered w.low w.high m.scales.gain m.scales.discount is.scales.discount o.from o.order
@@ -88,31 +98,38 @@ module _ (m : Model) (is : IsModel m) where
   pub state_part : Span → ℕ → ℕ
   state_part w p = unsigned_abs (mul_up w.high (pos p) m.scales.trans)
 
+  -- it grows by at most one in rounding
   state_part_most : (w : Span) (p : ℕ) → IsOrdered w → state_part w p * m.scales.trans ≤ size w * p + m.scales.trans
   unfolding state_part
   state_part_most w p o = let q = mul_up_abs w.high (pos p) m.scales.trans in let e = ap (λ (n : ℕ). n * p) (size_high w o) in omega arith
 
+  -- it is no larger than the weight
   state_part_le : (w : Span) (p : ℕ) → IsOrdered w → p ≤ m.scales.trans → state_part w p ≤ size w
   unfolding state_part
   state_part_le w p o le = let q = part_abs w.high p m.scales.trans is.scales.trans le in let e = size_high w o in omega arith
 
+  -- a chance to observe makes it no larger
   chance_le : (w : Span) (p z : ℕ) → IsOrdered w → z ≤ m.scales.obs → size ((outward m.scales).chance w p z) ≤ state_part w p
   unfolding outward state_part
   chance_le w p z o le = let e = size_high _ (chance_ordered w p z o) in let q = part_abs (mul_up w.high (pos p) m.scales.trans) z m.scales.obs is.scales.obs le in omega arith
 
+  -- and grows by at most one in rounding
   chance_most : (w : Span) (p z : ℕ) → IsOrdered w → size ((outward m.scales).chance w p z) * m.scales.obs ≤ state_part w p * z + m.scales.obs
   unfolding outward state_part
   chance_most w p z o =
       let e = ap (λ (n : ℕ). n * m.scales.obs) (size_high _ (chance_ordered w p z o)) in
       let q = mul_up_abs (mul_up w.high (pos p) m.scales.trans) (pos z) m.scales.obs in omega arith
 
+  -- a weight times chances is no larger than the weight
   pub chance_small : (w : Span) (p z : ℕ) → IsOrdered w → p ≤ m.scales.trans → z ≤ m.scales.obs → size ((outward m.scales).chance w p z) ≤ size w
   chance_small w p z o lp lz = let one = chance_le w p z o lz in let two = state_part_le w p o lp in omega arith
 
+  -- nor is a weight times the discount
   later_le : (w : Span) → IsOrdered w → size ((outward m.scales).later w) ≤ size w
   unfolding outward
   later_le w o = let e = size_high _ (later_ordered w o) in let f = size_high w o in let q = part_abs w.high m.scales.gain m.scales.discount is.scales.discount is.scales.gain in omega arith
 
+  -- a weight times a reward
   pub gain_most : (w : Span) (r : ℤ) (rest : ℕ) → unsigned_abs r ≤ 10 ^ 8 * m.scales.reward → size ((outward m.scales).gain w r rest) ≤ size w * 10 ^ 5 + 1
   unfolding outward
   gain_most w r rest small =
@@ -121,6 +138,7 @@ module _ (m : Model) (is : IsModel m) where
       let high = reward_part _ _ _ _ (size w) is.scales.reward ends.1 small (mul_up_abs (by_sign r w.high w.low) r (1000 * m.scales.reward)) in
       omega arith
 
+  -- a value of the table one step earlier
   pub carry_most : (v : ℤ) (p V : ℕ) → unsigned_abs v ≤ V → unsigned_abs ((outward m.scales).carry v p) * m.scales.trans ≤ V * p + m.scales.trans
   unfolding outward
   carry_most v p V le =
@@ -129,12 +147,14 @@ module _ (m : Model) (is : IsModel m) where
       let three = mul-le-mul_right m.scales.trans one in
       let four = mul-le-mul_right p le in omega arith
 
+  -- a weight against a value of the table
   pub tail_most : (w : Span) (v : ℤ) → unsigned_abs v ≤ 2 ^ 62 → unsigned_abs ((outward m.scales).tail w v) ≤ size w * 2 ^ 23 + 1
   unfolding outward
   tail_most w v small =
       le_of_mul-le-mul_right {m = unsigned_abs (mul_up (by_sign v w.high w.low) v (10 ^ 12))} {n = size w * 2 ^ 23 + 1} {k = 10 ^ 12}
       (let q = mul_up_abs (by_sign v w.high w.low) v (10 ^ 12) in let le = mul-le-mul (by_sign_size v w).1 small in omega arith) (omega arith)
 
+  -- a start weight is from 0 and in order
   pub start_ordered : (b : ℕ) → IsOrdered ((outward m.scales).start b)
   unfolding outward
   start_ordered b = rounded_ordered (pos b) (pos b) (10 ^ 12) m.scales.start is.scales.start (from_pos b) (zle_of _ _ refl)
@@ -142,14 +162,17 @@ module _ (m : Model) (is : IsModel m) where
       from_pos : (b : ℕ) → pos 0 ≤ℤ pos b
       from_pos b = omega (arith, ints)
 
+  -- it grows by at most one in rounding
   start_most : (b : ℕ) → size ((outward m.scales).start b) * m.scales.start ≤ 10 ^ 12 * b + m.scales.start
   unfolding outward
   start_most b = let e = ap (λ (n : ℕ). n * m.scales.start) (size_high _ (start_ordered b)) in let q = mul_up_abs (pos b) (pos (10 ^ 12)) m.scales.start in omega arith
 
   -- ---- sums
+  -- the chance of a next state is within its scale
   pub trans_part : (a s t : ℕ) → a < joint_actions m → s < m.states → t < m.states → trans_at m a s t ≤ m.scales.trans
   trans_part a s t pa ps pt = let le = nat_sum_at m.states (trans_at m a s) t pt in let e = is.rows.trans a s pa ps in omega arith
 
+  -- so is that of a joint observation
   pub obs_part : (a t o : ℕ) → a < joint_actions m → t < m.states → o < joint_observations m → obs_at m a t o ≤ m.scales.obs
   obs_part a t o pa pt po = let le = nat_sum_at (joint_observations m) (obs_at m a t) o po in let e = is.rows.obs a t pa pt in omega arith
 

@@ -63,10 +63,12 @@ nat_history_sum_le n (suc t) f g h = nat_history_sum_le n t _ _ (λ H p. nat_sum
 pub abs_add : (a b : ℤ) → unsigned_abs (a +ℤ b) ≤ unsigned_abs a + unsigned_abs b
 abs_add a b = omega (arith, ints)
 
+-- the magnitude of a sum
 pub int_sum_abs : (n : ℕ) (f : ℕ → ℤ) → unsigned_abs (int_sum n f) ≤ nat_sum n (λ i. unsigned_abs (f i))
 int_sum_abs zero f = omega arith
 int_sum_abs (suc n) f = let rest = int_sum_abs n f in let both = abs_add (int_sum n f) (f n) in omega arith
 
+-- the greater of two
 abs_max : (a b : ℤ) (c : ℕ) → unsigned_abs a ≤ c → unsigned_abs b ≤ c → unsigned_abs (int_max a b) ≤ c
 abs_max a b c p q = omega (arith, ints, clamps)
 
@@ -87,9 +89,11 @@ below_in (suc n) a (inl e) = omega arith
 below_in (suc n) a (inr h) = let rest = below_in n a h in omega arith
 
 -- ---- sums of spans
+-- the magnitude of a sum of two spans
 size_add : (a b : Span) → size (span_add a b) ≤ size a + size b
 size_add a b = let low = abs_add a.low b.low in let high = abs_add a.high b.high in omega arith
 
+-- a sum of spans is no larger than its parts
 pub span_sum_size : (n : ℕ) (f : ℕ → Span) → size (span_sum n f) ≤ nat_sum n (λ i. size (f i))
 span_sum_size zero f = omega arith
 span_sum_size (suc n) f = let here = size_add (span_sum n f) (f n) in let rest = span_sum_size n f in omega arith
@@ -161,9 +165,11 @@ table_action_le A m r a s =
 
 -- ---- partial sums, as loops form them
 
+-- a partial sum of spans
 pub span_sum_part : (k n : ℕ) (f : ℕ → Span) → k ≤ n → size (span_sum k f) ≤ nat_sum n (λ i. size (f i))
 span_sum_part k n f le = let part = span_sum_size k f in let more = nat_sum_part k n (λ i. size (f i)) le in omega arith
 
+-- a partial sum of numbers
 pub int_sum_part : (k n : ℕ) (f : ℕ → ℤ) → k ≤ n → unsigned_abs (int_sum k f) ≤ nat_sum n (λ i. unsigned_abs (f i))
 int_sum_part k n f le = let part = int_sum_abs k f in let more = nat_sum_part k n (λ i. unsigned_abs (f i)) le in omega arith
 
@@ -173,6 +179,7 @@ pub reward_state_le : (A : Arithmetic) (m : Model) (r : ℕ) (ws : ℕ → Span)
 unfolding reward_size
 reward_state_le A m r ws a s p = nat_sum_at m.states (λ s. nat_sum m.states (λ t. nat_sum (joint_observations m) (λ o. size (A.gain (A.chance (ws s) (trans_at m a s t) (obs_at m a t o)) (reward_at m a s t o) r)))) s p
 
+-- those of one next state
 pub reward_next_le : (A : Arithmetic) (m : Model) (r : ℕ) (ws : ℕ → Span) (a s t : ℕ) → s < m.states → t < m.states →
     nat_sum (joint_observations m) (λ o. size (A.gain (A.chance (ws s) (trans_at m a s t) (obs_at m a t o)) (reward_at m a s t o) r)) ≤ reward_size A m r ws a
 reward_next_le A m r ws a s t p q =

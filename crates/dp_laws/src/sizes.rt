@@ -2,7 +2,6 @@ ghost use Rattle.dp_laws.specs.SizeLaws.{ModeAllowsPushes, ModeAllowsRewards, Mo
 
 /// In either mode the weights of the start, and from weights within the sum bound those of the
 /// next time, are computed by allowed calls and stay within 127 bits with a sign.
-#[tactic(auto, using(crate::proofs::SizeLaws::mode_can_push))]
 pub fn mode_allows_pushes()
     ensures { ModeAllowsPushes }
 {}
@@ -26,32 +25,27 @@ pub fn mode_allows_look_ahead()
 {}
 
 /// The weights of a joint history are within the sum bound of its time.
-#[tactic(auto, using(crate::proofs::SizeLaws::mode_history_weights))]
 pub fn history_weights_are_within_bound()
     ensures { HistoryWeightsAreWithinBound }
 {}
 
 /// What is earned along joint histories can be added up: in exact mode always, and in outward
 /// mode within the limit of stage cells.
-#[tactic(auto, using(crate::proofs::SizeLaws::mode_can_earn))]
 pub fn mode_allows_earnings()
     ensures { ModeAllowsEarnings }
 {}
 
 /// So can the worth of a joint policy.
-#[tactic(auto, using(crate::proofs::SizeLaws::mode_can_evaluate))]
 pub fn mode_allows_worth()
     ensures { ModeAllowsWorth }
 {}
 
 /// So can the weights of joint classes.
-#[tactic(auto, using(crate::proofs::SizeLaws::mode_can_classify))]
 pub fn mode_allows_class_weights()
     ensures { ModeAllowsClassWeights }
 {}
 
 /// So can the bound of a front.
-#[tactic(auto, using(crate::proofs::SizeLaws::mode_can_bound))]
 pub fn mode_allows_bounds()
     ensures { ModeAllowsBounds }
 {}
