@@ -18,10 +18,10 @@ use Rattle.dp_spec.specs.Front.{Front, class_counts, fixed_joint_action}
 use Rattle.dp_spec.specs.JointHistory.{nat_history_sum}
 use Rattle.dp_spec.specs.JointNumbers.{product}
 use Rattle.dp_spec.specs.Model.{IsModel, Model, joint_actions, joint_observations, start_at, step_scale}
-use Rattle.dp_spec.specs.Quantities.{action_look_ahead_in, class_weight_in, history_weight_in}
+use Rattle.dp_spec.specs.Quantities.{action_look_ahead_in, class_weight_in, history_weight_in, weights_after_in}
 use Rattle.dp_spec.specs.Sizes.{reward_size}
 use Rattle.dp_spec.specs.SizesOfEarnings.{IsActing, earned_size}
-use Rattle.dp_spec.specs.SizesOfFronts.{class_look_size}
+use Rattle.dp_spec.specs.SizesOfFronts.{IsChoosing, advanced_size, class_look_size, class_reward_size}
 use Rattle.dp_spec.specs.Sums.{greatest, nat_sum}
 
 module _ (m : Model) (is : IsModel m) where
@@ -99,4 +99,29 @@ module _ (m : Model) (is : IsModel m) where
       let times = nat_sum_times n (λ C. total_size m (W C)) V in
       let all = mul-le-mul_right V (front_total F n acts) in
       let whole = value_at_stage F.stage r h e in
+      omega arith
+
+  -- all next weights of a front's joint classes
+  pub advanced_most : (F : Front) (act : ℕ → ℕ) → IsActing m F.stage (fixed_joint_action m F) → IsChoosing m F act → advanced_size (exact m.scales) m F act ≤ m.scales.start * step_scale m ^ suc F.stage
+  unfolding advanced_size
+  advanced_most F act acts chosen =
+      let n = product (class_counts F.agents) in
+      let W = λ (C : ℕ). class_weight_in (exact m.scales) m F C in
+      let each = nat_sum_le n (λ C. nat_sum (joint_observations m) (λ o. total_size m (weights_after_in (exact m.scales) m (W C) (act C) o))) (λ C. total_size m (W C) * step_scale m) (λ C p. pushed_total m is (W C) (act C) (chosen C p)) in
+      let times = nat_sum_times n (λ C. total_size m (W C)) (step_scale m) in
+      let all = mul-le-mul_right (step_scale m) (front_total F n acts) in
+      let e = scale_of_next m F.stage in
+      omega arith
+
+  -- all rewards of a front's joint classes
+  pub class_rewards_most : (F : Front) (r h : ℕ) (act : ℕ → ℕ) → F.stage + suc r ≡ h → IsActing m F.stage (fixed_joint_action m F) → IsChoosing m F act → class_reward_size (exact m.scales) m r F act ≤ m.scales.start * step_scale m ^ h * reward_most m
+  unfolding class_reward_size
+  class_rewards_most F r h act e acts chosen =
+      let n = product (class_counts F.agents) in
+      let c = reward_most m * step_scale m ^ suc r in
+      let W = λ (C : ℕ). class_weight_in (exact m.scales) m F C in
+      let each = nat_sum_le n (λ C. reward_size (exact m.scales) m r (W C) (act C)) (λ C. total_size m (W C) * c) (λ C p. reward_total m is (W C) (act C) r (chosen C p)) in
+      let times = nat_sum_times n (λ C. total_size m (W C)) c in
+      let all = mul-le-mul_right c (front_total F n acts) in
+      let f = regroup m.scales.start (step_scale m ^ F.stage) (reward_most m) (step_scale m ^ suc r) (step_scale m ^ h) (split_power F.stage (suc r) h e) in
       omega arith

@@ -3,7 +3,7 @@ use Rattle.std.proofs.Common.{◌≡◌, ℕ, suc, ◌+◌, ◌-◌, ◌*◌, �
 use Rattle.std.proofs.Math.Nat.{le-mul_of_pos_right, pow-suc, mul-le-mul_left, mul-le-mul_right, one-le-pow, pow-zero}
 use Rattle.std.proofs.lemmas.Nat.{pow-add}
 use Rattle.dp_spec.specs.declared.span.Span.{Span}
-use Rattle.dp_laws.proofs.ExactHistorySizes.{class_looks_most, earned_most, front_total, histories_total}
+use Rattle.dp_laws.proofs.ExactHistorySizes.{advanced_most, class_rewards_most, class_looks_most, earned_most, front_total, histories_total}
 use Rattle.dp_laws.proofs.ExactPushes.{exact_can_push, chance_point, chances_step, power_grows, weight_room, whole_room}
 use Rattle.dp_laws.proofs.ExactSizes.{chance_size, gained_total, reward_factor_is, reward_total, tail_size}
 use Rattle.dp_laws.proofs.ExactValueSizes.{looks_most, one_size, table_most, table_parts_most, value_most, weighted_table_most, worth_most}
@@ -23,7 +23,7 @@ use Rattle.dp_spec.specs.PolicyTree.{IsPolicyOf, PolicyTree}
 use Rattle.dp_spec.specs.Quantities.{class_weight_in, history_weight_in, mdp_table_in}
 use Rattle.dp_spec.specs.Sizes.{AreWeights, CanReward, IsStep, reward_size}
 use Rattle.dp_spec.specs.SizesOfEarnings.{CanEarn, CanEvaluate, IsActing, earned_size, worth_size}
-use Rattle.dp_spec.specs.SizesOfFronts.{CanBound, CanClassify, class_look_size}
+use Rattle.dp_spec.specs.SizesOfFronts.{CanAdvance, IsChoosing, advanced_size, class_reward_size, CanBound, CanClassify, class_look_size}
 use Rattle.dp_spec.specs.SizesOfLookAhead.{CanLookAhead, next_look_size, weighted_table_size}
 use Rattle.dp_spec.specs.SizesOfTable.{CanTabulate, table_later_size, table_reward_size}
 use Rattle.dp_spec.specs.Sums.{nat_sum}
@@ -224,3 +224,23 @@ module _ (m : Model) (is : IsModel m) (h : ℕ) (some : 0 < h) (mode : true ≡ 
   -- in exact mode the bound of a front can be added up
   pub exact_can_bound : CanBound (exact m.scales) m h
   exact_can_bound = record { add = looks_of_front_fit }
+
+  -- all next weights of a front's joint classes
+  advanced_fits : (F : Front) (act : ℕ → ℕ) → IsFront m h F → F.stage < h → IsChoosing m F act → advanced_size (exact m.scales) m F act < 2 ^ 127
+  advanced_fits F act front lt chosen =
+      let most = advanced_most m is F act (front_acting m h F front) chosen in
+      let grown = power_grows m is h some mode (suc F.stage) lt in
+      let room = weight_room m is h some mode in omega arith
+
+  -- what a front has earned and its rewards
+  rewards_of_front_fit : (F : Front) (r : ℕ) (act : ℕ → ℕ) → IsFront m h F → F.stage + suc r ≡ h → IsChoosing m F act → earned_size (exact m.scales) m (fixed_joint_action m F) h F.stage + class_reward_size (exact m.scales) m r F act < 2 ^ 127
+  rewards_of_front_fit F r act front e chosen =
+      let acts = front_acting m h F front in
+      let earned = earned_most m is (fixed_joint_action m F) h F.stage (omega arith) acts in
+      let rewards = class_rewards_most m is F r h act e acts chosen in
+      let room = whole_room m is h some mode (suc F.stage) (omega arith) in
+      omega arith
+
+  -- in exact mode a front can be advanced
+  pub exact_can_advance : CanAdvance (exact m.scales) m h
+  exact_can_advance = record { weights = advanced_fits; earned = rewards_of_front_fit }

@@ -8,7 +8,7 @@ use Rattle.dp_laws.proofs.NaturalSums.{nat_history_sum_const}
 use Rattle.dp_laws.proofs.OneStep.{trees_after_fit, root_joint_action_below}
 use Rattle.dp_laws.proofs.OrderedSpans.{classes_total, total_size, weight_ordered}
 use Rattle.dp_laws.proofs.OutwardLookSizes.{looks_room}
-use Rattle.dp_laws.proofs.OutwardModeSizes.{next_weights, outward_can_push, reward_room, state_squares}
+use Rattle.dp_laws.proofs.OutwardModeSizes.{limit_room, next_weights, outward_can_push, reward_room, state_squares}
 use Rattle.dp_laws.proofs.OutwardSizes.{next_total, start_total}
 use Rattle.dp_laws.proofs.SizeSums.{action_look_le, agreeing_below, greatest_abs, nat_history_sum_le, nat_sum_at, nat_sum_most}
 use Rattle.dp_spec.specs.Arithmetic.{outward}
@@ -22,7 +22,7 @@ use Rattle.dp_spec.specs.PolicyTree.{IsPolicyOf, PolicyTree}
 use Rattle.dp_spec.specs.Quantities.{action_look_ahead_in, class_weight_in, history_weight_in, weights_after_in}
 use Rattle.dp_spec.specs.Sizes.{AreWeights, reward_size, weight_limit}
 use Rattle.dp_spec.specs.SizesOfEarnings.{CanEarn, CanEvaluate, IsActing, earned_size, worth_size}
-use Rattle.dp_spec.specs.SizesOfFronts.{CanBound, CanClassify, class_look_size}
+use Rattle.dp_spec.specs.SizesOfFronts.{CanAdvance, IsChoosing, advanced_size, class_reward_size, CanBound, CanClassify, class_look_size}
 use Rattle.dp_spec.specs.Sums.{greatest, nat_sum}
 use Rattle.dp_spec.specs.Value.{joint_root_action, trees_after}
 use Rattle.dp_spec.specs.WellFormed.{IsFront}
@@ -168,6 +168,10 @@ module _ (m : Model) (is : IsModel m) (h : ℕ) (horizon : h ≤ 24) (cells : m.
   unfolding outward
   outward_can_classify = record { add = weights_fit; weights = weights_of_class }
 
+  -- the joint classes of a front of a stage before the horizon are at most 2^22
+  classes_before : (F : Front) → IsFront m h F → F.stage < h → product (class_counts F.agents) ≤ 2 ^ 22
+  classes_before F front lt = let classes = joint_classes_within_histories m h F front in let histories = histories_before F.stage lt in omega arith
+
   -- the best look-ahead of a joint class
   class_look_most : (F : Front) (C r k : ℕ) → IsFront m h F → F.stage + suc r ≡ h → unsigned_abs (greatest (λ a. action_look_ahead_in (outward m.scales) m r (class_weight_in (outward m.scales) m F C) a k) (agreeing_actions m F C)) ≤ 2 ^ 97
   class_look_most F C r k front e =
@@ -182,10 +186,7 @@ module _ (m : Model) (is : IsModel m) (h : ℕ) (horizon : h ≤ 24) (cells : m.
   class_looks_most F r k front e =
       let n = product (class_counts F.agents) in
       let each = nat_sum_most n (2 ^ 97) (λ C. unsigned_abs (greatest (λ a. action_look_ahead_in (outward m.scales) m r (class_weight_in (outward m.scales) m F C) a k) (agreeing_actions m F C))) (λ C p. class_look_most F C r k front e) in
-      let classes = joint_classes_within_histories m h F front in
-      let histories = histories_before F.stage (omega arith) in
-      let few : n ≤ 2 ^ 22 = omega arith in
-      let all = mul-le-mul_right (2 ^ 97) few in
+      let all = mul-le-mul_right (2 ^ 97) (classes_before F front (omega arith)) in
       omega arith
 
   -- what a front has earned and its best look-aheads
@@ -197,3 +198,33 @@ module _ (m : Model) (is : IsModel m) (h : ℕ) (horizon : h ≤ 24) (cells : m.
   -- in outward mode the bound of a front can be added up
   pub outward_can_bound : CanBound (outward m.scales) m h
   outward_can_bound = record { add = front_fits }
+
+  -- all next weights of a front's joint classes
+  advanced_fits : (F : Front) (act : ℕ → ℕ) → IsFront m h F → F.stage < h → IsChoosing m F act → advanced_size (outward m.scales) m F act < 2 ^ 127
+  unfolding advanced_size
+  advanced_fits F act front lt chosen =
+      let n = product (class_counts F.agents) in
+      let W = λ (C : ℕ). class_weight_in (outward m.scales) m F C in
+      let O = joint_observations m in
+      let each = nat_sum_most n (O * 2 ^ 64) (λ C. nat_sum O (λ o. total_size m (weights_after_in (outward m.scales) m (W C) (act C) o)))
+      (λ C p. nat_sum_most O (2 ^ 64) (λ o. total_size m (weights_after_in (outward m.scales) m (W C) (act C) o))
+      (λ o q. limit_room m is h horizon (suc F.stage) (weights_after_in (outward m.scales) m (W C) (act C) o) lt (next_weights m is h horizon F.stage (W C) (act C) o (weights_of_class F C front lt) (chosen C p) q))) in
+      let few = mul-le-mul (classes_before F front lt) is.sizes.joint_observations_limit in
+      let all = mul-le-mul_right (2 ^ 64) few in
+      omega arith
+
+  -- what a front has earned and its rewards
+  rewards_of_front_fit : (F : Front) (r : ℕ) (act : ℕ → ℕ) → IsFront m h F → F.stage + suc r ≡ h → IsChoosing m F act → earned_size (outward m.scales) m (fixed_joint_action m F) h F.stage + class_reward_size (outward m.scales) m r F act < 2 ^ 127
+  unfolding class_reward_size
+  rewards_of_front_fit F r act front e chosen =
+      let lt : F.stage < h = omega arith in
+      let n = product (class_counts F.agents) in
+      let W = λ (C : ℕ). class_weight_in (outward m.scales) m F C in
+      let earned = earned_most (fixed_joint_action m F) F.stage (omega arith) (front_acting m h F front) in
+      let each = nat_sum_most n (2 ^ 82) (λ C. reward_size (outward m.scales) m r (W C) (act C)) (λ C p. reward_room m is h horizon F.stage r (W C) (act C) (omega arith) (weights_of_class F C front lt) (chosen C p)) in
+      let few = mul-le-mul_right (2 ^ 82) (classes_before F front lt) in
+      omega arith
+
+  -- in outward mode a front can be advanced
+  pub outward_can_advance : CanAdvance (outward m.scales) m h
+  outward_can_advance = record { weights = advanced_fits; earned = rewards_of_front_fit }

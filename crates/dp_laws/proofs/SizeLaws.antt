@@ -2,9 +2,9 @@
 use Rattle.std.proofs.Common.{◌≡◌, ℕ, ◌-◌, ◌*◌, ◌^◌, ◌<◌, ◌≤◌, Bool, true, false, List, refl}
 use Rattle.dp_spec.specs.declared.scales.Scales.{Scales}
 use Rattle.dp_laws.proofs.ExactPushes.{exact_can_push}
-use Rattle.dp_laws.proofs.ExactModeSizes.{exact_can_bound, exact_can_classify, exact_can_earn, exact_can_evaluate, exact_can_look_ahead, exact_can_reward, exact_can_tabulate}
+use Rattle.dp_laws.proofs.ExactModeSizes.{exact_can_advance, exact_can_bound, exact_can_classify, exact_can_earn, exact_can_evaluate, exact_can_look_ahead, exact_can_reward, exact_can_tabulate}
 use Rattle.dp_laws.proofs.ActingHistories.{history_weights}
-use Rattle.dp_laws.proofs.OutwardHistorySizes.{outward_can_bound, outward_can_classify, outward_can_earn, outward_can_evaluate}
+use Rattle.dp_laws.proofs.OutwardHistorySizes.{outward_can_advance, outward_can_bound, outward_can_classify, outward_can_earn, outward_can_evaluate}
 use Rattle.dp_laws.proofs.OutwardLookSizes.{outward_can_look_ahead}
 use Rattle.dp_laws.proofs.OutwardModeSizes.{outward_can_push, outward_can_reward, outward_can_tabulate}
 use Rattle.dp_spec.specs.Arithmetic.{arithmetic, exact, outward}
@@ -15,7 +15,7 @@ use Rattle.dp_spec.specs.Model.{IsModel, Model, joint_observations}
 use Rattle.dp_spec.specs.Quantities.{history_weight_in}
 use Rattle.dp_spec.specs.Sizes.{AreWeights, CanPush, CanReward}
 use Rattle.dp_spec.specs.SizesOfEarnings.{CanEarn, CanEvaluate, IsActing}
-use Rattle.dp_spec.specs.SizesOfFronts.{CanBound, CanClassify}
+use Rattle.dp_spec.specs.SizesOfFronts.{CanAdvance, CanBound, CanClassify}
 use Rattle.dp_spec.specs.SizesOfLookAhead.{CanLookAhead}
 use Rattle.dp_spec.specs.SizesOfTable.{CanTabulate}
 
@@ -81,3 +81,8 @@ mode_can_classify m is h some le false mode cells = outward_can_classify m is h 
 pub mode_can_bound : (m : Model) → IsModel m → (h : ℕ) → 0 < h → h ≤ 24 → (e : Bool) → e ≡ is_exact_mode m h → (e ≡ false → m.states * joint_observations m ^ (h - 1) ≤ 2 ^ 22) → CanBound (arithmetic e m.scales) m h
 mode_can_bound m is h some le true mode cells = exact_can_bound m is h some mode
 mode_can_bound m is h some le false mode cells = outward_can_bound m is h le (cells refl)
+
+-- a front can be advanced
+pub mode_can_advance : (m : Model) → IsModel m → (h : ℕ) → 0 < h → h ≤ 24 → (e : Bool) → e ≡ is_exact_mode m h → (e ≡ false → m.states * joint_observations m ^ (h - 1) ≤ 2 ^ 22) → CanAdvance (arithmetic e m.scales) m h
+mode_can_advance m is h some le true mode cells = exact_can_advance m is h some mode
+mode_can_advance m is h some le false mode cells = outward_can_advance m is h le (cells refl)

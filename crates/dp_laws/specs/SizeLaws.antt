@@ -8,7 +8,7 @@ use Rattle.dp_spec.specs.Model.{IsModel, Model, joint_observations}
 use Rattle.dp_spec.specs.Quantities.{history_weight_in}
 use Rattle.dp_spec.specs.Sizes.{AreWeights, CanPush, CanReward}
 use Rattle.dp_spec.specs.SizesOfEarnings.{CanEarn, CanEvaluate, IsActing}
-use Rattle.dp_spec.specs.SizesOfFronts.{CanBound, CanClassify}
+use Rattle.dp_spec.specs.SizesOfFronts.{CanAdvance, CanBound, CanClassify}
 use Rattle.dp_spec.specs.SizesOfLookAhead.{CanLookAhead}
 use Rattle.dp_spec.specs.SizesOfTable.{CanTabulate}
 
@@ -57,3 +57,8 @@ ModeAllowsClassWeights =
 abbrev pub ModeAllowsBounds : Type 0
 ModeAllowsBounds =
     (m : Model) → IsModel m → (h : ℕ) → 0 < h → h ≤ 24 → (e : Bool) → e ≡ is_exact_mode m h → (e ≡ false → m.states * joint_observations m ^ (h - 1) ≤ 2 ^ 22) → CanBound (arithmetic e m.scales) m h
+
+-- the advance of a front
+abbrev pub ModeAllowsAdvances : Type 0
+ModeAllowsAdvances =
+    (m : Model) → IsModel m → (h : ℕ) → 0 < h → h ≤ 24 → (e : Bool) → e ≡ is_exact_mode m h → (e ≡ false → m.states * joint_observations m ^ (h - 1) ≤ 2 ^ 22) → CanAdvance (arithmetic e m.scales) m h

@@ -1,4 +1,4 @@
-ghost use Rattle.dp_laws.specs.SizeLaws.{ModeAllowsPushes, ModeAllowsRewards, ModeAllowsTable, ModeAllowsLookAhead, HistoryWeightsAreWithinBound, ModeAllowsEarnings, ModeAllowsWorth, ModeAllowsClassWeights, ModeAllowsBounds};
+ghost use Rattle.dp_laws.specs.SizeLaws.{ModeAllowsPushes, ModeAllowsRewards, ModeAllowsTable, ModeAllowsLookAhead, HistoryWeightsAreWithinBound, ModeAllowsEarnings, ModeAllowsWorth, ModeAllowsClassWeights, ModeAllowsBounds, ModeAllowsAdvances};
 
 /// In either mode the weights of the start, and from weights within the sum bound those of the
 /// next time, are computed by allowed calls and stay within 127 bits with a sign.
@@ -48,4 +48,9 @@ pub fn mode_allows_class_weights()
 /// So can the bound of a front.
 pub fn mode_allows_bounds()
     ensures { ModeAllowsBounds }
+{}
+
+/// So can what the advance of a front adds up.
+pub fn mode_allows_advances()
+    ensures { ModeAllowsAdvances }
 {}
