@@ -24,17 +24,17 @@ model_of sizes scales cells = record {
 }
 
 -- a list of names has one for each of n things, or none
-abbrev pub Names : List (List ℕ) → ℕ → Type 0
-Names names n = 0 < length names → length names ≡ n
+abbrev pub NamesAllOrNone : List (List ℕ) → ℕ → Type 0
+NamesAllOrNone names n = 0 < length names → length names ≡ n
 
 -- the names are of the model's agents, and each list names all of its kind or none
 pub record AreNamesOf (m : Model) (names : NameLists) : Type 0 where
   pub action_lists : length names.actions ≡ length m.actions
   pub observation_lists : length names.observations ≡ length m.actions
-  pub agents : Names names.agents (length m.actions)
-  pub states : Names names.states m.states
-  pub actions : (i : ℕ) → i < length m.actions → Names (names_of names.actions i) (slice_index m.actions i)
-  pub observations : (i : ℕ) → i < length m.actions → Names (names_of names.observations i) (slice_index m.observations i)
+  pub agents : NamesAllOrNone names.agents (length m.actions)
+  pub states : NamesAllOrNone names.states m.states
+  pub actions : (i : ℕ) → i < length m.actions → NamesAllOrNone (names_of names.actions i) (slice_index m.actions i)
+  pub observations : (i : ℕ) → i < length m.actions → NamesAllOrNone (names_of names.observations i) (slice_index m.observations i)
 
 -- what every model with names keeps
 pub record IsNamedModel (m : NamedModel) : Type 0 where
