@@ -1,10 +1,9 @@
 -- The model of the tests: one state, two agents with 2 and 3 actions and 1 and 2 observations, rewards 0 to 11.
-use Rattle.std.proofs.Common.{◌≡◌, ℕ, zero, suc, ◌+◌, ◌*◌, ◌<◌, ◌≤◌, ◌^◌, Bool, true, ◌&&◌, ℤ, pos, unsigned_abs, List, [], ◌∷◌, length, get_or, replicate, refl, sym, ap, subst, ◌∙◌, arith}
+use Rattle.std.proofs.Common.{◌≡◌, ℕ, zero, suc, ◌+◌, ◌*◌, ◌<◌, ◌≤◌, true, ℤ, pos, unsigned_abs, List, [], ◌∷◌, get_or, replicate, refl, ap, arith}
 use Rattle.std.specs.Prelude.{nat_le, slice_index}
 use Rattle.std.specs.List.{list_all}
 use Rattle.std.proofs.lemmas.List.{get_or-replicate}
-use Rattle.dp_spec.specs.Sums.{nat_sum}
-use Rattle.dp_spec.specs.Model.{IsModel, AreTables, AreRows, AreSizes, AreScales, Model, joint_actions, joint_observations, start_at, trans_at, obs_at}
+use Rattle.dp_spec.specs.Model.{IsModel, Model, joint_actions, joint_observations, start_at, trans_at, obs_at}
 use Rattle.dp_model.specs.Parts.{AreParts}
 
 abbrev pub rewards : List ℤ
@@ -68,12 +67,12 @@ is_model = record {
   rows = record {
     start = refl;
     trans = λ a s action state.
-      let there : (a * 1 + s) * 1 + 0 < 6 = omega arith in
-      ap (λ x. 0 + x) (get_or-replicate 6 ((a * 1 + s) * 1 + 0) 1 0 there);
+        let there : (a * 1 + s) * 1 + 0 < 6 = omega arith in
+        ap (λ x. 0 + x) (get_or-replicate 6 ((a * 1 + s) * 1 + 0) 1 0 there);
     obs = λ a t action state.
-      let first : (a * 1 + t) * 2 + 0 < 12 = omega arith in
-      let second : (a * 1 + t) * 2 + 1 < 12 = omega arith in
-      (λ i. (0 + get_or-replicate 12 ((a * 1 + t) * 2 + 0) 1 0 first i) + get_or-replicate 12 ((a * 1 + t) * 2 + 1) 1 0 second i);
+        let first : (a * 1 + t) * 2 + 0 < 12 = omega arith in
+        let second : (a * 1 + t) * 2 + 1 < 12 = omega arith in
+        (λ i. (0 + get_or-replicate 12 ((a * 1 + t) * 2 + 0) 1 0 first i) + get_or-replicate 12 ((a * 1 + t) * 2 + 1) 1 0 second i);
   };
 }
 

@@ -1,5 +1,5 @@
 -- A model with its names, as contracts see it.
-use Rattle.std.specs.Prelude.{ℕ, ◌<◌, ◌≤◌, ◌≡◌, List, length, slice_index}
+use Rattle.std.specs.Prelude.{ℕ, ◌<◌, ◌≡◌, List, length, slice_index}
 use Rattle.dp_spec.specs.Model.{IsModel, Model}
 use Rattle.dp_spec.specs.declared.scales.Scales.{Scales}
 use Rattle.dp_model.specs.declared.sizes.Sizes.{Sizes}

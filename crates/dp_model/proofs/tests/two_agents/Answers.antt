@@ -1,5 +1,5 @@
-use Rattle.std.proofs.Common.{◌≡◌, ◌∙◌, List, ℕ, ℤ, [], ◌∷◌, replicate, sym, subst}
-use Rattle.dp_spec.specs.Model.{IsModel, Model}
+use Rattle.std.proofs.Common.{◌≡◌, ◌∙◌, [], ◌∷◌, replicate, sym, subst}
+use Rattle.dp_spec.specs.Model.{IsModel}
 use Rattle.dp_model.specs.Parts.{AreParts}
 use Rattle.dp_model.specs.Tables.{model_of}
 use Rattle.dp_model.proofs.TwoAgents.{is_model, are_actions, are_observations, rewards, two_agents}
@@ -14,18 +14,18 @@ build-requires-clause-model c =
     let obs : c.of-5.result ≡ replicate 12 1 = c.of-5.ensures ∙ c.in_ok-vec-5.ensures.items in
     let reward : c.of-6.result ≡ rewards = c.of-6.ensures ∙ c.in_ok-vec-6.ensures.items in
     let is : model_of (record { states = 1; actions = c.of.result; observations = c.of-2.result })
-          (record { start = 1; trans = 1; obs = 2; reward = 1; discount = 1; gain = 1 })
-          (record { start = c.of-3.result; trans = c.of-4.result; obs = c.of-5.result; reward = c.of-6.result }) ≡ two_agents =
-        λ i. record {
-          states = 1;
-          actions = actions i;
-          observations = observations i;
-          scales = record { start = 1; trans = 1; obs = 2; reward = 1; discount = 1; gain = 1 };
-          start = start i;
-          trans = trans i;
-          obs = obs i;
-          reward = reward i;
-        } in
+    (record { start = 1; trans = 1; obs = 2; reward = 1; discount = 1; gain = 1 })
+    (record { start = c.of-3.result; trans = c.of-4.result; obs = c.of-5.result; reward = c.of-6.result }) ≡ two_agents =
+    λ i. record {
+      states = 1;
+      actions = actions i;
+      observations = observations i;
+      scales = record { start = 1; trans = 1; obs = 2; reward = 1; discount = 1; gain = 1 };
+      start = start i;
+      trans = trans i;
+      obs = obs i;
+      reward = reward i;
+    } in
     subst IsModel (sym is) is_model
 
 pub returns-clause-are_actions : goal.returns-clause-are_actions
