@@ -57,9 +57,9 @@ pub use policy_trees::{
 };
 pub use root_fronts::{every_policy_keeps_the_root_front, root_front_is_well_formed};
 pub use sizes::{
-    history_weights_are_within_bound, mode_allows_advances, mode_allows_bounds, mode_allows_class_weights,
-    mode_allows_earnings, mode_allows_look_ahead, mode_allows_pushes, mode_allows_rewards,
-    mode_allows_table, mode_allows_worth,
+    history_weights_are_within_bound, mode_allows_advances, mode_allows_bounds,
+    mode_allows_class_weights, mode_allows_earnings, mode_allows_look_ahead, mode_allows_pushes,
+    mode_allows_rewards, mode_allows_table, mode_allows_worth,
 };
 pub use texts::{certificates_have_one_text, policies_have_one_text};
 pub use tree_depth::{
