@@ -14,6 +14,7 @@ pub mod ConstantPolicies
 pub mod EarnedValue
 pub mod EmptyClasses
 pub mod EnclosedQuantities
+pub mod EqualWeights
 pub mod ExactArithmetic
 pub mod ExactHistorySizes
 pub mod ExactModeSizes

@@ -1,5 +1,5 @@
 -- The recursion that pushes weights forwards along the trees gives the forward worth, in any arithmetic.
-use Rattle.std.proofs.Common.{◌≡◌, ℕ, zero, suc, ◌+◌, ℤ, pos, List, [], ◌∷◌, refl, sym, ap, ◌∙◌, arith}
+use Rattle.std.proofs.Common.{◌≡◌, ℕ, zero, suc, ◌+◌, ◌<◌, ℤ, pos, List, [], ◌∷◌, refl, sym, ap, ◌∙◌, arith}
 use Rattle.std.proofs.Math.IntN.{+ℤ_assoc, +ℤ_idl, +ℤ_idr}
 use Rattle.dp_spec.specs.declared.span.Span.{Span}
 use Rattle.dp_laws.proofs.Ring.{zadd_swap}
@@ -38,14 +38,14 @@ span_sum_add zero f g = sym (span_add_none (point (pos 0)))
 span_sum_add (suc n) f g = ap (λ (x : Span). span_add x (span_add (f n) (g n))) (span_sum_add n f g) ∙ span_add_swap (span_sum n f) (span_sum n g) (f n) (g n)
 
 -- equal spans have equal sums
-span_sum_ext : (n : ℕ) (f g : ℕ → Span) → ((i : ℕ) → f i ≡ g i) → span_sum n f ≡ span_sum n g
+pub span_sum_ext : (n : ℕ) (f g : ℕ → Span) → ((i : ℕ) → i < n → f i ≡ g i) → span_sum n f ≡ span_sum n g
 span_sum_ext zero f g h = refl
-span_sum_ext (suc n) f g h = let here = h n in let rest : span_sum n f ≡ span_sum n g = span_sum_ext n f g h in cc
+span_sum_ext (suc n) f g h = let here = h n (omega arith) in let rest : span_sum n f ≡ span_sum n g = span_sum_ext n f g (λ i p. h i (omega arith)) in cc
 
 -- the same over joint histories
 span_history_sum_ext : (n t : ℕ) (f g : List ℕ → Span) → ((H : List ℕ) → f H ≡ g H) → span_history_sum n t f ≡ span_history_sum n t g
 span_history_sum_ext n zero f g h = h []
-span_history_sum_ext n (suc t) f g h = span_history_sum_ext n t _ _ (λ H. span_sum_ext n _ _ (λ o. h (o ∷ H)))
+span_history_sum_ext n (suc t) f g h = span_history_sum_ext n t _ _ (λ H. span_sum_ext n _ _ (λ o p. h (o ∷ H)))
 
 -- a sum of sums over joint histories
 span_history_sum_add : (n t : ℕ) (f g : List ℕ → Span) → span_history_sum n t (λ H. span_add (f H) (g H)) ≡ span_add (span_history_sum n t f) (span_history_sum n t g)
