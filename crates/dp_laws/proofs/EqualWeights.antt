@@ -1,5 +1,5 @@
 -- Only the weights of the states count, in any arithmetic.
-use Rattle.std.proofs.Common.{◌≡◌, ℕ, zero, suc, ◌<◌, ◌≤◌, Bool, ℤ, pos, ◌+ℤ◌, ◌≤ℤ◌, List, refl, ap, ◌∙◌, subst}
+use Rattle.std.proofs.Common.{◌≡◌, ℕ, zero, suc, ◌<◌, ◌≤◌, Bool, pos, ◌+ℤ◌, ◌≤ℤ◌, List, refl, ap, ◌∙◌, subst}
 use Rattle.std.specs.Int.{int_min}
 use Rattle.dp_spec.specs.declared.span.Span.{Span}
 use Rattle.dp_laws.proofs.EarnedValue.{greatest_ext}
@@ -11,7 +11,7 @@ use Rattle.dp_spec.specs.Model.{Model, joint_actions, joint_observations, obs_at
 use Rattle.dp_spec.specs.PolicyTree.{PolicyTree}
 use Rattle.dp_spec.specs.Quantities.{look_ahead_in, mdp_table_in, recursive_worth_in, span_sum, weighted_reward_in, weighted_table_in, weights_after_in}
 use Rattle.dp_spec.specs.Sizes.{AreWeights, weight_limit}
-use Rattle.dp_spec.specs.Sums.{greatest, int_sum, nat_sum, numbers_below}
+use Rattle.dp_spec.specs.Sums.{greatest, int_sum, numbers_below}
 use Rattle.dp_spec.specs.Value.{joint_root_action, trees_after}
 
 module _ (A : Arithmetic) (m : Model) where
