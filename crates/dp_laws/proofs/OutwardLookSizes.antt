@@ -52,10 +52,6 @@ between v u B p q h = omega (arith, ints)
 min_le : (a b : ℤ) → int_min a b ≤ℤ b
 min_le a b = omega (arith, ints, clamps)
 
-nothing_below : (B : ℕ) → neg_ℤ (pos B) ≤ℤ pos 0
-nothing_below zero = zle_of _ _ refl
-nothing_below (suc n) = omega (arith, ints)
-
 module _ (m : Model) (is : IsModel m) where
   -- what the true value of weights w is at most
   true_most : (r k : ℕ) (w : ℕ → ℕ) → unsigned_abs (look_ahead m r w k) ≤ nat_sum m.states w * value_most m r
