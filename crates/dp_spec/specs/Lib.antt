@@ -15,6 +15,7 @@ pub mod Rounding
 pub mod Arithmetic
 pub mod Quantities
 pub mod Enclosure
+pub mod Calls
 pub mod BoundTree
 pub mod Fitting
 pub mod Keeping
