@@ -53,6 +53,7 @@ pub mod Recursion
 pub mod Ring
 pub mod RootFront
 pub mod Scales
+pub mod SoundOverScales
 pub mod Sums
 pub mod TableBound
 pub mod TreeActions

@@ -9,3 +9,4 @@ pub mod Rounded
 pub mod ShapeRows
 pub mod SignificandLaws
 pub mod Shortest
+pub mod ExactSteps

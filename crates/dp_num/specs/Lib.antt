@@ -5,3 +5,4 @@ pub mod Decimals
 pub mod Divisors
 pub mod Names
 pub mod Significands
+pub mod RewardFactors
