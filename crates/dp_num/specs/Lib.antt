@@ -4,5 +4,5 @@ pub mod DecimalShape
 pub mod Decimals
 pub mod Divisors
 pub mod Names
-pub mod Significands
 pub mod RewardFactors
+pub mod Significands
