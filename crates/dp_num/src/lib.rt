@@ -24,4 +24,6 @@ pub use shape::is_decimal;
 pub use spans::add_spans;
 
 #[cfg(test)]
+mod arithmetic_tests;
+#[cfg(test)]
 mod tests;
