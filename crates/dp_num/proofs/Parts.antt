@@ -1,5 +1,5 @@
 -- Parts of weights and values, rounded: they are no larger than the whole.
-use Rattle.std.proofs.Common.{◌≡◌, ℕ, ◌^◌, ◌<◌, ◌≤◌, ℤ, pos, negsuc, ◌*ℤ◌, ◌≤ℤ◌, unsigned_abs, ap, ◌∙◌, arith}
+use Rattle.std.proofs.Common.{◌≡◌, ℕ, ◌<◌, ◌≤◌, ℤ, pos, negsuc, ◌*ℤ◌, ◌≤ℤ◌, unsigned_abs, ap, ◌∙◌, arith}
 use Rattle.std.proofs.lemmas.Int.{ints}
 use Rattle.dp_spec.specs.Rounding.{ceiling_of, floor_of, mul_down, mul_up}
 use Rattle.dp_laws.proofs.Floors.{part_abs, part_down, part_up}

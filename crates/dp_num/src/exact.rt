@@ -44,6 +44,7 @@ impl Exact {
     }
 
     /// What a reward is multiplied by where `rest` steps are left.
+    #[inline]
     fn factor(&self, rest: u32) -> u128
         requires room { reward_factor self.now rest < 2 ^ 127 }
         ensures is { result ≡ reward_factor self.now rest }
@@ -68,12 +69,14 @@ fn reward_factors(scales: &Scales) -> [u128; FACTORS]
     factors
 }
 
+#[inline]
 fn both(x: i128) -> Span
     ensures { result ≡ point x }
 {
     Span { low: x, high: x }
 }
 
+#[inline]
 fn times(x: i128, y: i128) -> i128
     requires room { unsigned_abs (x *ℤ y) < 2 ^ 127 }
     ensures { result ≡ x *ℤ y }
@@ -82,6 +85,7 @@ fn times(x: i128, y: i128) -> i128
 }
 
 /// `x` times a factor, which may have more than 127 bits where `x` is 0.
+#[inline]
 fn scaled(x: i128, factor: u128) -> i128
     requires room { unsigned_abs (x *ℤ pos factor) < 2 ^ 127 }
     ensures { result ≡ x *ℤ pos factor }
@@ -90,6 +94,7 @@ fn scaled(x: i128, factor: u128) -> i128
 }
 
 /// A weight times a reward and its factor.
+#[inline]
 fn gained(c: i128, r: i128, factor: u128) -> i128
     requires some { 0 < factor }
     requires room { unsigned_abs (c *ℤ (r *ℤ pos factor)) < 2 ^ 127 }
@@ -99,6 +104,7 @@ fn gained(c: i128, r: i128, factor: u128) -> i128
 }
 
 /// A value times a chance, the scale of the observation chances and the gain.
+#[inline]
 fn carried(v: i128, p: u64, obs: u64, gain: u64) -> i128
     requires some { 0 < obs }
     requires room { unsigned_abs (v *ℤ pos (p * obs * gain)) < 2 ^ 127 }
@@ -107,6 +113,7 @@ fn carried(v: i128, p: u64, obs: u64, gain: u64) -> i128
     times(scaled(v, product(p, gain)), i128::from(obs))
 }
 
+#[inline]
 fn product(x: u64, y: u64) -> u128
     ensures { result ≡ x * y }
 {
@@ -120,36 +127,43 @@ impl Arith for Exact {
 
     ghost calls = { λ a. exact_calls a };
 
+    #[inline]
     #[tactic(auto, unfolding(dp_spec::specs::Arithmetic::exact))]
     fn start(&self, b: u64) -> Span {
         both(i128::from(b))
     }
 
+    #[inline]
     #[tactic(auto, unfolding(dp_spec::specs::Arithmetic::exact))]
     fn one(&self) -> Span {
         both(1)
     }
 
+    #[inline]
     #[tactic(auto, unfolding(dp_spec::specs::Arithmetic::exact))]
     fn chance(&self, w: Span, p: u64, z: u64) -> Span {
         both(scaled(w.low, product(p, z)))
     }
 
+    #[inline]
     #[tactic(auto, unfolding(dp_spec::specs::Arithmetic::exact))]
     fn later(&self, c: Span) -> Span {
         both(times(c.low, i128::from(self.scales.gain)))
     }
 
+    #[inline]
     #[tactic(auto, unfolding(dp_spec::specs::Arithmetic::exact))]
     fn gain(&self, c: Span, r: i64, rest: u32) -> Span {
         both(gained(c.low, i128::from(r), self.factor(rest)))
     }
 
+    #[inline]
     #[tactic(auto, unfolding(dp_spec::specs::Arithmetic::exact))]
     fn carry(&self, v: i128, p: u64) -> i128 {
         carried(v, p, self.scales.obs, self.scales.gain)
     }
 
+    #[inline]
     #[tactic(auto, unfolding(dp_spec::specs::Arithmetic::exact))]
     fn tail(&self, w: Span, v: i128) -> i128 {
         times(w.low, v)

@@ -43,6 +43,7 @@ impl Outward {
 }
 
 /// A part of a weight, rounded down.
+#[inline]
 #[tactic(auto, unfolding(dp_spec::specs::Rounding::mul_down))]
 fn part_down(weight: i128, part: u64, whole: u64) -> i128
     requires from { pos 0 ≤ℤ weight }
@@ -58,6 +59,7 @@ fn part_down(weight: i128, part: u64, whole: u64) -> i128
 }
 
 /// A part of a weight, rounded up.
+#[inline]
 #[tactic(auto, unfolding(dp_spec::specs::Rounding::mul_up))]
 fn part_up(weight: i128, part: u64, whole: u64) -> i128
     requires from { pos 0 ≤ℤ weight }
@@ -73,6 +75,7 @@ fn part_up(weight: i128, part: u64, whole: u64) -> i128
 }
 
 /// A part of a value, rounded up.
+#[inline]
 #[tactic(auto, unfolding(dp_spec::specs::Rounding::mul_up))]
 fn value_part_up(value: i128, part: u64, whole: u64) -> i128
     requires size { unsigned_abs value ≤ 2 ^ 62 }
@@ -86,6 +89,7 @@ fn value_part_up(value: i128, part: u64, whole: u64) -> i128
 }
 
 /// A weight times a reward, in the unit of values, rounded down.
+#[inline]
 #[tactic(auto, unfolding(dp_spec::specs::Rounding::mul_down))]
 fn gain_down(weight: i128, reward: i64, scale: u64) -> i128
     requires from { pos 0 ≤ℤ weight }
@@ -98,6 +102,7 @@ fn gain_down(weight: i128, reward: i64, scale: u64) -> i128
 }
 
 /// A weight times a reward, in the unit of values, rounded up.
+#[inline]
 #[tactic(auto, unfolding(dp_spec::specs::Rounding::mul_up))]
 fn gain_up(weight: i128, reward: i64, scale: u64) -> i128
     requires from { pos 0 ≤ℤ weight }
@@ -110,6 +115,7 @@ fn gain_up(weight: i128, reward: i64, scale: u64) -> i128
 }
 
 /// A weight times a value, in the unit of values, rounded up.
+#[inline]
 #[tactic(auto, unfolding(dp_spec::specs::Rounding::mul_up))]
 fn weighted_up(weight: i128, value: i128) -> i128
     requires from { pos 0 ≤ℤ weight }
@@ -127,6 +133,7 @@ impl Arith for Outward {
 
     ghost calls = { λ a. outward_calls a };
 
+    #[inline]
     #[tactic(auto, unfolding(dp_spec::specs::Arithmetic::outward, dp_spec::specs::Rounding::mul_down, dp_spec::specs::Rounding::mul_up))]
     fn start(&self, b: u64) -> Span {
         let scale = i128::from(self.scales.start);
@@ -136,6 +143,7 @@ impl Arith for Outward {
         }
     }
 
+    #[inline]
     #[tactic(auto, unfolding(dp_spec::specs::Arithmetic::outward))]
     fn one(&self) -> Span {
         Span {
@@ -144,6 +152,7 @@ impl Arith for Outward {
         }
     }
 
+    #[inline]
     #[tactic(auto, unfolding(dp_spec::specs::Arithmetic::outward))]
     fn chance(&self, w: Span, p: u64, z: u64) -> Span {
         Span {
@@ -152,6 +161,7 @@ impl Arith for Outward {
         }
     }
 
+    #[inline]
     #[tactic(auto, unfolding(dp_spec::specs::Arithmetic::outward))]
     fn later(&self, c: Span) -> Span {
         Span {
@@ -160,6 +170,7 @@ impl Arith for Outward {
         }
     }
 
+    #[inline]
     #[tactic(auto, unfolding(dp_spec::specs::Arithmetic::outward))]
     fn gain(&self, c: Span, r: i64, _rest: u32) -> Span {
         if r >= 0 {
@@ -175,6 +186,7 @@ impl Arith for Outward {
         }
     }
 
+    #[inline]
     #[tactic(auto, unfolding(dp_spec::specs::Arithmetic::outward))]
     fn carry(&self, v: i128, p: u64) -> i128 {
         value_part_up(
@@ -184,6 +196,7 @@ impl Arith for Outward {
         )
     }
 
+    #[inline]
     #[tactic(auto, unfolding(dp_spec::specs::Arithmetic::outward))]
     fn tail(&self, w: Span, v: i128) -> i128 {
         if v >= 0 {

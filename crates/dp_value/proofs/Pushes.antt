@@ -12,10 +12,10 @@ use Rattle.dp_value.specs.Pushing.{IsPushable}
 abbrev pub pushed_part : Arithmetic → Model → (ℕ → Span) → ℕ → ℕ → ℕ → ℕ → Span
 pushed_part A m ws a o u s = A.later (A.chance (ws s) (trans_at m a s u) (obs_at m a u o))
 
--- a next weight is the sum of its parts
-pub weight_is_sum : (A : Arithmetic) (m : Model) (ws : ℕ → Span) (a o u : ℕ) → weights_after_in A m ws a o u ≡ span_sum m.states (pushed_part A m ws a o u)
+-- a next weight is the sum of the parts of all states
+pub sum_is_weight : (A : Arithmetic) (m : Model) (ws : ℕ → Span) (a o u k : ℕ) (total : Span) → total ≡ span_sum k (pushed_part A m ws a o u) → k ≡ m.states → total ≡ weights_after_in A m ws a o u
 unfolding weights_after_in
-weight_is_sum A m ws a o u = refl
+sum_is_weight A m ws a o u k total is all = rw (is, all) refl
 
 module _ (A : Arithmetic) (C : Calls) (m : Model) (ws : ℕ → Span) (p : IsPushable A C m ws) (a o u : ℕ) (pa : a < joint_actions m) (po : o < joint_observations m) (pu : u < m.states) where
   -- the calls for each part
