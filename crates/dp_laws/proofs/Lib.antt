@@ -68,6 +68,7 @@ pub mod RootFront
 pub mod Scales
 pub mod SizeLaws
 pub mod SizeSums
+pub mod SoundOverScales
 pub mod Sums
 pub mod TableBound
 pub mod TreeActions

@@ -4,4 +4,5 @@ pub mod DecimalShape
 pub mod Decimals
 pub mod Divisors
 pub mod Names
+pub mod RewardFactors
 pub mod Significands

@@ -3,5 +3,6 @@ mod SmallModels
 mod SmallRows
 mod TigerRows
 pub mod RoundingLaws
+pub mod ScaleRange
 pub mod TextLemmas
 mod TextRows
