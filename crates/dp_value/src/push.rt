@@ -30,7 +30,11 @@ pub fn next_weight<A: Arith>(
     let seen = model.obs(action, next, observation);
     let mut total = Span { low: 0, high: 0 };
     for state in 0..model.states() {
-        let reached = arith.chance(weights[state as usize], model.trans(action, state, next), seen);
+        let reached = arith.chance(
+            weights[state as usize],
+            model.trans(action, state, next),
+            seen,
+        );
         total = add_spans(total, arith.later(reached));
     }
     total
@@ -61,8 +65,22 @@ pub fn next_weight_in(
 {
     model.kept();
     if exact {
-        next_weight(&Exact::of(model.scales()), model, weights, action, observation, next)
+        next_weight(
+            &Exact::of(model.scales()),
+            model,
+            weights,
+            action,
+            observation,
+            next,
+        )
     } else {
-        next_weight(&Outward::of(model.scales()), model, weights, action, observation, next)
+        next_weight(
+            &Outward::of(model.scales()),
+            model,
+            weights,
+            action,
+            observation,
+            next,
+        )
     }
 }
