@@ -2,6 +2,7 @@ pub mod DigitRuns
 pub mod DivisorLaws
 pub mod Exponents
 pub mod Magnitudes
+pub mod Outcomes
 pub mod Rounded
 pub mod ShapeRows
 pub mod SignificandLaws

@@ -1,5 +1,5 @@
 -- The number that a text of the decimal shape writes, and what is read from it.
-use Rattle.std.specs.Prelude.{◌≡◌, Result, Ok, Err, ℕ, zero, suc, ◌+◌, ◌*◌, ◌^◌, ◌/◌, ◌%◌, ◌≤◌, Bool, true, false, ◌==◌, nat_lt, nat_le, if◌then◌else◌, List, [], ◌++◌, length, drop, slice_index, ℤ, pos, neg_ℤ, ◌*ℤ◌, unsigned_abs}
+use Rattle.std.specs.Prelude.{◌≡◌, Result, Ok, Err, ℕ, zero, suc, ◌+◌, ◌*◌, ◌^◌, ◌/◌, ◌%◌, ◌<◌, ◌≤◌, Bool, true, false, ◌==◌, nat_lt, nat_le, if◌then◌else◌, List, [], ◌++◌, length, drop, slice_index, ℤ, pos, neg_ℤ, ◌*ℤ◌, unsigned_abs}
 use Rattle.std.specs.List.{take_while}
 use Rattle.std.specs.Char.{is_ascii_digit}
 use Rattle.std.specs.Str.Parse.{digits_value}
@@ -61,6 +61,17 @@ pub record WritesShortest (text : List ℕ) (units : ℤ) (digits : ℕ) : Type 
 abbrev pub IsLarge : List ℕ → Type 0
 IsLarge text = let number = unsigned text in 10 ^ (18 + lowered number) ≤ significand number * 10 ^ raised number
 
+-- or below that
+abbrev pub IsSmall : List ℕ → Type 0
+IsSmall text = let number = unsigned text in significand number * 10 ^ raised number < 10 ^ (18 + lowered number)
+
+-- it is small, and the least number of its fraction digits is more than 18
+pub record HasTooManyDigits (text : List ℕ) (digits : ℕ) : Type 0 where
+  pub small : IsSmall text
+  pub more : 18 < digits
+  pub units : ℤ
+  pub shortest : WritesShortest text units digits
+
 -- ---- the same as a decimal that computes
 
 -- a number with so many fraction digits, in the least: a last digit 0 of the fraction goes
@@ -85,3 +96,10 @@ magnitude_where false negative number = Err Shape
 -- what is read from a text
 unfoldable pub decimal_of : List ℕ → Result Decimal NumFault
 decimal_of text = let number = unsigned text in magnitude_where (is_magnitude number) (first text == minus) number
+
+-- ---- what is known of a decimal that is read
+
+pub record IsRead (text : List ℕ) (d : Decimal) : Type 0 where
+  pub shortest : WritesShortest text d.units d.digits
+  pub magnitude : unsigned_abs d.units < 10 ^ (18 + d.digits)
+  pub digits : d.digits ≤ 18

@@ -1,8 +1,11 @@
 //! Decimal numbers.
-ghost use Rattle.std.specs.Prelude.{◌≡◌, ℕ, List, ◌+◌, ◌*◌, ◌^◌, ◌<◌, ◌≤◌, ◌&&◌, nat_lt, length, slice_index, true};
+ghost use Rattle.std.specs.Prelude.{◌≡◌, ◌↔◌, ℕ, List, ◌+◌, ◌*◌, ◌^◌, ◌<◌, ◌≤◌, length, slice_index, true, false, IfOk, IsTrue};
 ghost use Rattle.std.specs.Str.Parse.{digits_value};
 ghost use Rattle.std.specs.Char.{is_ascii_digit};
+ghost use Rattle.dp_num.specs.DecimalShape.{is_decimal};
 ghost use Rattle.dp_num.specs.DecimalShape as spec;
+ghost use Rattle.dp_num.specs.Decimals.{decimal_of, IsRead, IsLarge, HasTooManyDigits, magnitude_where, judged, shortest, signed, tens_more, tens_less};
+ghost use Rattle.dp_num.specs.Significands.{IsSeen};
 
 use crate::shape::{byte_at, is_exponent, skip_one, unsigned};
 use crate::significand::Significand;
@@ -25,13 +28,16 @@ pub enum NumFault {
     Digits(u32),
 }
 
-ghost use Rattle.dp_num.specs.Decimals.{decimal_of, magnitude_where, judged, shortest, signed, tens_more, tens_less};
-ghost use Rattle.dp_num.specs.Significands.{IsSeen};
-
 /// The number that a text of at most `2^26` bytes writes, as units and the least number of fraction digits.
 pub fn read_decimal(text: &[u8]) -> Result<Decimal, NumFault>
     requires { length text.now ≤ 2 ^ 26 }
-    ensures { result ≡ decimal_of text.now }
+    ensures computed { result ≡ decimal_of text.now }
+    ensures read { IfOk result (IsRead text.now) }
+
+    // The faults in the order in which they are tried.
+    ensures shape { (result ≡ Err NumFault.Shape) ↔ (is_decimal text.now ≡ false) }
+    ensures large { (result ≡ Err NumFault.Large) ↔ (IsTrue (is_decimal text.now) × IsLarge text.now) }
+    ensures digits { (k : ℕ) → (result ≡ Err (NumFault.Digits k)) ↔ (IsTrue (is_decimal text.now) × HasTooManyDigits text.now k) }
 {
     read_magnitude(byte_at(text, 0) == b'-', unsigned(text))
 }
