@@ -1,0 +1,61 @@
+// A sink over a writer.
+ghost use Rattle.std.specs.Prelude.{◌≡◌, ◌≤◌, ◌*◌, ◌^◌, None};
+
+use dp_io::{Sink, SinkFailed};
+use std::io::Write;
+
+/// A writer, as standard output. It keeps the counts, and tells nothing of its output.
+///
+/// Each error of the system is a fault, one of the flush too, and so is a write that takes nothing.
+#[derive(Drop)]
+pub struct HostSink<W: Write> {
+    out: W,
+    puts: u64,
+    offered: u128,
+    faults: u64,
+    ghost few_faults: { faults ≤ puts },
+    ghost few_bytes: { offered ≤ puts * 2 ^ 64 },
+}
+
+impl<W: Write> HostSink<W> {
+    /// The writer, to which nothing was put so far.
+    pub fn new(out: W) -> HostSink<W>
+        ensures { result.puts ≡ 0 }
+    {
+        HostSink {
+            out,
+            puts: 0,
+            offered: 0,
+            faults: 0,
+        }
+    }
+}
+
+// Writes all the bytes, and sends them on.
+fn write_whole<W: Write>(out: &mut W, bytes: &[u8]) -> Result<(), SinkFailed> {
+    let mut rest = bytes;
+    while !rest.is_empty() {
+        match out.write(rest) {
+            Ok(0) | Err(_) => return Err(SinkFailed),
+            Ok(count) => rest = &rest[count..],
+        }
+    }
+    match out.flush() {
+        Ok(()) => Ok(()),
+        Err(_) => Err(SinkFailed),
+    }
+}
+
+impl<W: Write> Sink for HostSink<W> {
+    ghost view = { λ s. record { puts = s.puts; offered = s.offered; faults = s.faults; told = None } };
+
+    fn put(&mut self, bytes: &[u8]) -> Result<(), SinkFailed> {
+        self.puts += 1;
+        self.offered += bytes.len() as u128;
+        let written = write_whole(&mut self.out, bytes);
+        if written.is_err() {
+            self.faults += 1;
+        }
+        written
+    }
+}

@@ -1,0 +1,16 @@
+use Rattle.dp_cli.proofs.Answering.{runs_by}
+use Rattle.dp_cli.proofs.Causes.{logs_files, read_fault_runs}
+use Rattle.dp_cli.proofs.Told.{runs_as_told}
+use Rattle.dp_cli.proofs.run.Goals as goal
+
+pub returns-clause-runs : goal.returns-clause-runs
+returns-clause-runs g c = runs_by c.do_words-outcome.result c.do_words-outcome.ensures c.put_outcome.ensures
+
+pub returns-clause-told : goal.returns-clause-told
+returns-clause-told g c = runs_as_told _ _ _ _ _ _ (runs_by c.do_words-outcome.result c.do_words-outcome.ensures c.put_outcome.ensures)
+
+pub returns-clause-fetched : goal.returns-clause-fetched
+returns-clause-fetched g c = logs_files c.do_words-outcome.ensures
+
+pub returns-clause-read_fault : goal.returns-clause-read_fault
+returns-clause-read_fault g c = read_fault_runs (runs_by c.do_words-outcome.result c.do_words-outcome.ensures c.put_outcome.ensures)

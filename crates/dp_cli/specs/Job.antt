@@ -1,0 +1,48 @@
+-- What a job asks for, and what it answers. Words that give no job are taken for one that asks for
+-- nothing, and each command adds its cases to the three definitions `files_of`, `asks` and `IsReply`.
+use Rattle.std.specs.Prelude.{◌≡◌, ℕ, List, [], ◌∷◌, Option, Some, None}
+use Rattle.dp_words.specs.declared.job.Job.{Job}
+use Rattle.dp_words.specs.declared.job.Job.TheVariants.{Plan}
+use Rattle.dp_cli.specs.declared.refusal.FileRole.{FileRole}
+use Rattle.dp_cli.specs.declared.refusal.FileRole.TheVariants.{Model}
+use Rattle.dp_cli.specs.declared.refusal.UnbuiltPart.TheVariants.{Form}
+use Rattle.dp_cli.specs.declared.refusal.Refusal.{Refusal}
+use Rattle.dp_cli.specs.declared.refusal.Refusal.TheVariants as refusals
+use Rattle.dp_cli.specs.declared.status.Status.{Status}
+use Rattle.dp_cli.specs.declared.status.Status.TheVariants as statuses
+use Rattle.dp_cli.specs.Refusal.{refusal_status, refusal_line}
+
+-- a file that a job asks for
+pub record File : Type 0 where
+  pub name : List ℕ
+  pub role : FileRole
+
+-- the names of the files that a job may ask for, in their order
+abbrev pub files_of : Option Job → List (List ℕ)
+files_of None = []
+files_of (Some (Plan model horizon nodes look merge order)) = model ∷ []
+
+-- the file that a job asks for next, when it has been given these texts, in their order
+abbrev pub asks : Option Job → List (List ℕ) → Option File
+asks (Some (Plan model horizon nodes look merge order)) [] = Some (record { name = model; role = Model })
+asks _ texts = None
+
+-- what a call answers: its status, and the text that it puts
+pub record Answer : Type 0 where
+  pub status : Status
+  pub text : List ℕ
+
+-- the answer of a command that has done its work
+abbrev pub done : List ℕ → Answer
+done text = record { status = statuses.Done; text = text }
+
+-- the answer of a command that is refused
+abbrev pub refused : Refusal → Answer
+refused refusal = record { status = refusal_status refusal; text = refusal_line refusal }
+
+-- What a job may answer when it has been given these texts and asks for no more. It is a relation,
+-- since some commands leave a choice. Want of memory is left out here: it may come in place of any.
+abbrev pub IsReply : Option Job → List (List ℕ) → Answer → Type 0
+IsReply None texts answer = answer ≡ refused refusals.Usage
+IsReply (Some (Plan model horizon nodes look merge order)) (text ∷ []) answer = answer ≡ refused (refusals.Unbuilt Form)
+IsReply job texts answer = ⊥

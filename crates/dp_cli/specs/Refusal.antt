@@ -1,0 +1,68 @@
+-- The refusals, with the status and the line of each.
+use Rattle.std.specs.Prelude.{ℕ, ◌^◌, List, ◌++◌, codes, decimal}
+use Rattle.dp_io.specs.declared.shelf.FetchFault.{FetchFault}
+use Rattle.dp_io.specs.declared.shelf.FetchFault.TheVariants as fetch_faults
+use Rattle.dp_model.specs.declared.limit.Limit.{Limit}
+use Rattle.dp_model.specs.declared.limit.Limit.TheVariants.{ModelBytes, FileBytes}
+use Rattle.dp_model.specs.declared.limit.TooLarge.{TooLarge}
+use Rattle.dp_model.specs.Limits.{limit_word}
+use Rattle.dp_words.specs.declared.job.WordFault.{WordFault}
+use Rattle.dp_words.specs.declared.job.WordFault.TheVariants as word_faults
+use Rattle.dp_cli.specs.declared.refusal.FileRole.{FileRole}
+use Rattle.dp_cli.specs.declared.refusal.FileRole.TheVariants.{Model, Second}
+use Rattle.dp_cli.specs.declared.refusal.UnbuiltPart.{UnbuiltPart}
+use Rattle.dp_cli.specs.declared.refusal.UnbuiltPart.TheVariants.{Form}
+use Rattle.dp_cli.specs.declared.refusal.Refusal.{Refusal}
+use Rattle.dp_cli.specs.declared.refusal.Refusal.TheVariants as refusals
+use Rattle.dp_cli.specs.declared.status.Status.{Status}
+use Rattle.dp_cli.specs.declared.status.Status.TheVariants as statuses
+
+-- the most bytes of a file, and the limit that a longer one passes
+abbrev pub most_bytes : FileRole → ℕ
+most_bytes Model = 2 ^ 26
+most_bytes Second = 2 ^ 28
+
+abbrev pub role_limit : FileRole → Limit
+role_limit Model = ModelBytes
+role_limit Second = FileBytes
+
+-- a file that is longer than it may be, by its number of bytes
+abbrev pub long_file : FileRole → ℕ → Refusal
+long_file role count = refusals.TooLarge (record { what = role_limit role; count = count })
+
+-- a file that was not given
+abbrev pub fetch_refusal : FileRole → FetchFault → Refusal
+fetch_refusal role fetch_faults.Failed = refusals.Read role
+fetch_refusal role (fetch_faults.TooLong count) = long_file role count
+fetch_refusal role fetch_faults.Memory = refusals.Memory
+
+-- words that gave no job
+abbrev pub word_refusal : WordFault → Refusal
+word_refusal word_faults.Usage = refusals.Usage
+word_refusal word_faults.Memory = refusals.Memory
+
+abbrev pub refusal_status : Refusal → Status
+refusal_status refusals.Usage = statuses.Usage
+refusal_status (refusals.Read role) = statuses.ReadFault
+refusal_status (refusals.TooLarge passed) = statuses.TooLarge
+refusal_status (refusals.Unbuilt part) = statuses.Unbuilt
+refusal_status refusals.Memory = statuses.NoMemory
+
+-- the word of a limit that was passed, and the count that passed it
+abbrev pub large_line : TooLarge → List ℕ
+large_line passed = codes "refused large " ++ limit_word passed.what ++ codes " " ++ decimal passed.count ++ codes "\n"
+
+-- the number of the fetch that failed
+abbrev pub read_line : FileRole → List ℕ
+read_line Model = codes "refused read 1\n"
+read_line Second = codes "refused read 2\n"
+
+abbrev pub unbuilt_line : UnbuiltPart → List ℕ
+unbuilt_line Form = codes "refused unbuilt form\n"
+
+abbrev pub refusal_line : Refusal → List ℕ
+refusal_line refusals.Usage = codes "refused usage\n"
+refusal_line (refusals.Read role) = read_line role
+refusal_line (refusals.TooLarge passed) = large_line passed
+refusal_line (refusals.Unbuilt part) = unbuilt_line part
+refusal_line refusals.Memory = codes "refused memory\n"

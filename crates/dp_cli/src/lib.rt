@@ -1,0 +1,55 @@
+//! The commands: from the words of the command line, and the files that they name, to the one text
+//! that a call puts.
+#![tactic(auto)]
+
+ghost use Rattle.std.specs.Prelude.{◌≡◌, ◌≢◌, ◌+◌, ◌<◌, ◌^◌, ◌↔◌, None, length, map, string_bytes, IfSome};
+ghost use Rattle.dp_words.specs.Words.{job_of};
+ghost use Rattle.dp_cli.specs.Causes.{LogsFirstOf, LastFailed};
+ghost use Rattle.dp_cli.specs.Job.{files_of};
+ghost use Rattle.dp_cli.specs.Run.{Runs, RunsAsTold};
+
+mod job;
+mod put;
+mod refusal;
+mod status;
+
+use dp_io::{Shelf, Sink};
+use job::do_words;
+use put::put_outcome;
+pub use refusal::{FileRole, Refusal, UnbuiltPart};
+pub use status::Status;
+use std::alloc::Global;
+
+/// Does what the words after the program's name ask for: fetches the files of the job from the
+/// shelf, the model first, and puts one text to the sink.
+///
+/// With `Done` and `Rejected` the text is that of the command. With any other status it is the one
+/// line that tells the refusal, and `WriteFault` comes in place of any status where the put failed.
+/// A job asks for its next file only where nothing before it is refused. Want of memory may come
+/// at any step, but not after a fetch that failed, whose line takes none.
+pub fn run<S: Shelf, W: Sink>(alloc: Global, words: &[String], shelf: &mut S, out: &mut W) -> Status
+    requires { (W.view out.old).puts < 2 ^ 63 }
+
+    // Over every shelf and sink: what is fetched, what is answered to it, and the put of the answer.
+    ensures runs { Runs (job_of (map string_bytes words.now)) (S.view shelf.old) (S.view shelf.new)
+        (W.view out.old) (W.view out.new) result }
+
+    // Over a shelf that tells its contents: they determine the answer.
+    ensures told { IfSome (S.view shelf.old).told (λ contents. RunsAsTold contents (length (S.view shelf.old).log)
+        (job_of (map string_bytes words.now)) (W.view out.old) (W.view out.new) result) }
+
+    // Plain facts that follow from these.
+    ensures fetched { LogsFirstOf (files_of (job_of (map string_bytes words.now))) (S.view shelf.old).log (S.view shelf.new).log }
+    ensures one_put { (W.view out.new).puts ≡ (W.view out.old).puts + 1 }
+    ensures usage { result ≢ Status.WriteFault → result ≢ Status.NoMemory →
+        ((result ≡ Status.Usage) ↔ (job_of (map string_bytes words.now) ≡ None)) }
+    ensures read_fault { result ≢ Status.WriteFault →
+        ((result ≡ Status.ReadFault) ↔ LastFailed (S.view shelf.old).log (S.view shelf.new).log) }
+    ensures write_fault { (result ≡ Status.WriteFault) ↔ ((W.view out.old).faults < (W.view out.new).faults) }
+{
+    let outcome = do_words(alloc, words, shelf);
+    put_outcome(alloc, out, outcome)
+}
+
+#[cfg(test)]
+mod tests;

@@ -1,0 +1,59 @@
+// The one put of a call.
+ghost use Rattle.std.specs.Prelude.{◌≡◌, ◌<◌, ◌^◌, string_bytes, IfOk};
+ghost use Rattle.dp_cli.specs.Refusal.{large_line};
+ghost use Rattle.dp_cli.specs.Put.{PutsAnswer};
+ghost use Rattle.dp_cli.specs.Steps.{PutsOutcome, PutsRefusal};
+
+use crate::{Refusal, Status};
+use dp_io::Sink;
+use dp_model::TooLarge;
+use dp_num::Memory;
+use std::alloc::Global;
+
+// Puts the text, or the line that tells why there is none.
+pub fn put_outcome<W: Sink>(alloc: Global, out: &mut W, outcome: Result<Vec<u8>, Refusal>) -> Status
+    requires { (W.view out.old).puts < 2 ^ 63 }
+    ensures { PutsOutcome (W.view out.old) (W.view out.new) outcome result }
+{
+    match outcome {
+        Ok(text) => put(out, Status::Done, &text),
+        Err(refusal) => put_refusal(alloc, out, refusal),
+    }
+}
+
+// Puts the line of a refusal. A line without a number takes no memory.
+fn put_refusal<W: Sink>(alloc: Global, out: &mut W, refusal: Refusal) -> Status
+    requires { (W.view out.old).puts < 2 ^ 63 }
+    ensures { PutsRefusal (W.view out.old) (W.view out.new) refusal result }
+{
+    match refusal {
+        Refusal::Usage => put(out, Status::Usage, b"refused usage\n"),
+        Refusal::Read(role) => put(out, Status::ReadFault, role.read_line().as_bytes()),
+        Refusal::TooLarge(passed) => match line_of_limit(alloc, passed) {
+            Ok(line) => put(out, Status::TooLarge, line.as_bytes()),
+            Err(Memory) => put(out, Status::NoMemory, b"refused memory\n"),
+        },
+        Refusal::Unbuilt(part) => put(out, Status::Unbuilt, part.line().as_bytes()),
+        Refusal::Memory => put(out, Status::NoMemory, b"refused memory\n"),
+    }
+}
+
+// The line that tells a limit that was passed.
+fn line_of_limit(alloc: Global, passed: TooLarge) -> Result<String, Memory>
+    ensures { IfOk result (λ line. string_bytes line ≡ large_line passed) }
+{
+    let word = passed.what.word();
+    let count = passed.count;
+    Ok(format!(in alloc; "refused large {word} {count}\n")?)
+}
+
+// Puts a text, and gives the status of the call.
+fn put<W: Sink>(out: &mut W, status: Status, text: &[u8]) -> Status
+    requires { (W.view out.old).puts < 2 ^ 63 }
+    ensures { PutsAnswer (W.view out.old) (W.view out.new) (record { status = status; text = text.now }) result }
+{
+    match out.put(text) {
+        Ok(()) => status,
+        Err(_) => Status::WriteFault,
+    }
+}

@@ -1,0 +1,122 @@
+ghost use Rattle.std.specs.Prelude.{◌≡◌};
+ghost use Rattle.dp_cli.specs.Refusal.{word_refusal, fetch_refusal};
+
+use dp_io::FetchFault;
+use dp_model::{Limit, TooLarge};
+use dp_num::Memory;
+use dp_words::WordFault;
+
+/// What a file is to the job that asks for it.
+#[derive(Clone, Copy, Debug, PartialEq, Eq)]
+pub enum FileRole {
+    /// The model, which a job asks for first.
+    Model,
+    /// The second file, as a certificate.
+    Second,
+}
+
+/// A part of the program that is not built yet.
+#[derive(Clone, Copy, Debug, PartialEq, Eq)]
+pub enum UnbuiltPart {
+    /// The reader of a model in this form.
+    Form,
+}
+
+/// Why a command gave no text. Each is told by one line.
+#[derive(Clone, Copy, Debug, PartialEq, Eq)]
+pub enum Refusal {
+    /// The words ask for no job.
+    Usage,
+    /// The fetch of the file failed.
+    Read(FileRole),
+    /// A limit is passed.
+    TooLarge(TooLarge),
+    /// The job needs what is not built yet.
+    Unbuilt(UnbuiltPart),
+    /// Memory ran out.
+    Memory,
+}
+
+impl From<Memory> for Refusal {
+    ghost use Rattle.dp_cli.specs.declared.refusal.Refusal.TheVariants as refusals;
+
+    ghost from_gives = { λ _ refusal. refusal ≡ refusals.Memory };
+
+    fn from(_: Memory) -> Refusal {
+        Refusal::Memory
+    }
+}
+
+impl From<WordFault> for Refusal {
+    ghost from_gives = { λ fault refusal. refusal ≡ word_refusal fault };
+
+    fn from(fault: WordFault) -> Refusal {
+        match fault {
+            WordFault::Usage => Refusal::Usage,
+            WordFault::Memory => Refusal::Memory,
+        }
+    }
+}
+
+impl Refusal {
+    /// The refusal of a file that was not given.
+    pub fn of_fetch(role: FileRole, fault: FetchFault) -> Refusal
+        ensures { result ≡ fetch_refusal role fault }
+    {
+        match fault {
+            FetchFault::Failed => Refusal::Read(role),
+            FetchFault::TooLong(count) => Refusal::TooLarge(TooLarge {
+                what: role.limit(),
+                count: count as u128,
+            }),
+            FetchFault::Memory => Refusal::Memory,
+        }
+    }
+}
+
+impl FileRole {
+    ghost use Rattle.dp_cli.specs.Refusal.{role_limit, most_bytes, read_line};
+
+    /// The limit on the bytes of such a file.
+    pub fn limit(self) -> Limit
+        ensures { result ≡ role_limit self }
+    {
+        match self {
+            FileRole::Model => Limit::ModelBytes,
+            FileRole::Second => Limit::FileBytes,
+        }
+    }
+
+    /// The most bytes that such a file may have.
+    pub fn most_bytes(self) -> u64
+        ensures { result ≡ most_bytes self }
+    {
+        match self {
+            FileRole::Model => 1 << 26,
+            FileRole::Second => 1 << 28,
+        }
+    }
+
+    /// The line that tells that such a file could not be read: the number of the fetch.
+    pub fn read_line(self) -> &'static str
+        ensures { result.now ≡ read_line self }
+    {
+        match self {
+            FileRole::Model => "refused read 1\n",
+            FileRole::Second => "refused read 2\n",
+        }
+    }
+}
+
+impl UnbuiltPart {
+    ghost use Rattle.dp_cli.specs.Refusal.{unbuilt_line};
+
+    /// The line that tells that this part is not built yet.
+    pub fn line(self) -> &'static str
+        ensures { result.now ≡ unbuilt_line self }
+    {
+        match self {
+            UnbuiltPart::Form => "refused unbuilt form\n",
+        }
+    }
+}

@@ -1,0 +1,82 @@
+ghost use Rattle.std.specs.Prelude.{◌≡◌, map, string_bytes};
+ghost use Rattle.dp_words.specs.Words.{IsReadAs, job_of};
+
+use crate::Name;
+use dp_num::Memory;
+use std::alloc::Global;
+
+/// What a command is to do, with which files and options.
+#[derive(Drop)]
+pub enum Job {
+    /// A plan for the model: its horizon, the budget of inner nodes of the bound tree, the steps
+    /// of look-ahead in its bounds, whether equivalent classes are merged, and the order in which
+    /// the search takes the places of a front.
+    Plan {
+        model: Name,
+        horizon: u32,
+        nodes: u32,
+        look: u32,
+        merge: bool,
+        order: OrderWord,
+    },
+}
+
+/// The place of a front at which a plan's search branches.
+#[derive(Clone, Copy, Debug, PartialEq, Eq)]
+pub enum OrderWord {
+    /// The first place.
+    First,
+    /// The first place of greatest weight.
+    Heavy,
+    /// The first place of greatest spread.
+    Spread,
+}
+
+/// Why the words gave no job.
+#[derive(Clone, Copy, Debug, PartialEq, Eq)]
+pub enum WordFault {
+    /// They ask for none.
+    Usage,
+    Memory,
+}
+
+impl From<Memory> for WordFault {
+    ghost use Rattle.dp_words.specs.declared.job.WordFault.TheVariants as faults;
+
+    ghost from_gives = { λ _ fault. fault ≡ faults.Memory };
+
+    fn from(_: Memory) -> WordFault {
+        WordFault::Memory
+    }
+}
+
+// What a plan does where the words do not say.
+const DEFAULT_NODES: u32 = 100_000;
+
+const DEFAULT_LOOK: u32 = 1;
+
+/// The job that the words ask for: those after the program's name, each option with its default
+/// where it is not given. The words `plan MODEL --horizon 1` give a job, where MODEL does not
+/// begin with a dash. All others are a fault of usage.
+pub fn read_words(alloc: Global, words: &[String]) -> Result<Job, WordFault>
+    ensures { IsReadAs (job_of (map string_bytes words.now)) result }
+{
+    let [command, model, option, horizon] = words else {
+        return Err(WordFault::Usage);
+    };
+    let is_plan = command.as_str() == "plan"
+        && option.as_str() == "--horizon"
+        && horizon.as_str() == "1"
+        && !model.as_bytes().starts_with(b"-");
+    if !is_plan {
+        return Err(WordFault::Usage);
+    }
+    Ok(Job::Plan {
+        model: Name::of(alloc, model.as_str())?,
+        horizon: 1,
+        nodes: DEFAULT_NODES,
+        look: DEFAULT_LOOK,
+        merge: true,
+        order: OrderWord::First,
+    })
+}

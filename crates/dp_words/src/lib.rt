@@ -1,0 +1,8 @@
+//! The words of the command line, and the job that they ask for.
+#![tactic(auto)]
+
+mod job;
+mod name;
+
+pub use job::{Job, OrderWord, WordFault, read_words};
+pub use name::Name;
