@@ -4,3 +4,4 @@ mod SmallRows
 mod TigerRows
 pub mod TextLemmas
 mod TextRows
+pub mod RoundingLaws
