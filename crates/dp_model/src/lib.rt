@@ -1,6 +1,16 @@
-//! The limits on a model, and on the work that is done with it.
+//! Models: their tables, their names, and the limits on them.
 #![tactic(auto)]
 
+mod items;
 mod limit;
+mod model;
+mod name_list;
+mod names;
+mod numbering;
+mod sizes;
 
+pub use items::Items;
 pub use limit::{Limit, TooLarge};
+pub use model::Model;
+pub use names::Names;
+pub use sizes::{Cells, Sizes};

@@ -1,0 +1,3 @@
+pub mod JointNumberLemmas
+pub mod NameLemmas
+pub mod ModelLemmas

@@ -1,0 +1,14 @@
+use Rattle.std.proofs.Common.{ap, length}
+use Rattle.dp_model.specs.Names.{AreNames}
+use Rattle.dp_model.proofs.names.Names.add_state.Goals as goal
+
+pub invariant_of-self : goal.invariant_of-self
+invariant_of-self c =
+    let old = c.self.invariant in
+    record {
+      agents = old.agents;
+      states = c.add.ensures.kept old.states c.requires.name (rw (ap (λ n. length n.states) c.self.view_is) c.requires.room);
+      actions = old.actions;
+      observations = old.observations;
+      alike = old.alike;
+    }
