@@ -1,0 +1,5 @@
+pub mod BestConstants
+pub mod ExpectedRewards
+pub mod Modes
+pub mod Rooms
+pub mod WeighedSums

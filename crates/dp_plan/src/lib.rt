@@ -1,0 +1,11 @@
+//! Planning over one step: the best constant policy of a model, and the text of its certificate.
+#![tactic(auto)]
+
+mod constant_policies;
+mod expected_reward;
+mod laws;
+
+pub use constant_policies::{BestConstant, best_constant};
+pub use laws::{
+    best_constant_certificate_is_valid, one_step_is_within, one_step_over_small_scales_is_exact,
+};
