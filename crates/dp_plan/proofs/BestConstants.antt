@@ -1,6 +1,7 @@
 -- The certificate of the best constant policy is valid.
-use Rattle.std.proofs.Common.{◌≡◌, ◌⊎◌, inl, inr, ⊎_elim, true, ℕ, zero, suc, ◌<◌, ◌≤◌, ℤ, pos, ◌≤ℤ◌, ◌<ℤ◌, refl, sym, ap, ◌∙◌, subst, arith}
+use Rattle.std.proofs.Common.{◌≡◌, ◌⊎◌, inl, inr, ⊎_elim, true, false, ℕ, zero, suc, ◌<◌, ◌≤◌, ℤ, pos, ◌≤ℤ◌, ◌<ℤ◌, refl, sym, ap, ◌∙◌, subst, arith}
 use Rattle.std.proofs.lemmas.Int.{ints, clamps}
+use Rattle.std.specs.Int.Signed.{lt_z, lt_z_yes, lt_z_no}
 use Rattle.dp_laws.proofs.Best.{best_below}
 use Rattle.dp_laws.proofs.ConstantPolicies.{constant_policy_fits, root_bound_at_one}
 use Rattle.dp_laws.proofs.ExactArithmetic.{exact_sound}
@@ -24,6 +25,13 @@ use Rattle.dp_plan.specs.ConstantCertificate.{constant_certificate}
 use Rattle.dp_plan.proofs.Modes.{within_one_step}
 
 -- ---- the first greatest, one number after the other
+
+-- what a comparison says
+pub less_where_true : (a b : ℤ) → lt_z a b ≡ true → a <ℤ b
+less_where_true a b e = lt_z_yes (rw e tt)
+
+pub at_most_where_false : (a b : ℤ) → lt_z a b ≡ false → b ≤ℤ a
+at_most_where_false a b e = lt_z_no (rw e tt)
 
 one_more : (k n : ℕ) → k < suc n → (k < n) ⊎ (k ≡ n)
 one_more k n h = grind arith

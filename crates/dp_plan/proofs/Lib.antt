@@ -1,4 +1,5 @@
 pub mod BestConstants
+pub mod ConstantTexts
 pub mod ExpectedRewards
 pub mod Modes
 pub mod Rooms

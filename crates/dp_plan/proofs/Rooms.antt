@@ -7,7 +7,10 @@ use Rattle.std.specs.Int.{w128}
 use Rattle.dp_spec.specs.Mode.{greatest_magnitude, is_exact_mode}
 use Rattle.dp_spec.specs.Model.{IsModel, Model, joint_actions, joint_observations, obs_at, reward_at, start_at, step_scale, trans_at, value_scale}
 use Rattle.dp_spec.specs.Sums.{nat_sum}
+use Rattle.dp_spec.specs.declared.scales.Scales.{Scales}
+use Rattle.dp_plan.specs.BestConstant.{constant_value}
 use Rattle.dp_plan.specs.ExpectedReward.{reward_from_start, reward_in_state, reward_on_arrival}
+use Rattle.dp_plan.proofs.ExpectedRewards.{value_is_expected}
 use Rattle.dp_plan.proofs.Modes.{power_one}
 use Rattle.dp_plan.proofs.WeighedSums.{HasRoom, weighed_abs}
 
@@ -53,6 +56,38 @@ unfolding step_scale
 rooms m ok e =
     have_room m.scales.start m.scales.trans m.scales.obs m.scales.discount (most_reward m) ok.scales.start ok.scales.trans ok.scales.discount
     (subst (λ (n : ℕ). m.scales.start * n * 1 * most_reward m ≤ 2 ^ 126) (power_one (step_scale m)) (exact_limit m e))
+
+-- a factor that is a first power, and a factor of 1
+times_power : (b s : ℕ) → b * s ^ 1 * 1 ≡ b * s
+times_power b s = rw (power_one s) (omega arith)
+
+-- products of the scales, the reward's among them
+pub record UnitHasRoom (c : Scales) : Type 0 where
+  pub step : c.trans * c.obs * c.discount ≤ 2 ^ 126
+  pub reward : c.reward * (c.trans * c.obs * c.discount) ≤ 2 ^ 126
+  pub whole : c.start * (c.reward * (c.trans * c.obs * c.discount)) ≤ 2 ^ 126
+
+unit_products : (b s r k : ℕ) → 0 < b → 0 < r → r ≤ k → b * s * k ≤ 2 ^ 126 → (s ≤ 2 ^ 126) × (r * s ≤ 2 ^ 126) × (b * (r * s) ≤ 2 ^ 126)
+unit_products b s r k some_b some_r le h =
+    let fewer : b * s * r ≤ b * s * k = mul-le-mul_left (b * s) le in
+    let first = times_some s r some_r in
+    let second = times_some (r * s) b some_b in
+    (omega arith, omega arith, omega arith)
+
+-- the unit fits
+pub unit_has_room : (m : Model) → IsModel m → is_exact_mode m 1 ≡ true → UnitHasRoom m.scales
+unfolding step_scale most_reward
+unit_has_room m ok e =
+    let le : m.scales.reward ≤ most_reward m = omega arith in
+    let limit : m.scales.start * step_scale m * most_reward m ≤ 2 ^ 126 =
+    subst (λ (n : ℕ). n * most_reward m ≤ 2 ^ 126) (times_power m.scales.start (step_scale m)) (exact_limit m e) in
+    let all = unit_products m.scales.start (step_scale m) m.scales.reward (most_reward m) ok.scales.start ok.scales.reward le limit in
+    record { step = all.0; reward = all.1; whole = all.2 }
+
+-- the unit, factor by factor
+pub unit_is : (m : Model) → m.scales.start * (m.scales.reward * (m.scales.trans * m.scales.obs * m.scales.discount)) ≡ value_scale m 1
+unfolding value_scale step_scale
+unit_is m = ap (λ (n : ℕ). m.scales.start * (m.scales.reward * n)) (sym (power_one (step_scale m)))
 
 -- ---- the three sums
 module _ (m : Model) (ok : IsModel m) (e : is_exact_mode m 1 ≡ true) (a : ℕ) (act : a < joint_actions m) where
@@ -102,3 +137,6 @@ module _ (m : Model) (ok : IsModel m) (e : is_exact_mode m 1 ≡ true) (a : ℕ)
       let room = (rooms m ok e).whole in
       let abs : unsigned_abs (pos m.scales.discount *ℤ reward_from_start m a) ≤ 2 ^ 126 = rw unsigned_abs-mul (omega arith) in
       fits_signed_from_abs w128 _ (omega arith)
+
+  pub constant_value_fits : FitsSigned w128 (constant_value m a)
+  constant_value_fits = subst (λ (z : ℤ). FitsSigned w128 z) (value_is_expected m ok a act) value_fits
