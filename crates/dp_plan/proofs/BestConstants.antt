@@ -1,5 +1,5 @@
 -- The certificate of the best constant policy is valid.
-use Rattle.std.proofs.Common.{◌≡◌, ◌⊎◌, inl, inr, ⊎_elim, true, false, ℕ, zero, suc, ◌<◌, ◌≤◌, ℤ, pos, ◌≤ℤ◌, ◌<ℤ◌, refl, sym, ap, ◌∙◌, subst, arith}
+use Rattle.std.proofs.Common.{◌≡◌, ◌⊎◌, ⊎_elim, true, false, ℕ, zero, suc, ◌<◌, ℤ, ◌≤ℤ◌, ◌<ℤ◌, refl, sym, ap, ◌∙◌, arith}
 use Rattle.std.proofs.lemmas.Int.{ints, clamps}
 use Rattle.std.specs.Int.Signed.{lt_z, lt_z_yes, lt_z_no}
 use Rattle.dp_laws.proofs.Best.{best_below}
@@ -9,17 +9,15 @@ use Rattle.dp_laws.proofs.Order.{equal_of_le}
 use Rattle.dp_laws.proofs.QuantityLaws.{exact_quantities, worth_enclosed}
 use Rattle.dp_spec.specs.declared.span.Span.{Span}
 use Rattle.dp_spec.specs.Arithmetic.{exact}
-use Rattle.dp_spec.specs.Bound.{bound_of}
 use Rattle.dp_spec.specs.Certificate.{IsValid}
 use Rattle.dp_spec.specs.ConstantPolicy.{constant_policy}
 use Rattle.dp_spec.specs.Enclosure.{equality}
 use Rattle.dp_spec.specs.Fitting.{front_bound}
 use Rattle.dp_spec.specs.Mode.{is_exact_mode}
 use Rattle.dp_spec.specs.Model.{IsModel, Model, joint_actions}
-use Rattle.dp_spec.specs.Quantities.{bound_in, forward_worth_in}
+use Rattle.dp_spec.specs.Quantities.{forward_worth_in}
 use Rattle.dp_spec.specs.Steps.{root_front}
 use Rattle.dp_spec.specs.Sums.{greatest, numbers_below}
-use Rattle.dp_spec.specs.Value.{policy_value}
 use Rattle.dp_plan.specs.BestConstant.{IsBestConstant, IsFirstGreatest, constant_value}
 use Rattle.dp_plan.specs.ConstantCertificate.{constant_certificate}
 use Rattle.dp_plan.proofs.Modes.{within_one_step}

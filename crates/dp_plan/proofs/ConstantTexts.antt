@@ -1,5 +1,5 @@
 -- The text of the certificate of a constant policy over one step, part by part.
-use Rattle.std.proofs.Common.{◌≡◌, true, ℕ, suc, ◌+◌, ◌^◌, ◌<◌, ◌≤◌, ℤ, pos, List, [], ◌∷◌, ◌++◌, codes, length, drop, get_or, refl, sym, ap, ◌∙◌, append_assoc, append-nil, add-one, arith}
+use Rattle.std.proofs.Common.{◌≡◌, true, ℕ, suc, ◌+◌, ◌<◌, ℤ, pos, List, [], ◌∷◌, ◌++◌, codes, length, drop, get_or, refl, sym, ap, ◌∙◌, append_assoc, append-nil, add-one, arith}
 use Rattle.std.proofs.Math.Nat.{pow-zero}
 use Rattle.std.proofs.Math.Seq.{drop-cons, drop-length}
 use Rattle.std.proofs.lemmas.Fmt.{decimal_digit}
@@ -8,7 +8,7 @@ use Rattle.dp_spec.proofs.TextLemmas.{text_of_lines-append}
 use Rattle.dp_spec.specs.BoundTree.{leaf}
 use Rattle.dp_spec.specs.CertificateText.{certificate_text, head_lines, node_lines}
 use Rattle.dp_spec.specs.ConstantPolicy.{constant_policy, constant_trees}
-use Rattle.dp_spec.specs.JointNumbers.{parts_of, product}
+use Rattle.dp_spec.specs.JointNumbers.{parts_of}
 use Rattle.dp_spec.specs.Mode.{is_exact_mode, unit_of}
 use Rattle.dp_spec.specs.Model.{IsModel, Model, value_scale}
 use Rattle.dp_spec.specs.PolicyText.{agent_lines, end_form, policy_rows}

@@ -1,11 +1,9 @@
 -- The limits and the mode of a horizon of one step.
-use Rattle.std.proofs.Common.{◌≡◌, true, ℕ, zero, suc, ◌+◌, ◌*◌, ◌^◌, ◌<◌, ◌≤◌, max, ℤ, pos, List, [], ◌∷◌, length, get_or, unsigned_abs, refl, sym, ap, ◌∙◌, subst, arith}
+use Rattle.std.proofs.Common.{◌≡◌, true, ℕ, suc, ◌*◌, ◌^◌, ◌≤◌, max, ℤ, pos, List, [], ◌∷◌, length, get_or, unsigned_abs, refl, sym, ◌∙◌, subst, arith}
 use Rattle.std.proofs.lemmas.Bool.{le-leb}
 use Rattle.std.proofs.Math.Nat.{pow-zero, pow-suc, mul-le-mul}
-use Rattle.dp_spec.specs.declared.scales.Scales.{Scales}
 use Rattle.dp_spec.specs.Mode.{IsWithin, greatest_magnitude, is_exact_mode, own_history_count}
 use Rattle.dp_spec.specs.Model.{IsModel, Model, joint_actions, joint_observations, step_scale}
-use Rattle.dp_spec.specs.Sums.{nat_sum}
 use Rattle.dp_plan.specs.PlanLaws.{AreSmallScales}
 
 -- the first power

@@ -1,4 +1,4 @@
-use Rattle.std.proofs.Common.{◌≡◌, ◌<◌, ◌+◌, ◌++◌, ap, sym, ◌∙◌, List, ℕ, length, drop, refl, arith}
+use Rattle.std.proofs.Common.{◌≡◌, ◌<◌, ◌+◌, ◌++◌, ap, sym, ◌∙◌, List, ℕ, length, drop, arith}
 use Rattle.dp_spec.specs.JointNumbers.{parts_of}
 use Rattle.dp_plan.specs.ConstantPolicyText.{agent_text, agents_text}
 use Rattle.dp_plan.proofs.ConstantTexts.{length-parts_of, next_agent, no_agent_left}

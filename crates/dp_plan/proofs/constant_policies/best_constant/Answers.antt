@@ -1,8 +1,8 @@
-use Rattle.std.proofs.Common.{◌≡◌, ◌<◌, ◌<ℤ◌, ◌≤ℤ◌, to_z, of_z, sym, ◌∙◌, subst, add-one, rules, arith}
-use Rattle.std.proofs.lemmas.Int.{ints, to_z-of_z}
+use Rattle.std.proofs.Common.{◌≡◌, ◌<◌, ◌<ℤ◌, ◌≤ℤ◌, to_z, of_z, sym, ◌∙◌, add-one, rules, arith}
+use Rattle.std.proofs.lemmas.Int.{to_z-of_z}
 use Rattle.std.specs.Int.{w128}
 use Rattle.dp_spec.specs.Model.{Model, joint_actions}
-use Rattle.dp_plan.specs.BestConstant.{IsFirstGreatest, constant_value}
+use Rattle.dp_plan.specs.BestConstant.{constant_value}
 use Rattle.dp_plan.proofs.BestConstants.{at_most_where_false, less_where_true, next_is_first, next_is_no_first}
 use Rattle.dp_plan.proofs.Rooms.{constant_value_fits}
 use Rattle.dp_plan.proofs.WeighedSums.{read_back}
@@ -27,9 +27,9 @@ loop-action-preserved c =
     let m : Model = c.args.model.now.model in
     elim c.if-value-best.branch [
       | then-value-best w ↦
-        let more : constant_value m c.loop-action.best.action <ℤ constant_value m c.loop-action.action = rw (sym (value c), sym (so_far c)) (less_where_true _ _ w.if-value-best.true) in
-        rw w.best-is (record { first = rw add-one (next_is_first (constant_value m) _ _ c.loop-action.invariant.first more); value = value c })
+          let more : constant_value m c.loop-action.best.action <ℤ constant_value m c.loop-action.action = rw (sym (value c), sym (so_far c)) (less_where_true _ _ w.if-value-best.true) in
+          rw w.best-is (record { first = rw add-one (next_is_first (constant_value m) _ _ c.loop-action.invariant.first more); value = value c })
       | else-value-best w ↦
-        let less : constant_value m c.loop-action.action ≤ℤ constant_value m c.loop-action.best.action = rw (sym (value c), sym (so_far c)) (at_most_where_false _ _ w.if-value-best.false) in
-        rw w.best-is (record { first = rw add-one (next_is_no_first (constant_value m) _ _ c.loop-action.invariant.first less); value = c.loop-action.invariant.value })
+          let less : constant_value m c.loop-action.action ≤ℤ constant_value m c.loop-action.best.action = rw (sym (value c), sym (so_far c)) (at_most_where_false _ _ w.if-value-best.false) in
+          rw w.best-is (record { first = rw add-one (next_is_no_first (constant_value m) _ _ c.loop-action.invariant.first less); value = c.loop-action.invariant.value })
     ]

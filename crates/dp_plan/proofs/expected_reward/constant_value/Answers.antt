@@ -1,4 +1,4 @@
-use Rattle.std.proofs.Common.{◌≡◌, ap, pos, ◌*ℤ◌, to_z, of_z, ◌∙◌, rules}
+use Rattle.std.proofs.Common.{◌≡◌, pos, ◌*ℤ◌, to_z, of_z, ◌∙◌, rules}
 use Rattle.std.proofs.lemmas.Int.{to_z-of_z}
 use Rattle.std.specs.Int.{w128}
 use Rattle.dp_spec.specs.declared.scales.Scales.{Scales}
