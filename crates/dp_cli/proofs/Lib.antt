@@ -1,3 +1,6 @@
 mod Answering
 mod Causes
+mod PlainLists
+mod PlainRows
+mod PlainSums
 mod Told
