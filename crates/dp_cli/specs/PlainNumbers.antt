@@ -1,5 +1,5 @@
 -- The numbers of a plain model, each of which has one spelling.
-use Rattle.std.specs.Prelude.{ℕ, ◌-◌, Bool, ◌==◌, ◌&&◌, not, nat_lt, nat_le, List, [], ◌∷◌, length, slice_index, Option, Some, None, ℤ, pos, neg_ℤ, codes, if◌then◌else◌}
+use Rattle.std.specs.Prelude.{ℕ, ◌-◌, Bool, false, ◌==◌, ◌&&◌, not, nat_lt, nat_le, List, [], ◌∷◌, length, slice_index, drop, Option, Some, ℤ, pos, neg_ℤ, codes, if◌then◌else◌}
 use Rattle.std.specs.Char.{is_ascii_digit}
 use Rattle.std.specs.List.{list_all}
 use Rattle.std.specs.Str.{bytes_eq}
@@ -33,11 +33,14 @@ chance_of text =
 unfoldable pub magnitude_of : List ℕ → Option ℕ
 magnitude_of digits = where_true (are_digits 8 digits && not (slice_index digits 0 == digit_zero)) (digits_value 10 digits)
 
+abbrev pub begins_with_minus : List ℕ → Bool
+begins_with_minus [] = false
+begins_with_minus (b ∷ bytes) = b == minus
+
 -- a magnitude, where `-` stands before it negated
 abbrev pub signed_of : List ℕ → Option ℤ
-signed_of [] = None
-signed_of (b ∷ digits) =
-    if b == minus then (magnitude_of digits >>= λ n. Some (neg_ℤ (pos n))) else (magnitude_of (b ∷ digits) >>= λ n. Some (pos n))
+signed_of text =
+    if begins_with_minus text then (magnitude_of (drop 1 text) >>= λ n. Some (neg_ℤ (pos n))) else (magnitude_of text >>= λ n. Some (pos n))
 
 -- `0`, or a magnitude with or without `-`
 unfoldable pub reward_of : List ℕ → Option ℤ

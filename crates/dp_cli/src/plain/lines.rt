@@ -38,7 +38,10 @@ fn after_names<'a>(
     let mut rest = bytes;
     for axis in axes {
         step /= axis.len();
-        rest = after_name(axis, left / step, rest)?;
+        rest = match after_name(axis, left / step, rest) {
+            Ok(behind) => behind,
+            Err(fault) => return Err(fault),
+        };
         left %= step;
     }
     Ok(rest)
@@ -115,9 +118,13 @@ pub fn chances<'a>(
     let mut chances = Vec::new(alloc);
     let mut rest = bytes;
     for number in 0..count {
-        let (chance, behind) = chance_line(letter, axes, count, number, rest)?;
-        chances.push(chance)?;
-        rest = behind;
+        match chance_line(letter, axes, count, number, rest) {
+            Ok((chance, behind)) => {
+                chances.push(chance)?;
+                rest = behind;
+            }
+            Err(fault) => return Err(fault),
+        }
     }
     Ok((chances, rest))
 }
@@ -137,9 +144,13 @@ pub fn rewards<'a>(
     let mut rewards = Vec::new(alloc);
     let mut rest = bytes;
     for number in 0..count {
-        let (reward, behind) = reward_line(axes, count, number, rest)?;
-        rewards.push(reward)?;
-        rest = behind;
+        match reward_line(axes, count, number, rest) {
+            Ok((reward, behind)) => {
+                rewards.push(reward)?;
+                rest = behind;
+            }
+            Err(fault) => return Err(fault),
+        }
     }
     Ok((rewards, rest))
 }

@@ -75,14 +75,15 @@ fn are_distinct(words: &[&[u8]]) -> bool
     ensures { result ≡ are_distinct (map (λ w. w.now) words.now) }
 {
     for i in 0..words.len() {
-        if has_word(&words[..i], words[i]) {
+        let (before, _) = words.split_at(i);
+        if has_word(before, words[i]) {
             return false;
         }
     }
     true
 }
 
-#[tactic(auto, using(crate::proofs::PlainLists::plain_names_of), unfolding(crate::specs::PlainNames::are_names))]
+#[tactic(auto, using(crate::proofs::PlainLists::plain_names_of, crate::proofs::PlainLists::words_length), unfolding(crate::specs::PlainNames::are_names))]
 fn are_names(words: &[&[u8]]) -> bool
     ensures { result ≡ are_names (map (λ w. w.now) words.now) }
 {

@@ -1,9 +1,9 @@
 // The numbers of a plain model.
-ghost use Rattle.std.specs.Prelude.{◌≡◌, ◌<◌, ◌≤◌, ◌^◌, true, length};
+ghost use Rattle.std.specs.Prelude.{◌≡◌, ◌<◌, ◌≤◌, ◌^◌, true, length, drop};
 ghost use Rattle.std.specs.List.{list_all};
 ghost use Rattle.std.specs.Char.{is_ascii_digit};
 ghost use Rattle.std.specs.Str.Parse.{digits_value};
-ghost use Rattle.dp_cli.specs.PlainNumbers.{are_digits, chance_of, fraction_of, last_byte, magnitude_of, reward_of, signed_of};
+ghost use Rattle.dp_cli.specs.PlainNumbers.{are_digits, begins_with_minus, chance_of, fraction_of, last_byte, magnitude_of, reward_of, signed_of};
 
 use crate::plain::reading::is_text;
 
@@ -101,19 +101,32 @@ fn magnitude_of(digits: &[u8]) -> Option<u32>
     Some(number_of(digits))
 }
 
+fn begins_with_minus(text: &[u8]) -> bool
+    ensures { result ≡ begins_with_minus text.now }
+{
+    match text {
+        [first, ..] => *first == b'-',
+        [] => false,
+    }
+}
+
+// What stands after the first byte, where there is one.
+fn skip_one(text: &[u8]) -> &[u8]
+    ensures { result.now ≡ drop 1 text.now }
+{
+    if text.is_empty() { text } else { &text[1..] }
+}
+
 // A magnitude, where `-` stands before it negated.
 fn signed_of(text: &[u8]) -> Option<i64>
     ensures { result ≡ signed_of text.now }
 {
-    match text {
-        [b'-', digits @ ..] => {
-            let magnitude = magnitude_of(digits)?;
-            Some(-i64::from(magnitude))
-        }
-        _ => {
-            let magnitude = magnitude_of(text)?;
-            Some(i64::from(magnitude))
-        }
+    if begins_with_minus(text) {
+        let magnitude = magnitude_of(skip_one(text))?;
+        Some(-i64::from(magnitude))
+    } else {
+        let magnitude = magnitude_of(text)?;
+        Some(i64::from(magnitude))
     }
 }
 
