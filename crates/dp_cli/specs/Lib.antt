@@ -1,5 +1,12 @@
 pub mod Causes
 pub mod Job
+pub mod Plain
+pub mod PlainLines
+pub mod PlainModel
+pub mod PlainNames
+pub mod PlainNumbers
+pub mod PlainTables
+pub mod PlainViews
 pub mod Put
 pub mod Refusal
 pub mod Run
