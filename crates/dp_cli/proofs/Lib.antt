@@ -1,8 +1,11 @@
 mod Answering
 mod Causes
+mod Certifying
 mod PlainLists
 mod PlainNameFacts
 mod PlainReading
 mod PlainRows
+mod PlainScales
 mod PlainSums
+mod Planning
 mod Told

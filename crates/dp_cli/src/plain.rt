@@ -1,6 +1,7 @@
 //! The reader of plain models: one agent, with every line written out. It stands in modules of its
 //! own, in place of a reader of all models.
 ghost use Rattle.std.specs.Prelude.{◌≡◌, ◌≢◌, ◌↔◌, None, IfOk};
+ghost use Rattle.dp_cli.specs.Plain.{Gives};
 ghost use Rattle.dp_cli.specs.PlainModel.{meaning_of, plain_model};
 
 mod lines;
@@ -50,4 +51,11 @@ impl From<Memory> for PlainFault {
     fn from(_: Memory) -> PlainFault {
         PlainFault::Memory
     }
+}
+
+/// STANDS IN for the reader of plain models until it is there: it always wants memory.
+pub fn read_plain(_alloc: Global, _bytes: &[u8]) -> Result<Model, PlainFault>
+    ensures { Gives (λ model. model) result (meaning_of _bytes.now) }
+{
+    Err(PlainFault::Memory)
 }
