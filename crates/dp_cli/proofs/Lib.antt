@@ -5,4 +5,5 @@ mod PlainNameFacts
 mod PlainReading
 mod PlainRows
 mod PlainSums
+mod PlainTableFacts
 mod Told
