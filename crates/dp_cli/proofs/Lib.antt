@@ -1,6 +1,7 @@
 mod Answering
 mod Causes
 mod PlainLists
+mod PlainModelFacts
 mod PlainNameFacts
 mod PlainReading
 mod PlainRows

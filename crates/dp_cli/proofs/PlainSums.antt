@@ -32,3 +32,6 @@ product_within a b m n low high = grind arith
 -- a test of numbers that are not the same
 pub not_same : (a b : ℕ) → (a ≡ b → ⊥) → (a == b) ≡ false
 not_same a b differ = grind (arith, nat_tests)
+
+pub some_product : (a b : ℕ) → 0 < a → 0 < b → 0 < a * b
+some_product a b h k = let le : 1 ≤ b = omega arith in omega (arith, mul-le-mul_left a le)

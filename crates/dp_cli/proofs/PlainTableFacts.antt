@@ -90,6 +90,20 @@ table_is letter axes rows width bytes rest table counted e =
       full = test.test;
     })
 
+-- what is read of a table, where its lines are
+pub table_read : (letter : List ℕ) (axes : List Axis) (rows width count : ℕ) (bytes rest : List ℕ) (cs : List Chance) → count ≡ lines_count axes → lines_at (chance_line letter axes) count bytes ≡ Some (cs, rest) →
+    table_at letter axes rows width bytes ≡ where_true (are_full (table_of cs) rows width) (table_of cs, rest)
+unfolding table_at
+table_read letter axes rows width count bytes rest cs counted e =
+    let lines : lines_at (chance_line letter axes) (lines_count axes) bytes ≡ Some (cs, rest) = subst (λ (n : ℕ). lines_at (chance_line letter axes) n bytes ≡ Some (cs, rest)) counted e in
+    rw lines refl
+
+pub table_none : (letter : List ℕ) (axes : List Axis) (rows width count : ℕ) (bytes : List ℕ) → count ≡ lines_count axes → lines_at (chance_line letter axes) count bytes ≡ None → table_at letter axes rows width bytes ≡ None
+unfolding table_at
+table_none letter axes rows width count bytes counted e =
+    let lines : lines_at (chance_line letter axes) (lines_count axes) bytes ≡ None = subst (λ (n : ℕ). lines_at (chance_line letter axes) n bytes ≡ None) counted e in
+    rw lines refl
+
 -- ---- rewards are within 10^8
 
 digits_test : (ds : List ℕ) → list_all is_ascii_digit ds ≡ all_ascii_digits ds

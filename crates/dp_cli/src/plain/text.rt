@@ -1,15 +1,16 @@
 // What a plain text says.
 ghost use Rattle.std.specs.Prelude.{◌≡◌, ◌*◌, ◌<◌, ◌≤◌, ◌^◌, map, length};
-ghost use Rattle.dp_cli.specs.Plain.{Gives};
+ghost use Rattle.dp_cli.specs.Plain.{Gives, where_true};
 ghost use Rattle.dp_cli.specs.PlainLines.{lines_count};
 ghost use Rattle.dp_cli.specs.PlainNames.{AreNameLines, reward_lines};
-ghost use Rattle.dp_cli.specs.PlainTables.{table_at};
+ghost use Rattle.dp_cli.specs.PlainTables.{are_full, most_digits, table_at, table_of};
 ghost use Rattle.dp_cli.specs.PlainModel.{numbers_at, obs_at, plain_model, rewards_at, trans_at};
 ghost use Rattle.dp_cli.specs.PlainViews.{names_of, plain_view, table_view};
 
 use crate::plain::PlainFault;
 use crate::plain::lines::{chances, rewards};
 use crate::plain::names::{Words, count, limited_header, reward_lines};
+use crate::plain::numbers::Chance;
 use crate::plain::tables::{ChanceTable, are_full, table_of};
 use std::alloc::Global;
 
@@ -22,8 +23,29 @@ pub struct PlainText<'a> {
     pub reward: Vec<i64>,
 }
 
+// These chances as a table, where each of its rows sums to 1.
+fn full_table<'a>(
+    alloc: Global,
+    chances: &[Chance],
+    rows: usize,
+    width: usize,
+    rest: &'a [u8],
+) -> Result<(ChanceTable, &'a [u8]), PlainFault>
+    requires few { most_digits chances.now ≤ 4 }
+    requires cells { length (table_of chances.now).cells ≡ rows * width }
+    requires small { width ≤ 2 ^ 16 }
+    ensures { Gives (λ x. (table_view x.0, x.1.now)) result
+        (where_true (are_full (table_of chances.now) rows width) (table_of chances.now, rest.now)) }
+{
+    let table = table_of(alloc, chances)?;
+    if are_full(&table, rows, width) {
+        Ok((table, rest))
+    } else {
+        Err(PlainFault::Form)
+    }
+}
+
 // The lines of a table of chances with so many rows, each of which sums to 1.
-#[tactic(auto, unfolding(crate::specs::PlainTables::table_at))]
 fn table<'a>(
     alloc: Global,
     letter: &[u8],
@@ -39,13 +61,11 @@ fn table<'a>(
     ensures { Gives (λ x. (table_view x.0, x.1.now)) result
         (table_at letter.now (map (λ axis. map (λ w. w.now) axis.now) axes.now) rows width bytes.now) }
 {
-    let (chances, rest) = chances(alloc, letter, axes, rows * width, bytes)?;
-    let table = table_of(alloc, &chances)?;
-    if are_full(&table, rows, width) {
-        Ok((table, rest))
-    } else {
-        Err(PlainFault::Form)
-    }
+    let (chances, rest) = match chances(alloc, letter, axes, rows * width, bytes) {
+        Ok(read) => read,
+        Err(fault) => return Err(fault),
+    };
+    full_table(alloc, &chances, rows, width, rest)
 }
 
 #[tactic(auto, unfolding(crate::specs::PlainModel::trans_at))]
@@ -107,8 +127,8 @@ fn numbers<'a>(
     words: Words<'a>,
     bytes: &[u8],
 ) -> Result<PlainText<'a>, PlainFault>
-    requires names { AreNameLines (names_of words.entry) }
-    requires limit { reward_lines (names_of words.entry) ≤ 65536 }
+    requires names { AreNameLines (names_of words) }
+    requires limit { reward_lines (names_of words) ≤ 65536 }
     ensures { Gives plain_view result (numbers_at (names_of words.entry) bytes.now) }
 {
     let (trans, rest) = trans_table(alloc, &words, bytes)?;
