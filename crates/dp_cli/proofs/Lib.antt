@@ -2,10 +2,12 @@ mod Answering
 mod Causes
 mod Certifying
 mod PlainLists
+mod PlainModelFacts
 mod PlainNameFacts
 mod PlainReading
 mod PlainRows
 mod PlainScales
 mod PlainSums
+mod PlainTableFacts
 mod Planning
 mod Told

@@ -18,11 +18,12 @@ pub words_length : (words : List (Bor (List ℕ))) → length (map (λ w. w.now)
 words_length words = length-map words (λ w. w.now)
 
 -- whether a word stands among the first i, by their texts
-pub has_word_before : (words : List (Bor (List ℕ))) (i : ℕ) (d : Bor (List ℕ)) → i < length words →
-    list_any (λ w. bytes_eq (get_or words i d).now w.now) (take i words) ≡ has_name (take i (map (λ w. w.now) words)) (get_or (map (λ w. w.now) words) i [])
-has_word_before words i d lt =
+pub has_word_before : (words : List (Bor (List ℕ))) (i : ℕ) (d : Bor (List ℕ)) (before : List (Bor (List ℕ))) → i < length words → before ≡ take i words →
+    list_any (λ w. bytes_eq (get_or words i d).now w.now) before ≡ has_name (take i (map (λ w. w.now) words)) (get_or (map (λ w. w.now) words) i [])
+has_word_before words i d before lt e =
     let text : (get_or words i d).now ≡ get_or (map (λ (w : Bor (List ℕ)). w.now) words) i [] = sym (get_or-map (λ (w : Bor (List ℕ)). w.now) words i d [] lt) in
-    sym (list_any-map (bytes_eq (get_or words i d).now) (λ w. w.now) (take i words))
+    ap (λ (l : List (Bor (List ℕ))). list_any (λ w. bytes_eq (get_or words i d).now w.now) l) e
+    ∙ sym (list_any-map (bytes_eq (get_or words i d).now) (λ w. w.now) (take i words))
     ∙ ap (λ (l : List (List ℕ)). list_any (bytes_eq (get_or words i d).now) l) (sym (take-map (λ (w : Bor (List ℕ)). w.now) i words))
     ∙ ap (λ (t : List ℕ). list_any (bytes_eq t) (take i (map (λ w. w.now) words))) text
 

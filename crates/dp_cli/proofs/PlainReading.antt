@@ -3,7 +3,7 @@ use Rattle.std.proofs.Common.{◌≡◌, ℕ, zero, suc, ◌+◌, ◌-◌, ◌*�
 use Rattle.std.proofs.lemmas.List.{length-append}
 use Rattle.dp_cli.specs.declared.plain.PlainFault.{PlainFault}
 use Rattle.dp_cli.specs.declared.plain.PlainFault.TheVariants as faults
-use Rattle.dp_cli.specs.Plain.{◌>>=◌, Gives, where_true}
+use Rattle.dp_cli.specs.Plain.{◌>>=◌, where_true}
 use Rattle.dp_cli.specs.PlainLines.{Axis, lines_count, after_name, after_names, lines_at}
 use Rattle.dp_cli.proofs.PlainSums.{left_factor, right_factor, quotient}
 
@@ -26,6 +26,14 @@ pub record Tested {A : Type 0} (holds : Bool) (x y : A) : Type 0 where
 pub tested : {A : Type 0} (holds : Bool) (x y : A) → where_true holds x ≡ Some y → Tested holds x y
 tested true x y e = record { test = refl; same = cc }
 tested false x y e = absurd cc
+
+-- the parts of what was read
+pub first_same : {A B : Type 0} (a c : A) (b d : B) → (let left : A × B = (a, b) in let right : A × B = (c, d) in Some left ≡ Some right) → a ≡ c
+first_same {A = A} {B = B} a c b d e =
+    let left : A × B = (a, b) in
+    let right : A × B = (c, d) in
+    let same : left ≡ right = cc in
+    ap (λ (p : A × B). p.0) same
 
 -- ---- lines one after the other
 
@@ -55,24 +63,24 @@ module _ {X : Type 0} (line : ℕ → List ℕ → Option (X × List ℕ)) where
 
   -- there are as many as were to be read
   pub lines_length : (n : ℕ) (bytes rest : List ℕ) (xs : List X) → lines_at line n bytes ≡ Some (xs, rest) → length xs ≡ n
-  lines_length zero bytes rest xs e = let same : [] ≡ xs = cc in ap length (sym same)
+  lines_length zero bytes rest xs e = ap length (sym (first_same [] xs bytes rest e))
   lines_length (suc n) bytes rest xs e =
       let before = steps (lines_at line n bytes) (λ before. line n before.1 >>= λ next. Some (before.0 ++ next.0 ∷ [], next.1)) (xs, rest) e in
       let next = steps (line n before.found.1) (λ next. Some (before.found.0 ++ next.0 ∷ [], next.1)) (xs, rest) before.is_next in
       let found : lines_at line n bytes ≡ Some (before.found.0, before.found.1) = before.is_first in
-      let all : before.found.0 ++ next.found.0 ∷ [] ≡ xs = cc (next.is_next) in
+      let all = first_same (before.found.0 ++ next.found.0 ∷ []) xs next.found.1 rest next.is_next in
       ap length (sym all) ∙ length-append before.found.0 (next.found.0 ∷ []) ∙ ap (λ (k : ℕ). k + 1) (lines_length n bytes before.found.1 before.found.0 found) ∙ rw add-one refl
 
   -- what holds of each line that is read holds of all
   pub lines_keep : (Keeps : List X → Type 0) → Keeps [] → ((xs : List X) (x : X) → Keeps xs → (n : ℕ) (bytes behind : List ℕ) → line n bytes ≡ Some (x, behind) → Keeps (xs ++ x ∷ [])) →
       (n : ℕ) (bytes rest : List ℕ) (xs : List X) → lines_at line n bytes ≡ Some (xs, rest) → Keeps xs
-  lines_keep Keeps none more zero bytes rest xs e = let same : [] ≡ xs = cc in subst Keeps same none
+  lines_keep Keeps none more zero bytes rest xs e = subst Keeps (first_same [] xs bytes rest e) none
   lines_keep Keeps none more (suc n) bytes rest xs e =
       let before = steps (lines_at line n bytes) (λ before. line n before.1 >>= λ next. Some (before.0 ++ next.0 ∷ [], next.1)) (xs, rest) e in
       let next = steps (line n before.found.1) (λ next. Some (before.found.0 ++ next.0 ∷ [], next.1)) (xs, rest) before.is_next in
       let found : lines_at line n bytes ≡ Some (before.found.0, before.found.1) = before.is_first in
       let read : line n before.found.1 ≡ Some (next.found.0, next.found.1) = next.is_first in
-      let all : before.found.0 ++ next.found.0 ∷ [] ≡ xs = cc (next.is_next) in
+      let all = first_same (before.found.0 ++ next.found.0 ∷ []) xs next.found.1 rest next.is_next in
       subst Keeps all (more before.found.0 next.found.0 (lines_keep Keeps none more n bytes before.found.1 before.found.0 found) n before.found.1 next.found.1 read)
 
 -- ---- the names at the head of a line
@@ -105,7 +113,12 @@ names_go from names later step size left rest whole axes sized counted some read
 
 -- ---- faults of a step
 
+-- what a fault says of a reading
+abbrev pub Faults : {Y : Type 0} → PlainFault → Option Y → Type 0
+Faults faults.Form read = read ≡ None
+Faults faults.Memory read = Unit {0}
+
 -- a reading has no more than a step of it
-pub gives_fault : {X Y X' Y' : Type 0} (view : X → Y) (view' : X' → Y') (fault : PlainFault) (read : Option Y) (whole : Option Y') → (read ≡ None → whole ≡ None) → Gives view (Err fault) read → Gives view' (Err fault) whole
-gives_fault view view' faults.Form read whole none h = none h
-gives_fault view view' faults.Memory read whole none h = tt
+pub gives_fault : {X Y : Type 0} (fault : PlainFault) (read : Option X) (whole : Option Y) → (read ≡ None → whole ≡ None) → Faults fault read → Faults fault whole
+gives_fault faults.Form read whole none h = none h
+gives_fault faults.Memory read whole none h = tt

@@ -64,17 +64,13 @@ model_of plain = record {
   reward = plain.reward;
 }
 
--- the same with its names; the agent was given as a count
+-- the names of the model; the agent was given as a count
+abbrev pub name_lists : PlainNames → NameLists
+name_lists names = record { agents = []; states = names.states; actions = names.actions ∷ []; observations = names.observations ∷ [] }
+
+-- the model with its names
 unfoldable pub named_model_of : PlainModel → NamedModel
-named_model_of plain = record {
-  model = model_of plain;
-  names = record {
-    agents = [];
-    states = plain.names.states;
-    actions = plain.names.actions ∷ [];
-    observations = plain.names.observations ∷ [];
-  };
-}
+named_model_of plain = record { model = model_of plain; names = name_lists plain.names }
 
 -- the model with its names that a plain text means
 abbrev pub meaning_of : List ℕ → Option NamedModel

@@ -1,5 +1,5 @@
 -- The names of a plain model.
-use Rattle.std.specs.Prelude.{ℕ, zero, suc, ◌+◌, ◌*◌, Bool, true, false, IsTrue, ◌==◌, ◌&&◌, ◌||◌, not, nat_lt, nat_le, List, [], ◌∷◌, length, take, get_or, Option, Some, codes}
+use Rattle.std.specs.Prelude.{ℕ, zero, suc, ◌+◌, ◌*◌, ◌<◌, ◌≤◌, Bool, true, false, IsTrue, ◌==◌, ◌&&◌, ◌||◌, not, nat_lt, nat_le, List, [], ◌∷◌, length, take, get_or, Option, Some, codes}
 use Rattle.std.specs.Char.{is_ascii_alphabetic, is_ascii_alphanumeric}
 use Rattle.std.specs.List.{list_all, slice_split}
 use Rattle.std.specs.Str.{bytes_eq}
@@ -66,11 +66,18 @@ header_at bytes = do
   observations ← names_after (codes "observations:\n") actions.1
   Some (record { states = states.0; actions = actions.0; observations = observations.0 }, observations.1)
 
--- what holds of the names of a plain model
-pub record AreAllNames (names : PlainNames) : Type 0 where
-  pub states : IsTrue (are_names names.states)
-  pub actions : IsTrue (are_names names.actions)
-  pub observations : IsTrue (are_names names.observations)
+-- what holds of a list of names
+pub record IsNameLine (names : List (List ℕ)) : Type 0 where
+  pub some : 0 < length names
+  pub limit : length names ≤ 256
+  pub each : IsTrue (list_all is_plain_name names)
+  pub once : IsTrue (are_distinct names)
+
+-- and of the names of a plain model
+pub record AreNameLines (names : PlainNames) : Type 0 where
+  pub states : IsNameLine names.states
+  pub actions : IsNameLine names.actions
+  pub observations : IsNameLine names.observations
 
 -- at most 65,536 reward lines: one for each action, state, next state and observation
 abbrev pub reward_lines : PlainNames → ℕ

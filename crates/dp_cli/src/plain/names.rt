@@ -1,9 +1,9 @@
 // The names of a plain model.
-ghost use Rattle.std.specs.Prelude.{◌≡◌, ◌≤◌, map, length, IfOk};
+ghost use Rattle.std.specs.Prelude.{◌≡◌, ◌*◌, ◌≤◌, map, length, IfOk};
 ghost use Rattle.std.specs.List.{list_all, list_any};
 ghost use Rattle.std.specs.Str.{bytes_eq};
 ghost use Rattle.dp_cli.specs.Plain.{Gives};
-ghost use Rattle.dp_cli.specs.PlainNames.{AreAllNames, are_distinct, are_names, begins_with_letter, header_at, is_plain_byte, is_plain_name, is_reserved, limited_header_at, names_after, names_at, reward_lines, words_of};
+ghost use Rattle.dp_cli.specs.PlainNames.{AreNameLines, are_distinct, are_names, begins_with_letter, header_at, is_plain_byte, is_plain_name, is_reserved, limited_header_at, names_after, names_at, reward_lines, words_of};
 ghost use Rattle.dp_cli.specs.PlainViews.{names_of};
 
 use crate::plain::PlainFault;
@@ -76,7 +76,8 @@ fn are_distinct(words: &[&[u8]]) -> bool
 {
     for i in 0..words.len() {
         let (before, _) = words.split_at(i);
-        if has_word(before, words[i]) {
+        let word = words[i];
+        if has_word(before, word) {
             return false;
         }
     }
@@ -150,6 +151,14 @@ fn header<'a>(alloc: Global, bytes: &'a [u8]) -> Result<(Words<'a>, &'a [u8]), P
     Ok((words, rest))
 }
 
+// How many names there are.
+#[tactic(auto, using(crate::proofs::PlainLists::words_length))]
+pub fn count(words: &[&[u8]]) -> usize
+    ensures { result ≡ length (map (λ w. w.now) words.now) }
+{
+    words.len()
+}
+
 // The same, within the limit on reward lines.
 #[tactic(auto, unfolding(crate::specs::PlainNames::limited_header_at))]
 pub fn limited_header<'a>(
@@ -166,9 +175,22 @@ pub fn limited_header<'a>(
 }
 
 // How many reward lines there are to be.
-fn reward_lines(words: &Words) -> usize
-    requires { AreAllNames (names_of words.now) }
+pub fn reward_lines(words: &Words) -> usize
+    requires { AreNameLines (names_of words.now) }
     ensures { result ≡ reward_lines (names_of words.now) }
 {
-    words.actions.len() * words.states.len() * words.states.len() * words.observations.len()
+    let states = count(&words.states);
+    four_fold(count(&words.actions), states, states, count(&words.observations))
+}
+
+fn four_fold(a: usize, b: usize, c: usize, d: usize) -> usize
+    requires a { a ≤ 256 }
+    requires b { b ≤ 256 }
+    requires c { c ≤ 256 }
+    requires d { d ≤ 256 }
+    ensures { result ≡ a * b * c * d }
+{
+    let two = a * b;
+    let three = two * c;
+    three * d
 }

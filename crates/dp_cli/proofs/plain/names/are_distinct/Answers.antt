@@ -8,7 +8,7 @@ pub returns-then-has_word : goal.returns-then-has_word
 unfolding are_distinct
 returns-then-has_word c =
     let within : c.loop-i.i < length (map (λ w. w.now) c.args.words.now) = rw length-map c.loop-i-test.true in
-    sym (fails_below _ c.loop-i.i _ within (ap not (sym (has_word_before c.args.words.now c.loop-i.i _ c.loop-i-test.true) ∙ sym c.has_word.ensures ∙ c.if-has_word.true)))
+    sym (fails_below _ c.loop-i.i _ within (ap not (sym (has_word_before c.args.words.now c.loop-i.i _ c.split_at.result.0.now c.loop-i-test.true c.split_at.ensures.front) ∙ sym c.has_word.ensures ∙ c.if-has_word.true)))
 
 pub loop-i-preserved : goal.loop-i-preserved
-loop-i-preserved c = holds_more c.loop-i.i _ c.loop-i.invariant (ap not (sym (has_word_before c.args.words.now c.loop-i.i _ c.loop-i-test.true) ∙ sym c.has_word.ensures ∙ c.if-has_word.false))
+loop-i-preserved c = holds_more c.loop-i.i _ c.loop-i.invariant (ap not (sym (has_word_before c.args.words.now c.loop-i.i _ c.split_at.result.0.now c.loop-i-test.true c.split_at.ensures.front) ∙ sym c.has_word.ensures ∙ c.if-has_word.false))
