@@ -6,10 +6,8 @@ use Rattle.dp_io.specs.Sink.{SinkView, Puts}
 use Rattle.dp_io.specs.declared.sink.SinkFailed.{SinkFailed}
 use Rattle.dp_io.specs.declared.shelf.FetchFault.{FetchFault}
 use Rattle.dp_io.specs.declared.shelf.FetchFault.TheVariants.{Failed, TooLong, Memory}
-use Rattle.dp_laws.proofs.ValidCertificates.{claims_hold}
-use Rattle.dp_plan.proofs.BestConstants.{best_constant_is_valid}
+use Rattle.dp_plan.proofs.BestConstants.{best_constant_claims_hold, best_constant_is_valid}
 use Rattle.dp_plan.specs.ConstantCertificate.{constant_certificate}
-use Rattle.dp_spec.specs.Certificate.{IsValid}
 use Rattle.dp_words.specs.declared.job.Job.{Job}
 use Rattle.dp_words.specs.declared.job.Job.TheVariants.{Plan}
 use Rattle.dp_words.specs.declared.job.OrderWord.{OrderWord}
@@ -53,12 +51,11 @@ module _ (contents : Contents) (model : List ℕ) (horizon nodes look : ℕ) (me
 
 -- the text of the best constant policy's certificate certifies for its model
 plan_certifies : (m : models.Model) (answer : Answer) → IsPlanOf m answer → CertifiesFor m answer.text
-plan_certifies m answer h =
-    let valid : IsValid m (constant_certificate m h.text.action) = best_constant_is_valid m h.text.action h.is_model h.exact_mode h.text.best in record {
+plan_certifies m answer h = record {
       certificate = constant_certificate m h.text.action;
       spelled = h.text.spelled;
-      valid = valid;
-      claims = claims_hold m (constant_certificate m h.text.action) h.is_model valid;
+      valid = best_constant_is_valid m h.text.action h.is_model h.exact_mode h.text.best;
+      claims = best_constant_claims_hold m h.text.action h.is_model h.exact_mode h.text.best;
     }
 
 -- a call that is done did not fail to put its answer

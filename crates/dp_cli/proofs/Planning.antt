@@ -25,7 +25,7 @@ refused_plan bytes plain_faults.Memory none = tt
 
 -- a plain model is planned in exact mode
 pub plain_is_exact : (bytes : List ℕ) (named : NamedModel) → meaning_of bytes ≡ Some named → IsModel named.model → is_exact_mode named.model 1 ≡ true
-plain_is_exact bytes named e ok = small_scales_are_exact named.model ok (plain_scales bytes named e ok)
+plain_is_exact bytes named e ok = small_scales_are_exact named.model ok (plain_scales bytes named e)
 
 -- what is answered to the model that the bytes mean
 pub planned : (bytes : List ℕ) (named : NamedModel) (answer : Answer) → meaning_of bytes ≡ Some named → IsPlanOf named.model answer → IsPlanReply (model_of_text bytes) answer

@@ -6,10 +6,12 @@ use Rattle.dp_laws.proofs.Best.{best_below}
 use Rattle.dp_laws.proofs.ConstantPolicies.{constant_policy_fits, root_bound_at_one}
 use Rattle.dp_laws.proofs.ExactArithmetic.{exact_sound}
 use Rattle.dp_laws.proofs.Order.{equal_of_le}
+use Rattle.dp_laws.proofs.ValidCertificates.{claims_hold}
 use Rattle.dp_laws.proofs.QuantityLaws.{exact_quantities, worth_enclosed}
 use Rattle.dp_spec.specs.declared.span.Span.{Span}
 use Rattle.dp_spec.specs.Arithmetic.{exact}
 use Rattle.dp_spec.specs.Certificate.{IsValid}
+use Rattle.dp_spec.specs.Claims.{ClaimsHold}
 use Rattle.dp_spec.specs.ConstantPolicy.{constant_policy}
 use Rattle.dp_spec.specs.Enclosure.{equality}
 use Rattle.dp_spec.specs.Fitting.{front_bound}
@@ -99,3 +101,7 @@ best_constant_is_valid m a ok exact_mode best = record {
   inner = refl;
   upper = refl;
 }
+
+-- and what it claims is so
+pub best_constant_claims_hold : (m : Model) (a : ℕ) → IsModel m → is_exact_mode m 1 ≡ true → IsBestConstant m a → ClaimsHold m (constant_certificate m a)
+best_constant_claims_hold m a ok exact_mode best = claims_hold m (constant_certificate m a) ok (best_constant_is_valid m a ok exact_mode best)

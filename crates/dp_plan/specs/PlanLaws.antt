@@ -4,6 +4,7 @@ use Rattle.dp_spec.specs.declared.scales.Scales.{Scales}
 use Rattle.dp_spec.specs.Model.{Model, IsModel}
 use Rattle.dp_spec.specs.Mode.{IsWithin, is_exact_mode}
 use Rattle.dp_spec.specs.Certificate.{IsValid}
+use Rattle.dp_spec.specs.Claims.{ClaimsHold}
 use Rattle.dp_plan.specs.BestConstant.{IsBestConstant}
 use Rattle.dp_plan.specs.ConstantCertificate.{constant_certificate}
 
@@ -11,6 +12,11 @@ use Rattle.dp_plan.specs.ConstantCertificate.{constant_certificate}
 abbrev pub BestConstantCertificateIsValid : Type 0
 BestConstantCertificateIsValid =
     (m : Model) (a : ℕ) → IsModel m → is_exact_mode m 1 ≡ true → IsBestConstant m a → IsValid m (constant_certificate m a)
+
+-- and what it claims is so: no joint policy over one step is worth more than the best constant one
+abbrev pub BestConstantCertificateHolds : Type 0
+BestConstantCertificateHolds =
+    (m : Model) (a : ℕ) → IsModel m → is_exact_mode m 1 ≡ true → IsBestConstant m a → ClaimsHold m (constant_certificate m a)
 
 -- every model keeps the limits of a horizon of one step
 abbrev pub OneStepIsWithin : Type 0

@@ -1,10 +1,15 @@
 //! What holds of the certificate of the best constant policy.
-ghost use Rattle.dp_plan.specs.PlanLaws.{BestConstantCertificateIsValid, OneStepIsWithin, OneStepOverSmallScalesIsExact};
+ghost use Rattle.dp_plan.specs.PlanLaws.{BestConstantCertificateHolds, BestConstantCertificateIsValid, OneStepIsWithin, OneStepOverSmallScalesIsExact};
 
 /// In exact mode the certificate of the best constant policy over one step is valid, for any
 /// number of agents.
 pub fn best_constant_certificate_is_valid()
     ensures { BestConstantCertificateIsValid }
+{}
+
+/// What it claims is so: no joint policy over one step is worth more than the best constant one.
+pub fn best_constant_certificate_holds()
+    ensures { BestConstantCertificateHolds }
 {}
 
 /// Every model keeps the limits of a horizon of one step.
