@@ -3,6 +3,7 @@ mod Causes
 mod PlainLists
 mod PlainModelFacts
 mod PlainNameFacts
+mod PlainNameTexts
 mod PlainReading
 mod PlainRows
 mod PlainSums
