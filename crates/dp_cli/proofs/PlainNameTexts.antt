@@ -1,7 +1,7 @@
 -- The names of a plain model are names, and texts.
 use Rattle.std.proofs.Common.{◌≡◌, ◌==◌, ℕ, zero, suc, ◌<◌, ◌≤◌, ◌⊎◌, inl, inr, ⊎_elim, Bool, true, false, not, ◌&&◌, ◌||◌, leb, List, [], ◌∷◌, length, refl, ap, sym, ◌∙◌, subst, arith}
 use Rattle.std.specs.Prelude.{codes, nat_lt, slice_index}
-use Rattle.std.specs.Char.{is_ascii_alphabetic, is_ascii_alphanumeric, is_in_range}
+use Rattle.std.specs.Char.{is_ascii_alphabetic, is_ascii_alphanumeric}
 use Rattle.std.specs.List.{list_all}
 use Rattle.std.specs.Str.{IsUtf8, bytes_eq}
 use Rattle.std.proofs.lemmas.Bool.{leb-true}
@@ -12,6 +12,9 @@ use Rattle.dp_num.specs.DecimalShape.{is_decimal}
 use Rattle.dp_num.specs.Names.{is_name, is_word}
 use Rattle.dp_cli.specs.PlainNames.{begins_with_letter, is_plain_byte, is_plain_name, is_reserved}
 use Rattle.dp_cli.proofs.PlainLists.{left_true, right_true}
+
+abbrev is_in_range : ℕ → ℕ → ℕ → Bool
+is_in_range low high b = leb low b && leb b high
 
 one_true : (a b : Bool) → (a || b) ≡ true → (a ≡ true) ⊎ (b ≡ true)
 one_true true b h = inl refl

@@ -19,7 +19,7 @@ returns-in-Err c =
     c.in-Err.ensures
 
 pub full_table-requires-clause-few : goal.full_table-requires-clause-few
-full_table-requires-clause-few c = subst (λ (cs : List Chance). most_digits cs ≤ 4) (sym c.deref.ensures.value) (chances_digits _ _ _ _ _ _ c.in-Ok.ensures)
+full_table-requires-clause-few c = subst (λ (cs : List Chance). most_digits cs ≤ 4) (sym c.deref.ensures.value) (chances_digits c.args.letter.now (map view c.args.axes.now) (c.args.rows * c.args.width) c.args.bytes.now c.in-Ok.read.1.now c.in-Ok.read.0.items c.in-Ok.ensures)
 
 pub full_table-requires-clause-cells : goal.full_table-requires-clause-cells
-full_table-requires-clause-cells c = ap (λ (cs : List Chance). length (table_of cs).cells) c.deref.ensures.value ∙ table_length _ _ _ _ _ _ c.in-Ok.ensures
+full_table-requires-clause-cells c = ap (λ (cs : List Chance). length (table_of cs).cells) c.deref.ensures.value ∙ table_length c.args.letter.now (map view c.args.axes.now) (c.args.rows * c.args.width) c.args.bytes.now c.in-Ok.read.1.now c.in-Ok.read.0.items c.in-Ok.ensures
