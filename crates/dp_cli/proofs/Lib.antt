@@ -4,6 +4,7 @@ mod Certifying
 mod PlainLists
 mod PlainModelFacts
 mod PlainNameFacts
+mod PlainNameTexts
 mod PlainReading
 mod PlainRows
 mod PlainScales

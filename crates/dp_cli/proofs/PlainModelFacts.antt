@@ -143,7 +143,7 @@ model_is plain is = record { sizes = sizes_are plain is; scales = scales_are pla
 
 lone : (names : List (List ℕ)) (i : ℕ) → i < 1 → Names (names_of (names ∷ []) i) (slice_index (length names ∷ []) i)
 lone names zero lt some = refl
-lone names (suc i) lt = absurd (omega arith)
+lone names (suc i) lt some = absurd (omega arith)
 
 pub names_are : (plain : PlainModel) → AreNamesOf (model_of plain) (named_model_of plain).names
 unfolding model_of named_model_of

@@ -13,7 +13,7 @@ use Rattle.dp_cli.specs.declared.plain.numbers.Chance.{Chance}
 use Rattle.dp_cli.specs.Plain.{◌>>=◌, after, where_true}
 use Rattle.dp_cli.specs.PlainNumbers.{are_digits, begins_with_minus, chance_of, digit_zero, fraction_of, last_byte, magnitude_of, reward_of, signed_of}
 use Rattle.dp_cli.specs.PlainLines.{Axis, chance_line, lines_at, lines_count, reward_line, value_at}
-use Rattle.dp_cli.specs.PlainTables.{Table, are_full, cell_of, most_digits, table_at, table_of}
+use Rattle.dp_cli.specs.PlainTables.{Table, are_full, cell_of, full_at, most_digits, table_at, table_of}
 use Rattle.dp_cli.proofs.PlainLists.{left_true, right_true}
 use Rattle.dp_cli.proofs.PlainReading.{first_same, lines_keep, lines_length, steps, tested}
 
@@ -92,7 +92,7 @@ table_is letter axes rows width bytes rest table counted e =
 
 -- what is read of a table, where its lines are
 pub table_read : (letter : List ℕ) (axes : List Axis) (rows width count : ℕ) (bytes rest : List ℕ) (cs : List Chance) → count ≡ lines_count axes → lines_at (chance_line letter axes) count bytes ≡ Some (cs, rest) →
-    table_at letter axes rows width bytes ≡ where_true (are_full (table_of cs) rows width) (table_of cs, rest)
+    table_at letter axes rows width bytes ≡ full_at cs rows width rest
 unfolding table_at
 table_read letter axes rows width count bytes rest cs counted e =
     let lines : lines_at (chance_line letter axes) (lines_count axes) bytes ≡ Some (cs, rest) = subst (λ (n : ℕ). lines_at (chance_line letter axes) n bytes ≡ Some (cs, rest)) counted e in

@@ -31,8 +31,12 @@ cells_sum cells from width = nat_sum width (λ i. get_or cells (from + i) 0)
 unfoldable pub are_full : Table → ℕ → ℕ → Bool
 are_full table rows width = all_below rows (λ row. cells_sum table.cells (row * width) width == table.scale)
 
+-- these chances as a table, where each of its rows sums to 1, and what is left of the text
+abbrev pub full_at : List Chance → ℕ → ℕ → List ℕ → Option (Table × List ℕ)
+full_at chances rows width rest = where_true (are_full (table_of chances) rows width) (table_of chances, rest)
+
 -- the lines of a table of chances with so many rows, each of which sums to 1
 unfoldable pub table_at : List ℕ → List Axis → ℕ → ℕ → List ℕ → Option (Table × List ℕ)
 table_at letter axes rows width bytes = do
   lines ← lines_at (chance_line letter axes) (lines_count axes) bytes
-  where_true (are_full (table_of lines.0) rows width) (table_of lines.0, lines.1)
+  full_at lines.0 rows width lines.1

@@ -1,7 +1,6 @@
 // The model that a plain text means.
 ghost use Rattle.std.specs.Prelude.{◌≡◌, ◌≤◌, [], ◌∷◌, IsTrue, map, length, replicate, IfOk, OnOk};
 ghost use Rattle.dp_spec.specs.Model.{IsModel};
-ghost use Rattle.dp_model.specs.Names.{counts_of};
 ghost use Rattle.dp_model.specs.Tables.{AreNamesOf};
 ghost use Rattle.dp_cli.specs.PlainModel.{model_of, name_lists, named_model_of};
 ghost use Rattle.dp_cli.specs.PlainNames.{AreNameLines, IsNameLine, is_plain_name};
@@ -19,7 +18,10 @@ fn text_of(name: &[u8]) -> &str
     requires { IsTrue (is_plain_name name.now) }
     ensures { result.now ≡ name.now }
 {
-    str::from_utf8(name).unwrap()
+    match str::from_utf8(name) {
+        Ok(text) => text,
+        Err(_) => unreachable!(),
+    }
 }
 
 fn add_states(alloc: Global, names: &mut Names, words: &[&[u8]]) -> Result<(), Memory>
@@ -88,9 +90,9 @@ fn ones(alloc: Global, count: usize) -> Result<Items<u64>, Memory>
 // number of states.
 #[tactic(auto, unfolding(crate::specs::PlainModel::model_of, crate::specs::PlainModel::named_model_of))]
 pub fn named_model(alloc: Global, text: PlainText) -> Result<Model, Memory>
-    requires lines { AreNameLines (names_of text.entry.words) }
-    requires model { IsModel (model_of (plain_view text.entry)) }
-    requires names { AreNamesOf (model_of (plain_view text.entry)) (named_model_of (plain_view text.entry)).names }
+    requires lines { AreNameLines (names_of text.words) }
+    requires model { IsModel (model_of (plain_view text)) }
+    requires names { AreNamesOf (model_of (plain_view text)) (named_model_of (plain_view text)).names }
     ensures { IfOk result (λ model. model ≡ named_model_of (plain_view text.entry)) }
 {
     let PlainText {

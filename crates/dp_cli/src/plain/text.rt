@@ -1,9 +1,9 @@
 // What a plain text says.
 ghost use Rattle.std.specs.Prelude.{◌≡◌, ◌*◌, ◌<◌, ◌≤◌, ◌^◌, map, length};
-ghost use Rattle.dp_cli.specs.Plain.{Gives, where_true};
+ghost use Rattle.dp_cli.specs.Plain.{Gives};
 ghost use Rattle.dp_cli.specs.PlainLines.{lines_count};
 ghost use Rattle.dp_cli.specs.PlainNames.{AreNameLines, reward_lines};
-ghost use Rattle.dp_cli.specs.PlainTables.{are_full, most_digits, table_at, table_of};
+ghost use Rattle.dp_cli.specs.PlainTables.{full_at, most_digits, table_at, table_of};
 ghost use Rattle.dp_cli.specs.PlainModel.{numbers_at, obs_at, plain_model, rewards_at, trans_at};
 ghost use Rattle.dp_cli.specs.PlainViews.{names_of, plain_view, table_view};
 
@@ -35,7 +35,7 @@ fn full_table<'a>(
     requires cells { length (table_of chances.now).cells ≡ rows * width }
     requires small { width ≤ 2 ^ 16 }
     ensures { Gives (λ x. (table_view x.0, x.1.now)) result
-        (where_true (are_full (table_of chances.now) rows width) (table_of chances.now, rest.now)) }
+        (full_at chances.now rows width rest.now) }
 {
     let table = table_of(alloc, chances)?;
     if are_full(&table, rows, width) {
