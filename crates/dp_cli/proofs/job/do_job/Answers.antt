@@ -16,4 +16,4 @@ returns-in_err-text g c =
 pub returns : goal.returns
 returns g c =
     let asked : asks (Some c.args.job.now) [] ≡ Some (record { name = c.model_of.result.now; role = Model }) = rw c.model_of.ensures (asks_model c.args.job.now) in
-    Answers.goes_on _ c.in_ok-text.text asked c.in_ok-text.ensures (replies_plan c.args.job.now c.in_ok-text.text.items c.plan.result (subst (λ (bytes : List ℕ). PlansText bytes c.plan.result) c.deref.ensures c.plan.ensures))
+    Answers.goes_on _ c.in_ok-text.text asked c.in_ok-text.ensures (replies_plan c.args.job.now c.in_ok-text.text.items c.plan.result (subst (λ (bytes : List ℕ). PlansText bytes c.plan.result) c.deref.ensures.value c.plan.ensures))
