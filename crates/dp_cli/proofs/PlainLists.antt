@@ -1,5 +1,5 @@
 -- Tests of lists of words over their texts, and tests of all numbers below one.
-use Rattle.std.proofs.Common.{◌≡◌, ℕ, zero, suc, ◌+◌, ◌<◌, Bool, true, false, ◌&&◌, ◌||◌, not, List, [], ◌∷◌, ◌++◌, map, length, get_or, take, refl, ap, sym, ◌∙◌, add-one, ◌⊎◌, ⊎_elim, inl, inr, Bor, arith}
+use Rattle.std.proofs.Common.{◌≡◌, ℕ, zero, suc, ◌+◌, ◌<◌, Bool, true, false, ◌&&◌, ◌||◌, not, List, [], ◌∷◌, ◌++◌, map, length, get_or, take, refl, ap, sym, ◌∙◌, add-one, ◌⊎◌, ⊎_elim, Bor, arith}
 use Rattle.std.specs.Prelude.{if◌then◌else◌}
 use Rattle.std.specs.List.{list_all, list_any}
 use Rattle.std.specs.Str.{bytes_eq}
@@ -46,6 +46,7 @@ fails_below (suc n) i p lt e = ⊎_elim (λ (is : i ≡ n). last is) (λ (below 
   where
     split : (i ≡ n) ⊎ (i < n)
     split = grind arith
+
     last : i ≡ n → (all_below n p && p n) ≡ false
     last is = ap (λ (b : Bool). all_below n p && b) (ap p (sym is) ∙ e) ∙ and_false (all_below n p)
 

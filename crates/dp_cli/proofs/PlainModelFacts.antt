@@ -1,18 +1,16 @@
 -- A plain model means a model.
-use Rattle.std.proofs.Common.{◌≡◌, ◌==◌, ℕ, zero, suc, ◌+◌, ◌*◌, ◌^◌, ◌<◌, ◌≤◌, Bool, true, false, List, [], ◌∷◌, length, get_or, Option, Some, ℤ, pos, refl, sym, ap, ◌∙◌, subst, arith, lit≤}
+use Rattle.std.proofs.Common.{◌≡◌, ◌==◌, ℕ, zero, suc, ◌+◌, ◌*◌, ◌^◌, ◌<◌, ◌≤◌, List, [], ◌∷◌, length, get_or, Some, pos, refl, sym, ap, ◌∙◌, subst, arith}
 use Rattle.std.specs.Prelude.{codes, replicate, slice_index, unsigned_abs}
 use Rattle.std.proofs.Math.Nat.{mul-le-mul_left, pow-le-pow_right}
 use Rattle.std.proofs.lemmas.List.{length-replicate, get_or-replicate}
 use Rattle.std.proofs.lemmas.Bool.{eqb-true}
-use Rattle.dp_spec.specs.JointNumbers.{product}
 use Rattle.dp_spec.specs.Model as spec
 use Rattle.dp_spec.specs.Model.{Model, IsModel, AreRows, AreScales, AreSizes, AreTables, joint_actions, joint_observations, start_at}
 use Rattle.dp_spec.specs.Sums.{nat_sum}
 use Rattle.dp_model.specs.Names.{names_of}
 use Rattle.dp_model.specs.Tables.{AreNamesOf, Names}
-use Rattle.dp_cli.specs.Plain.{◌>>=◌, where_true}
-use Rattle.dp_cli.specs.PlainNames.{AreNameLines, IsNameLine, PlainNames, limited_header_at, reward_lines}
-use Rattle.dp_cli.specs.PlainLines.{lines_at, lines_count, reward_line}
+use Rattle.dp_cli.specs.PlainNames.{AreNameLines, PlainNames, limited_header_at, reward_lines}
+use Rattle.dp_cli.specs.PlainLines.{lines_count, reward_line}
 use Rattle.dp_cli.specs.PlainTables.{Table, are_full, cells_sum}
 use Rattle.dp_cli.specs.PlainModel.{PlainModel, model_of, named_model_of, numbers_at, obs_at, obs_axes, plain_model, reward_axes, rewards_at, trans_at, trans_axes}
 use Rattle.dp_cli.proofs.PlainLists.{holds_below}

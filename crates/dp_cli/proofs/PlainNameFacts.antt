@@ -1,10 +1,10 @@
 -- What is known of the names of a plain model.
-use Rattle.std.proofs.Common.{◌≡◌, ℕ, ◌<◌, ◌≤◌, Bool, true, false, ◌&&◌, List, length, Option, Some, sym, ap, ◌∙◌, subst, arith}
-use Rattle.std.specs.Prelude.{codes, nat_lt, nat_le}
+use Rattle.std.proofs.Common.{◌≡◌, ℕ, ◌≤◌, true, ◌&&◌, List, length, Some, sym, ap, ◌∙◌, subst, arith}
+use Rattle.std.specs.Prelude.{nat_lt, nat_le}
 use Rattle.std.specs.List.{list_all}
 use Rattle.std.proofs.lemmas.Bool.{leb-true}
 use Rattle.std.proofs.lemmas.Bool.Decides.{nat_tests}
-use Rattle.dp_cli.specs.Plain.{◌>>=◌, where_true, after, line_at}
+use Rattle.dp_cli.specs.Plain.{where_true, after, line_at}
 use Rattle.dp_cli.specs.PlainNames.{PlainNames, AreNameLines, are_distinct, are_names, header_at, IsNameLine, is_plain_name, limited_header_at, names_after, names_at, reward_lines, words_of}
 use Rattle.dp_cli.proofs.PlainLists.{left_true, right_true}
 use Rattle.dp_cli.proofs.PlainReading.{first_same, steps, tested}

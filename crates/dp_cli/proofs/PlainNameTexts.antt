@@ -1,9 +1,9 @@
 -- The names of a plain model are names, and texts.
-use Rattle.std.proofs.Common.{◌≡◌, ◌==◌, ℕ, zero, suc, ◌<◌, ◌≤◌, ◌⊎◌, inl, inr, ⊎_elim, Bool, true, false, not, ◌&&◌, ◌||◌, leb, List, [], ◌∷◌, length, refl, ap, sym, ◌∙◌, subst, arith}
-use Rattle.std.specs.Prelude.{codes, nat_lt, slice_index}
+use Rattle.std.proofs.Common.{◌≡◌, ◌==◌, ℕ, zero, suc, ◌<◌, ◌≤◌, ◌⊎◌, inl, inr, ⊎_elim, Bool, true, false, not, ◌&&◌, ◌||◌, leb, List, [], ◌∷◌, length, refl, ap, ◌∙◌, arith}
+use Rattle.std.specs.Prelude.{nat_lt, slice_index}
 use Rattle.std.specs.Char.{is_ascii_alphabetic, is_ascii_alphanumeric}
 use Rattle.std.specs.List.{list_all}
-use Rattle.std.specs.Str.{IsUtf8, bytes_eq}
+use Rattle.std.specs.Str.{IsUtf8}
 use Rattle.std.proofs.lemmas.Bool.{leb-true}
 use Rattle.std.proofs.lemmas.Bool.Decides.{nat_tests}
 use Rattle.std.proofs.lemmas.Str.{IsUtf8-from_ascii}
@@ -36,7 +36,7 @@ alphanumeric_low : (b : ℕ) → is_ascii_alphanumeric b ≡ true → b < 128
 alphanumeric_low b h =
     ⊎_elim
     (λ (x : (is_in_range 48 57 b || is_in_range 65 90 b) ≡ true).
-        ⊎_elim (λ (y : is_in_range 48 57 b ≡ true). let high = range_high 48 57 b y in omega (arith, high)) (λ (y : is_in_range 65 90 b ≡ true). let high = range_high 65 90 b y in omega (arith, high)) (one_true (is_in_range 48 57 b) (is_in_range 65 90 b) x))
+    ⊎_elim (λ (y : is_in_range 48 57 b ≡ true). let high = range_high 48 57 b y in omega (arith, high)) (λ (y : is_in_range 65 90 b ≡ true). let high = range_high 65 90 b y in omega (arith, high)) (one_true (is_in_range 48 57 b) (is_in_range 65 90 b) x))
     (λ (x : is_in_range 97 122 b ≡ true). let high = range_high 97 122 b x in omega (arith, high))
     (one_true (is_in_range 48 57 b || is_in_range 65 90 b) (is_in_range 97 122 b) h)
 

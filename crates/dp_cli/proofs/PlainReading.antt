@@ -1,11 +1,11 @@
 -- What is known of what was read: the steps of a reading, the lines of a table, the names of a line.
-use Rattle.std.proofs.Common.{◌≡◌, ℕ, zero, suc, ◌+◌, ◌-◌, ◌*◌, ◌/◌, ◌%◌, ◌<◌, ◌≤◌, ◌^◌, Bool, true, false, List, [], ◌∷◌, ◌++◌, length, get_or, map, take, drop, Option, Some, None, Result, Ok, Err, refl, ap, sym, ◌∙◌, subst, ◌⊎◌, ⊎_elim, inl, inr, add-one, drop-cons, arith}
+use Rattle.std.proofs.Common.{◌≡◌, ℕ, zero, suc, ◌+◌, ◌*◌, ◌/◌, ◌%◌, ◌<◌, Bool, true, false, List, [], ◌∷◌, ◌++◌, length, get_or, map, drop, Option, Some, None, refl, ap, sym, ◌∙◌, subst, ◌⊎◌, ⊎_elim, add-one, drop-cons, arith}
 use Rattle.std.proofs.lemmas.List.{length-append}
 use Rattle.dp_cli.specs.declared.plain.PlainFault.{PlainFault}
 use Rattle.dp_cli.specs.declared.plain.PlainFault.TheVariants as faults
 use Rattle.dp_cli.specs.Plain.{◌>>=◌, where_true}
 use Rattle.dp_cli.specs.PlainLines.{Axis, lines_count, after_name, after_names, lines_at}
-use Rattle.dp_cli.proofs.PlainSums.{left_factor, right_factor, quotient}
+use Rattle.dp_cli.proofs.PlainSums.{right_factor, quotient}
 
 -- ---- the steps of a reading
 
@@ -106,8 +106,10 @@ names_go from names later step size left rest whole axes sized counted some read
   where
     product : step ≡ length names * lines_count later
     product = counted ∙ ap lines_count axes
+
     divided : step / size ≡ lines_count later
     divided = ap (λ (n : ℕ). step / n) sized ∙ quotient step (length names) (lines_count later) product some
+
     head : after_names (names ∷ later) left rest ≡ whole
     head = ap (λ (l : List Axis). after_names l left rest) (sym axes) ∙ reads
 

@@ -1,7 +1,6 @@
 -- Worked rows of plain models: what is read, and what is none.
 use Rattle.std.proofs.Common.{◌≡◌, ℕ, true, false, List, [], ◌∷◌, ◌++◌, Some, None, refl}
-use Rattle.std.specs.Prelude.{codes, pos, negsuc, replicate}
-use Rattle.std.specs.Str.Parse.{digits_value}
+use Rattle.std.specs.Prelude.{codes, pos, negsuc}
 use Rattle.dp_model.specs.Tables.{NamedModel}
 use Rattle.dp_cli.specs.PlainNames.{is_plain_name, are_distinct, are_names, names_at, names_after, header_at, limited_header_at}
 use Rattle.dp_cli.specs.PlainNumbers.{fraction_of, chance_of, magnitude_of, reward_of}

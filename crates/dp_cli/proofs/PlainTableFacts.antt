@@ -1,5 +1,5 @@
 -- What is known of the tables and the rewards of a plain model.
-use Rattle.std.proofs.Common.{◌≡◌, ◌==◌, ℕ, zero, suc, ◌+◌, ◌*◌, ◌^◌, ◌<◌, ◌≤◌, max, Bool, true, false, not, ◌&&◌, List, [], ◌∷◌, ◌++◌, length, get_or, map, drop, Option, Some, None, ℤ, pos, neg_ℤ, refl, sym, ap, ◌∙◌, subst, arith}
+use Rattle.std.proofs.Common.{◌≡◌, ◌==◌, ℕ, zero, suc, ◌*◌, ◌^◌, ◌<◌, ◌≤◌, Bool, true, false, not, ◌&&◌, List, [], ◌∷◌, ◌++◌, length, get_or, drop, Option, Some, None, ℤ, pos, neg_ℤ, refl, sym, ap, ◌∙◌, subst, arith}
 use Rattle.std.specs.Prelude.{codes, nat_lt, nat_le, slice_index, unsigned_abs, if◌then◌else◌}
 use Rattle.std.specs.Char.{is_ascii_digit}
 use Rattle.std.specs.List.{list_all}
@@ -45,8 +45,8 @@ chance_digits text c e =
     either (bytes_eq text (codes "0")) _ _ c (c.digits ≤ 4) e
     (λ is. subst (λ (d : Chance). d.digits ≤ 4) (some_same none c is) (omega arith))
     (λ other. either (bytes_eq text (codes "1")) _ _ c (c.digits ≤ 4) other
-        (λ is. subst (λ (d : Chance). d.digits ≤ 4) (some_same whole c is) (omega arith))
-        (λ read. let fraction = steps (after (codes "0.") text) fraction_of c read in fraction_digits fraction.found c fraction.is_next))
+    (λ is. subst (λ (d : Chance). d.digits ≤ 4) (some_same whole c is) (omega arith))
+    (λ read. let fraction = steps (after (codes "0.") text) fraction_of c read in fraction_digits fraction.found c fraction.is_next))
 
 chance_line_digits : (letter : List ℕ) (axes : List Axis) (n : ℕ) (bytes behind : List ℕ) (c : Chance) → chance_line letter axes n bytes ≡ Some (c, behind) → c.digits ≤ 4
 unfolding chance_line
@@ -128,11 +128,11 @@ signed_small : (text : List ℕ) (r : ℤ) → signed_of text ≡ Some r → uns
 signed_small text r e =
     either (begins_with_minus text) _ _ r (unsigned_abs r ≤ 10 ^ 8) e
     (λ read. let m = steps (magnitude_of (drop 1 text)) (λ n. Some (neg_ℤ (pos n))) r read in
-        let same = some_same (neg_ℤ (pos m.found)) r m.is_next in
-        let small = magnitude_small (drop 1 text) m.found m.is_first in
-        subst (λ (z : ℤ). unsigned_abs z ≤ 10 ^ 8) same (subst (λ (k : ℕ). k ≤ 10 ^ 8) (sym (abs_negated m.found)) small))
+    let same = some_same (neg_ℤ (pos m.found)) r m.is_next in
+    let small = magnitude_small (drop 1 text) m.found m.is_first in
+    subst (λ (z : ℤ). unsigned_abs z ≤ 10 ^ 8) same (subst (λ (k : ℕ). k ≤ 10 ^ 8) (sym (abs_negated m.found)) small))
     (λ read. let m = steps (magnitude_of text) (λ n. Some (pos n)) r read in
-        subst (λ (z : ℤ). unsigned_abs z ≤ 10 ^ 8) (some_same (pos m.found) r m.is_next) (magnitude_small text m.found m.is_first))
+    subst (λ (z : ℤ). unsigned_abs z ≤ 10 ^ 8) (some_same (pos m.found) r m.is_next) (magnitude_small text m.found m.is_first))
 
 reward_small : (text : List ℕ) (r : ℤ) → reward_of text ≡ Some r → unsigned_abs r ≤ 10 ^ 8
 unfolding reward_of

@@ -1,5 +1,5 @@
 -- Plain models: the texts of one agent with fully written lines, and the models that they mean.
-use Rattle.std.specs.Prelude.{ℕ, ◌*◌, ◌==◌, List, [], ◌∷◌, length, map, replicate, Option, Some, ℤ, codes}
+use Rattle.std.specs.Prelude.{ℕ, ◌*◌, ◌==◌, List, [], ◌∷◌, length, replicate, Option, Some, ℤ, codes}
 use Rattle.dp_spec.specs.Model.{Model}
 use Rattle.dp_model.specs.Names.{NameLists}
 use Rattle.dp_model.specs.Tables.{NamedModel}

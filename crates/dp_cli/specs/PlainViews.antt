@@ -1,6 +1,5 @@
 -- What the values of the reader of plain models stand for.
-use Rattle.std.specs.Prelude.{ℕ, List, map, Vec}
-use Rattle.std.specs.declared.alloc.Global.{Global}
+use Rattle.std.specs.Prelude.{map}
 use Rattle.dp_cli.specs.declared.plain.names.Words.{Words}
 use Rattle.dp_cli.specs.declared.plain.tables.ChanceTable.{ChanceTable}
 use Rattle.dp_cli.specs.declared.plain.text.PlainText.{PlainText}

@@ -103,10 +103,7 @@ fn split_words<'a>(alloc: Global, line: &'a [u8]) -> Result<Vec<&'a [u8]>, Alloc
 
 // A line of names.
 #[tactic(auto, unfolding(crate::specs::PlainNames::names_at))]
-fn names_line<'a>(
-    alloc: Global,
-    bytes: &'a [u8],
-) -> Result<(Vec<&'a [u8]>, &'a [u8]), PlainFault>
+fn names_line<'a>(alloc: Global, bytes: &'a [u8]) -> Result<(Vec<&'a [u8]>, &'a [u8]), PlainFault>
     ensures { Gives (λ x. (map (λ w. w.now) x.0.items, x.1.now)) result (names_at bytes.now) }
 {
     let (line, rest) = line(bytes)?;
@@ -180,7 +177,12 @@ pub fn reward_lines(words: &Words) -> usize
     ensures { result ≡ reward_lines (names_of words.now) }
 {
     let states = count(&words.states);
-    four_fold(count(&words.actions), states, states, count(&words.observations))
+    four_fold(
+        count(&words.actions),
+        states,
+        states,
+        count(&words.observations),
+    )
 }
 
 fn four_fold(a: usize, b: usize, c: usize, d: usize) -> usize

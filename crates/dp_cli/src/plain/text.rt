@@ -82,7 +82,14 @@ fn trans_table<'a>(
     let states = words.states.as_slice();
     let width = count(states);
     let rows = count(actions) * width;
-    table(alloc, b"T: ", &[actions, states, states], rows, width, bytes)
+    table(
+        alloc,
+        b"T: ",
+        &[actions, states, states],
+        rows,
+        width,
+        bytes,
+    )
 }
 
 #[tactic(auto, unfolding(crate::specs::PlainModel::obs_at))]
@@ -100,7 +107,14 @@ fn obs_table<'a>(
     let observations = words.observations.as_slice();
     let rows = count(actions) * count(states);
     let width = count(observations);
-    table(alloc, b"O: ", &[actions, states, observations], rows, width, bytes)
+    table(
+        alloc,
+        b"O: ",
+        &[actions, states, observations],
+        rows,
+        width,
+        bytes,
+    )
 }
 
 #[tactic(auto, unfolding(crate::specs::PlainModel::rewards_at))]
@@ -122,11 +136,7 @@ fn reward_cells<'a>(
 
 // The lines of numbers, which end the text.
 #[tactic(auto, unfolding(crate::specs::PlainModel::numbers_at))]
-fn numbers<'a>(
-    alloc: Global,
-    words: Words<'a>,
-    bytes: &[u8],
-) -> Result<PlainText<'a>, PlainFault>
+fn numbers<'a>(alloc: Global, words: Words<'a>, bytes: &[u8]) -> Result<PlainText<'a>, PlainFault>
     requires names { AreNameLines (names_of words) }
     requires limit { reward_lines (names_of words) ≤ 65536 }
     ensures { Gives plain_view result (numbers_at (names_of words.entry) bytes.now) }

@@ -1,4 +1,4 @@
-use Rattle.std.proofs.Common.{◌≡◌, true, ℕ, List, [], ◌∷◌, map, take, sym, ap, subst, ◌∙◌, Bor}
+use Rattle.std.proofs.Common.{◌≡◌, true, ℕ, List, map, take, sym, ap, subst, ◌∙◌, Bor}
 use Rattle.dp_num.specs.Names.{is_name}
 use Rattle.dp_model.specs.Names.{NameLists, with_name}
 use Rattle.dp_cli.proofs.PlainLists.{with_next, word_is_name}

@@ -1,4 +1,4 @@
-use Rattle.std.proofs.Common.{◌<◌, ◌*◌, ℕ, length, map, sym, subst}
+use Rattle.std.proofs.Common.{◌<◌, ◌*◌, ℕ, length, sym, subst}
 use Rattle.dp_cli.specs.PlainViews.{names_of}
 use Rattle.dp_cli.proofs.PlainSums.{some_product}
 use Rattle.dp_cli.proofs.plain.text.reward_cells.Goals as goal
@@ -10,5 +10,5 @@ rewards-requires-clause-some c =
     let s = length names.states in
     subst (λ (n : ℕ). 0 < n) (sym c.reward_lines.ensures)
     (some_product (a * s * s) (length names.observations)
-        (some_product (a * s) s (some_product a s c.requires.names.actions.some c.requires.names.states.some) c.requires.names.states.some)
-        c.requires.names.observations.some)
+    (some_product (a * s) s (some_product a s c.requires.names.actions.some c.requires.names.states.some) c.requires.names.states.some)
+    c.requires.names.observations.some)

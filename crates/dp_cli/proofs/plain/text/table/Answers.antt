@@ -1,9 +1,7 @@
-use Rattle.std.proofs.Common.{◌≡◌, ◌*◌, ◌≤◌, ℕ, List, Option, Some, length, map, ap, sym, subst, ◌∙◌, Bor}
+use Rattle.std.proofs.Common.{◌≡◌, ◌*◌, ◌≤◌, ℕ, List, length, map, ap, sym, subst, ◌∙◌, Bor}
 use Rattle.dp_cli.specs.declared.plain.numbers.Chance.{Chance}
-use Rattle.dp_cli.specs.Plain.{Gives}
 use Rattle.dp_cli.specs.PlainLines.{Axis, chance_line, lines_at}
-use Rattle.dp_cli.specs.PlainTables.{Table, full_at, most_digits, table_at, table_of}
-use Rattle.dp_cli.specs.PlainViews.{table_view}
+use Rattle.dp_cli.specs.PlainTables.{full_at, most_digits, table_at, table_of}
 use Rattle.dp_cli.proofs.PlainReading.{gives_fault}
 use Rattle.dp_cli.proofs.PlainTableFacts.{chances_digits, table_length, table_none, table_read}
 use Rattle.dp_cli.proofs.plain.text.table.Goals as goal
@@ -28,6 +26,6 @@ pub returns : goal.returns
 returns c =
     let axes = map view c.args.axes.now in
     let full : table_at c.args.letter.now axes c.args.rows c.args.width c.args.bytes.now ≡ full_at c.deref.result.now c.args.rows c.args.width c.in-Ok.read.1.now =
-        table_read c.args.letter.now axes c.args.rows c.args.width (c.args.rows * c.args.width) c.args.bytes.now c.in-Ok.read.1.now c.in-Ok.read.0.items c.requires.counted c.in-Ok.ensures
-        ∙ ap (λ (cs : List Chance). full_at cs c.args.rows c.args.width c.in-Ok.read.1.now) (sym c.deref.ensures.value) in
+    table_read c.args.letter.now axes c.args.rows c.args.width (c.args.rows * c.args.width) c.args.bytes.now c.in-Ok.read.1.now c.in-Ok.read.0.items c.requires.counted c.in-Ok.ensures
+    ∙ ap (λ (cs : List Chance). full_at cs c.args.rows c.args.width c.in-Ok.read.1.now) (sym c.deref.ensures.value) in
     rw full c.full_table.ensures
