@@ -52,11 +52,11 @@ module _ (contents : Contents) (model : List ℕ) (horizon nodes look : ℕ) (me
 -- the text of the best constant policy's certificate certifies for its model
 plan_certifies : (m : models.Model) (answer : Answer) → IsPlanOf m answer → CertifiesFor m answer.text
 plan_certifies m answer h = record {
-      certificate = constant_certificate m h.text.action;
-      spelled = h.text.spelled;
-      valid = best_constant_is_valid m h.text.action h.is_model h.exact_mode h.text.best;
-      claims = best_constant_claims_hold m h.text.action h.is_model h.exact_mode h.text.best;
-    }
+  certificate = constant_certificate m h.text.action;
+  spelled = h.text.spelled;
+  valid = best_constant_is_valid m h.text.action h.is_model h.exact_mode h.text.best;
+  claims = best_constant_claims_hold m h.text.action h.is_model h.exact_mode h.text.best;
+}
 
 -- a call that is done did not fail to put its answer
 done_puts : (old new : SinkView) (answer : Answer) (reply : Result (Unit {0}) SinkFailed) (result : Status) → Puts old new answer.text reply → result ≡ status_after reply answer.status → result ≡ statuses.Done
