@@ -8,7 +8,7 @@ use Rattle.dp_spec.specs.Model as spec
 use Rattle.dp_spec.specs.Model.{Model, IsModel, AreRows, AreScales, AreSizes, AreTables, joint_actions, joint_observations, start_at}
 use Rattle.dp_spec.specs.Sums.{nat_sum}
 use Rattle.dp_model.specs.Names.{names_of}
-use Rattle.dp_model.specs.Tables.{AreNamesOf, Names}
+use Rattle.dp_model.specs.Tables.{AreNamesOf, NamesAllOrNone}
 use Rattle.dp_cli.specs.PlainNames.{AreNameLines, PlainNames, limited_header_at, reward_lines}
 use Rattle.dp_cli.specs.PlainLines.{lines_count, reward_line}
 use Rattle.dp_cli.specs.PlainTables.{Table, are_full, cells_sum}
@@ -139,7 +139,7 @@ rows_are plain is =
 pub model_is : (plain : PlainModel) → IsPlain plain → IsModel (model_of plain)
 model_is plain is = record { sizes = sizes_are plain is; scales = scales_are plain is; tables = tables_are plain is; rows = rows_are plain is }
 
-lone : (names : List (List ℕ)) (i : ℕ) → i < 1 → Names (names_of (names ∷ []) i) (slice_index (length names ∷ []) i)
+lone : (names : List (List ℕ)) (i : ℕ) → i < 1 → NamesAllOrNone (names_of (names ∷ []) i) (slice_index (length names ∷ []) i)
 lone names zero lt some = refl
 lone names (suc i) lt some = absurd (omega arith)
 
