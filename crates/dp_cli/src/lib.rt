@@ -59,6 +59,3 @@ pub fn run<S: Shelf, W: Sink>(alloc: Global, words: &[String], shelf: &mut S, ou
     let outcome = do_words(alloc, words, shelf);
     put_outcome(alloc, out, outcome)
 }
-
-#[cfg(test)]
-mod tests;

@@ -1,4 +1,4 @@
-use crate::{Status, run};
+use dp_cli::{Status, run};
 use dp_io::{MemShelf, MemSink};
 use dp_num::Memory;
 use std::alloc::Global;
@@ -20,7 +20,7 @@ const PLAN: [&str; 4] = ["plan", "tiny", "--horizon", "1"];
 
 const NEVER: u64 = 99;
 
-// Action b earns 1 of a reward counted in 200 parts of 1, and action a 0.75.
+// Of 200 parts of 1, action b is worth 200 and action a 150.
 const TINY: &str = "agents: 1\n\
 discount: 1\n\
 values: reward\n\
@@ -66,17 +66,58 @@ tree\n\
 L 200\n\
 end\n";
 
+// The same text with a blank line before its transitions.
+const TINY_WITH_A_BLANK_LINE: &str = "agents: 1\n\
+discount: 1\n\
+values: reward\n\
+states: u v\n\
+start: uniform\n\
+actions:\n\
+a b\n\
+observations:\n\
+z\n\
+\n\
+T: a : u : u : 0.25\n\
+T: a : u : v : 0.75\n\
+T: a : v : u : 0.5\n\
+T: a : v : v : 0.5\n\
+T: b : u : u : 1\n\
+T: b : u : v : 0\n\
+T: b : v : u : 0\n\
+T: b : v : v : 1\n\
+O: a : u : z : 1\n\
+O: a : v : z : 1\n\
+O: b : u : z : 1\n\
+O: b : v : z : 1\n\
+R: a : u : u : z : 10\n\
+R: a : u : v : z : 0\n\
+R: a : v : u : z : 0\n\
+R: a : v : v : z : -2\n\
+R: b : u : u : z : 1\n\
+R: b : u : v : z : 1\n\
+R: b : v : u : z : 1\n\
+R: b : v : v : z : 1\n";
+
 #[test]
-fn each_call_ends_with_its_status_and_its_line(rt: HostRuntime) -> Result<(), Fail> {
+fn each_call_ends_with_its_status_and_its_text(rt: HostRuntime) -> Result<(), Fail> {
     let plan = fair_row(&PLAN, Status::Done, CERTIFICATE);
     let mut no_model = fair_row(&PLAN, Status::Unbuilt, "refused unbuilt form\n");
-    no_model.file = "agents: 1\n";
+    no_model.file = TINY_WITH_A_BLANK_LINE;
     let no_horizon = fair_row(&PLAN[..2], Status::Usage, "refused usage\n");
     let mut no_file = fair_row(&PLAN, Status::ReadFault, "refused read 1\n");
     no_file.failing_fetch = 0;
     let mut full_sink = fair_row(&PLAN, Status::WriteFault, "decpl");
     full_sink.failing_put = 0;
-    for row in [plan, no_model, no_horizon, no_file, full_sink] {
+    let mut refusal_cut_off = fair_row(&PLAN[..2], Status::WriteFault, "refus");
+    refusal_cut_off.failing_put = 0;
+    for row in [
+        plan,
+        no_model,
+        no_horizon,
+        no_file,
+        full_sink,
+        refusal_cut_off,
+    ] {
         assert!(rt; is_kept(rt.alloc(), &row)?, "{:?}", row.put);
     }
     Ok(())

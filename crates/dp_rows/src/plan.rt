@@ -1,0 +1,2 @@
+// The command `plan`.
+mod one_step;
