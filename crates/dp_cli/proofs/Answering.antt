@@ -16,9 +16,10 @@ use Rattle.dp_cli.specs.declared.status.Status.{Status}
 use Rattle.dp_cli.specs.declared.status.Status.TheVariants as statuses
 use Rattle.dp_cli.specs.declared.refusal.FileRole.{FileRole}
 use Rattle.dp_cli.specs.declared.refusal.FileRole.TheVariants.{Model}
-use Rattle.dp_cli.specs.declared.refusal.UnbuiltPart.TheVariants.{Form}
 use Rattle.dp_cli.specs.Refusal.{fetch_refusal, word_refusal}
-use Rattle.dp_cli.specs.Job.{File, Answer, asks, refused, done}
+use Rattle.dp_cli.specs.Answer.{Answer, refused, done}
+use Rattle.dp_cli.specs.Job.{File, asks}
+use Rattle.dp_cli.specs.Planned.{PlansText}
 use Rattle.dp_cli.specs.Run.{IsAnswerToFault, Answers, Runs}
 use Rattle.dp_cli.specs.Steps.{model_name, answer_of, FetchesFile, PutsOutcome}
 
@@ -70,6 +71,12 @@ runs_by (Err refusals.Memory) answers puts = record { answer = refused refusals.
 pub asks_model : (job : Job) → asks (Some job) [] ≡ Some (record { name = model_name job; role = Model })
 asks_model (Plan model horizon nodes look merge order) = refl
 
--- A job that has been given its model asks for no more, and its form is not built yet.
-pub replies_unbuilt : (job : Job) (text : List ℕ) {shelf : ShelfView} → Answers (Some job) (text ∷ []) shelf shelf (refused (refusals.Unbuilt Form))
-replies_unbuilt (Plan model horizon nodes look merge order) text = Answers.replies refl refl
+-- A job that has been given its model asks for no more, and answers by its plan.
+pub replies_plan : (job : Job) (text : List ℕ) (outcome : Result (Vec ℕ Global) Refusal) {shelf : ShelfView} → PlansText text outcome
+    → Answers (Some job) (text ∷ []) shelf shelf (answer_of outcome)
+replies_plan (Plan model horizon nodes look merge order) text (Ok bytes) h = Answers.replies refl h
+replies_plan (Plan model horizon nodes look merge order) text (Err refusals.Usage) h = Answers.replies refl h
+replies_plan (Plan model horizon nodes look merge order) text (Err (refusals.Read role)) h = Answers.replies refl h
+replies_plan (Plan model horizon nodes look merge order) text (Err (refusals.TooLarge passed)) h = Answers.replies refl h
+replies_plan (Plan model horizon nodes look merge order) text (Err (refusals.Unbuilt part)) h = Answers.replies refl h
+replies_plan (Plan model horizon nodes look merge order) text (Err refusals.Memory) h = Answers.wants_memory

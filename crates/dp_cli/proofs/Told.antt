@@ -11,7 +11,8 @@ use Rattle.dp_cli.specs.declared.refusal.FileRole.{FileRole}
 use Rattle.dp_cli.specs.declared.refusal.Refusal.TheVariants as refusals
 use Rattle.dp_cli.specs.declared.status.Status.{Status}
 use Rattle.dp_cli.specs.Refusal.{most_bytes, fetch_refusal}
-use Rattle.dp_cli.specs.Job.{File, Answer, asks, refused}
+use Rattle.dp_cli.specs.Answer.{Answer, refused}
+use Rattle.dp_cli.specs.Job.{File, asks}
 use Rattle.dp_cli.specs.Run.{IsAnswerToFault, Answers, Runs, IsToldAnswer, RunsAsTold}
 
 -- what the contents determine, or want of memory

@@ -5,12 +5,10 @@ use Rattle.dp_words.specs.declared.job.Job.{Job}
 use Rattle.dp_words.specs.declared.job.Job.TheVariants.{Plan}
 use Rattle.dp_cli.specs.declared.refusal.FileRole.{FileRole}
 use Rattle.dp_cli.specs.declared.refusal.FileRole.TheVariants.{Model}
-use Rattle.dp_cli.specs.declared.refusal.UnbuiltPart.TheVariants.{Form}
-use Rattle.dp_cli.specs.declared.refusal.Refusal.{Refusal}
 use Rattle.dp_cli.specs.declared.refusal.Refusal.TheVariants as refusals
-use Rattle.dp_cli.specs.declared.status.Status.{Status}
-use Rattle.dp_cli.specs.declared.status.Status.TheVariants as statuses
-use Rattle.dp_cli.specs.Refusal.{refusal_status, refusal_line}
+use Rattle.dp_cli.specs.Answer.{Answer, refused}
+use Rattle.dp_cli.specs.ModelText.{model_of_text}
+use Rattle.dp_cli.specs.Planned.{IsPlanReply}
 
 -- a file that a job asks for
 pub record File : Type 0 where
@@ -27,22 +25,9 @@ abbrev pub asks : Option Job → List (List ℕ) → Option File
 asks (Some (Plan model horizon nodes look merge order)) [] = Some (record { name = model; role = Model })
 asks _ texts = None
 
--- what a call answers: its status, and the text that it puts
-pub record Answer : Type 0 where
-  pub status : Status
-  pub text : List ℕ
-
--- the answer of a command that has done its work
-abbrev pub done : List ℕ → Answer
-done text = record { status = statuses.Done; text = text }
-
--- the answer of a command that is refused
-abbrev pub refused : Refusal → Answer
-refused refusal = record { status = refusal_status refusal; text = refusal_line refusal }
-
 -- What a job may answer when it has been given these texts and asks for no more. It is a relation,
 -- since some commands leave a choice. Want of memory is left out here: it may come in place of any.
 abbrev pub IsReply : Option Job → List (List ℕ) → Answer → Type 0
 IsReply None texts answer = answer ≡ refused refusals.Usage
-IsReply (Some (Plan model horizon nodes look merge order)) (text ∷ []) answer = answer ≡ refused (refusals.Unbuilt Form)
+IsReply (Some (Plan model horizon nodes look merge order)) (text ∷ []) answer = IsPlanReply (model_of_text text) answer
 IsReply job texts answer = ⊥

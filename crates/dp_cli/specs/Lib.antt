@@ -1,5 +1,8 @@
+pub mod Answer
 pub mod Causes
+pub mod Certified
 pub mod Job
+pub mod ModelText
 pub mod Plain
 pub mod PlainLines
 pub mod PlainModel
@@ -7,6 +10,7 @@ pub mod PlainNames
 pub mod PlainNumbers
 pub mod PlainTables
 pub mod PlainViews
+pub mod Planned
 pub mod Put
 pub mod Refusal
 pub mod Run

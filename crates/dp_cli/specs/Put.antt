@@ -4,7 +4,7 @@ use Rattle.dp_io.specs.declared.sink.SinkFailed.{SinkFailed}
 use Rattle.dp_io.specs.Sink.{SinkView, Puts}
 use Rattle.dp_cli.specs.declared.status.Status.{Status}
 use Rattle.dp_cli.specs.declared.status.Status.TheVariants as statuses
-use Rattle.dp_cli.specs.Job.{Answer}
+use Rattle.dp_cli.specs.Answer.{Answer}
 
 -- the status of a call after its put: a put that fails replaces it
 abbrev pub status_after : Result (Unit {0}) SinkFailed → Status → Status

@@ -6,6 +6,8 @@ use Rattle.dp_model.specs.declared.limit.Limit.{Limit}
 use Rattle.dp_model.specs.declared.limit.Limit.TheVariants.{ModelBytes, FileBytes}
 use Rattle.dp_model.specs.declared.limit.TooLarge.{TooLarge}
 use Rattle.dp_model.specs.Limits.{limit_word}
+use Rattle.dp_cli.specs.declared.plain.PlainFault.{PlainFault}
+use Rattle.dp_cli.specs.declared.plain.PlainFault.TheVariants as plain_faults
 use Rattle.dp_words.specs.declared.job.WordFault.{WordFault}
 use Rattle.dp_words.specs.declared.job.WordFault.TheVariants as word_faults
 use Rattle.dp_cli.specs.declared.refusal.FileRole.{FileRole}
@@ -40,6 +42,11 @@ fetch_refusal role fetch_faults.Memory = refusals.Memory
 abbrev pub word_refusal : WordFault → Refusal
 word_refusal word_faults.Usage = refusals.Usage
 word_refusal word_faults.Memory = refusals.Memory
+
+-- bytes that mean no model
+abbrev pub plain_refusal : PlainFault → Refusal
+plain_refusal plain_faults.Form = refusals.Unbuilt Form
+plain_refusal plain_faults.Memory = refusals.Memory
 
 abbrev pub refusal_status : Refusal → Status
 refusal_status refusals.Usage = statuses.Usage

@@ -11,7 +11,8 @@ use Rattle.dp_cli.specs.declared.refusal.FileRole.{FileRole}
 use Rattle.dp_cli.specs.declared.refusal.Refusal.TheVariants as refusals
 use Rattle.dp_cli.specs.declared.status.Status.{Status}
 use Rattle.dp_cli.specs.Refusal.{most_bytes, long_file, fetch_refusal}
-use Rattle.dp_cli.specs.Job.{File, Answer, asks, refused, IsReply}
+use Rattle.dp_cli.specs.Answer.{Answer, refused}
+use Rattle.dp_cli.specs.Job.{File, asks, IsReply}
 use Rattle.dp_cli.specs.Put.{PutsAnswer}
 
 -- What is answered to a file that the shelf did not give. The line of a file that is too long has a

@@ -10,7 +10,8 @@ use Rattle.dp_cli.specs.declared.refusal.Refusal.{Refusal}
 use Rattle.dp_cli.specs.declared.refusal.Refusal.TheVariants as refusals
 use Rattle.dp_cli.specs.declared.status.Status.{Status}
 use Rattle.dp_cli.specs.Refusal.{most_bytes, fetch_refusal}
-use Rattle.dp_cli.specs.Job.{File, Answer, refused, done}
+use Rattle.dp_cli.specs.Answer.{Answer, refused, done}
+use Rattle.dp_cli.specs.Job.{File}
 use Rattle.dp_cli.specs.Put.{PutsAnswer}
 
 -- the model that a job is about

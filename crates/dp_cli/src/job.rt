@@ -1,11 +1,14 @@
 // What a job fetches and answers.
 ghost use Rattle.std.specs.Prelude.{◌≡◌, [], map, string_bytes, Some};
 ghost use Rattle.dp_words.specs.Words.{job_of};
+ghost use Rattle.dp_cli.specs.Planned.{PlansText};
 ghost use Rattle.dp_cli.specs.Run.{Answers};
 ghost use Rattle.dp_cli.specs.Steps.{FetchesFile, answer_of, model_name};
 
-use crate::{FileRole, Refusal, UnbuiltPart};
+use crate::plain::read_plain;
+use crate::{FileRole, Refusal};
 use dp_io::Shelf;
+use dp_plan::best_constant_text;
 use dp_words::{Job, Name, read_words};
 use std::alloc::Global;
 
@@ -25,8 +28,17 @@ pub fn do_words<S: Shelf>(
 fn do_job<S: Shelf>(alloc: Global, job: &Job, shelf: &mut S) -> Result<Vec<u8>, Refusal>
     ensures { Answers (Some job.now) [] (S.view shelf.old) (S.view shelf.new) (answer_of result) }
 {
-    let _text = fetch(alloc, shelf, FileRole::Model, model_of(job))?;
-    Err(Refusal::Unbuilt(UnbuiltPart::Form))
+    let text = fetch(alloc, shelf, FileRole::Model, model_of(job))?;
+    plan(alloc, &text)
+}
+
+// The certificate of a plan for the model that a text means.
+fn plan(alloc: Global, text: &[u8]) -> Result<Vec<u8>, Refusal>
+    ensures { PlansText text.now result }
+{
+    let model = read_plain(alloc, text)?;
+    model.kept();
+    Ok(best_constant_text(alloc, &model)?)
 }
 
 // The name of the model that a job is about.

@@ -5,6 +5,7 @@
 ghost use Rattle.std.specs.Prelude.{◌≡◌, ◌≢◌, ◌+◌, ◌<◌, ◌^◌, ◌↔◌, None, length, map, string_bytes, IfSome};
 ghost use Rattle.dp_words.specs.Words.{job_of};
 ghost use Rattle.dp_cli.specs.Causes.{LogsFirstOf, LastFailed};
+ghost use Rattle.dp_cli.specs.Certified.{IsCertified};
 ghost use Rattle.dp_cli.specs.Job.{files_of};
 ghost use Rattle.dp_cli.specs.Run.{Runs, RunsAsTold};
 
@@ -38,6 +39,12 @@ pub fn run<S: Shelf, W: Sink>(alloc: Global, words: &[String], shelf: &mut S, ou
     // Over a shelf that tells its contents: they determine the answer.
     ensures told { IfSome (S.view shelf.old).told (λ contents. RunsAsTold contents (length (S.view shelf.old).log)
         (job_of (map string_bytes words.now)) (W.view out.old) (W.view out.new) result) }
+
+    // The headline. Done tells that the bytes put are the text of a certificate that is valid for the
+    // model of the file's bytes, that the value of its policy lies in its interval, and that no joint
+    // policy is worth more than the upper end.
+    ensures certified { result ≡ Status.Done → IfSome (S.view shelf.old).told (λ contents. IsCertified contents
+        (length (S.view shelf.old).log) (job_of (map string_bytes words.now)) (W.view out.old) (W.view out.new)) }
 
     // Plain facts that follow from these.
     ensures fetched { LogsFirstOf (files_of (job_of (map string_bytes words.now))) (S.view shelf.old).log (S.view shelf.new).log }

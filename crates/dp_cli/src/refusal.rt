@@ -1,6 +1,7 @@
 ghost use Rattle.std.specs.Prelude.{◌≡◌};
 ghost use Rattle.dp_cli.specs.Refusal.{word_refusal, fetch_refusal};
 
+use crate::plain::PlainFault;
 use dp_io::FetchFault;
 use dp_model::{Limit, TooLarge};
 use dp_num::Memory;
@@ -54,6 +55,19 @@ impl From<WordFault> for Refusal {
         match fault {
             WordFault::Usage => Refusal::Usage,
             WordFault::Memory => Refusal::Memory,
+        }
+    }
+}
+
+impl From<PlainFault> for Refusal {
+    ghost use Rattle.dp_cli.specs.Refusal.{plain_refusal};
+
+    ghost from_gives = { λ fault refusal. refusal ≡ plain_refusal fault };
+
+    fn from(fault: PlainFault) -> Refusal {
+        match fault {
+            PlainFault::Form => Refusal::Unbuilt(UnbuiltPart::Form),
+            PlainFault::Memory => Refusal::Memory,
         }
     }
 }

@@ -1,17 +1,18 @@
 -- a bound does not grow by advancing
 use Rattle.std.proofs.Common.{◌≡◌, ℕ, zero, suc, ◌+◌, ◌-◌, ◌<◌, Bool, true, false, cond, eqb, ℤ, pos, ◌+ℤ◌, ◌≤ℤ◌, List, refl, sym, ap, ◌∙◌, arith}
 use Rattle.std.proofs.lemmas.Int.{ints}
+use Rattle.dp_laws.proofs.Order.{add_le_right}
 use Rattle.dp_laws.proofs.AdvancedFronts.{action_at, action_before, as_many_agents, class_in_range, counts_are_pairs, pair_weight, weight_same, weight_same_to}
 use Rattle.dp_laws.proofs.AgreeingActions.{IsIn_filter, chosen_action_agrees, chosen_joint_action, greatest_of_part, some_in}
 use Rattle.dp_laws.proofs.Best.{IsIn, best_in}
-use Rattle.dp_laws.proofs.Forward.{int_history_sum_ext}
+use Rattle.dp_laws.proofs.ForwardValue.{int_history_sum_ext}
 use Rattle.dp_laws.proofs.JointPairs.{int_sum_pairs}
 use Rattle.dp_laws.proofs.LinearSteps.{reward_of_histories}
 use Rattle.dp_laws.proofs.LongerLook.{longer_look_le}
-use Rattle.dp_laws.proofs.RecursiveWorth.{best_ext}
+use Rattle.dp_laws.proofs.EarnedValue.{greatest_ext}
 use Rattle.dp_laws.proofs.ConstantPolicies.{last_action}
 use Rattle.dp_laws.proofs.Ring.{zadd_le, zle_of, zle_trans}
-use Rattle.dp_laws.proofs.Sound.{eq_of, int_history_sum_group}
+use Rattle.dp_laws.proofs.FollowedBound.{equal_of_test, int_history_sum_group}
 use Rattle.dp_laws.proofs.Sums.{int_sum_add, int_sum_ext, int_sum_le}
 use Rattle.dp_laws.proofs.WellFormedSteps.{advanced_is_front}
 use Rattle.dp_spec.specs.Bound.{agreeing_actions, bound_of}
@@ -34,7 +35,7 @@ some_actions_le : (m : Model) → IsModel m → (r k : ℕ) (w : ℕ → ℕ) (x
     greatest (λ x. action_look_ahead m r w x (suc k)) xs ≤ℤ look_ahead m (suc r) w k
 some_actions_le m ok r k w xs a some part =
     zle_trans _ _ _ (greatest_of_part _ xs (numbers_below (joint_actions m)) (some_in a xs some) part)
-    (zle_trans _ _ _ (zle_of _ _ (best_ext _ _ (numbers_below (joint_actions m)) (λ x. action_look_ahead_is m r w x k)))
+    (zle_trans _ _ _ (zle_of _ _ (greatest_ext _ _ (numbers_below (joint_actions m)) (λ x. action_look_ahead_is m r w x k)))
     (longer_look_le m ok (suc r) k (suc k) w (omega arith)))
 
 agreeing_part : (m : Model) (F : Front) (C x : ℕ) → IsIn x (agreeing_actions m F C) → IsIn x (numbers_below (joint_actions m))
@@ -75,7 +76,7 @@ module _ (m : Model) (h : ℕ) (F : Front) (front : IsFront m h F) where
       ∙ int_sum_ext N _ _ (λ C p.
       int_history_sum_ext O F.stage _ (λ H. cond (eqb (joint_class m F H) C) (weighted_reward m r (W H) (chosen_joint_action m F C)) (pos 0))
       (λ H q. cond_same (eqb (joint_class m F H) C) _ _
-      (λ e. let weights = sym (weight_same m h F front H q) in let action = action_at m h F front H q ∙ ap (chosen_joint_action m F) (eq_of _ _ e) in λ j. weighted_reward m r (weights j) (action j)))
+      (λ e. let weights = sym (weight_same m h F front H q) in let action = action_at m h F front H q ∙ ap (chosen_joint_action m F) (equal_of_test _ _ e) in λ j. weighted_reward m r (weights j) (action j)))
       ∙ reward_of_histories m r O F.stage (chosen_joint_action m F C) (λ H. eqb (joint_class m F H) C) W)
 
   -- what is earned before the next stage
@@ -112,9 +113,6 @@ module _ (m : Model) (h : ℕ) (F : Front) (front : IsFront m h F) where
 regroup : (e w o t b : ℤ) → w +ℤ o ≡ t → t ≤ℤ b → ((e +ℤ w) +ℤ o) ≤ℤ (e +ℤ b)
 regroup e w o t b same le = omega (arith, ints)
 
-add_le : (a b c : ℤ) → b ≤ℤ c → (a +ℤ b) ≤ℤ (a +ℤ c)
-add_le a b c h = omega (arith, ints)
-
 -- a bound with a look of at least 1 does not grow by advancing
 pub advanced_bound_le : (m : Model) → IsModel m → (h r look : ℕ) (F : Front) → IsFront m h F → F.stage < h → is_complete F.agents ≡ true → 0 < look →
     bound_of m r (advanced_front m F) look ≤ℤ bound_of m (suc r) F look
@@ -122,7 +120,7 @@ advanced_bound_le m ok h r zero F front lt all some = absurd (omega arith)
 advanced_bound_le m ok h zero (suc k) F front lt all some =
     let N = product (class_counts F.agents) in
     zle_trans _ _ _ (zle_of _ _ (earned_advanced m h F front 0))
-    (add_le _ _ _
+    (add_le_right _ _ _
     (zle_trans _ _ _ (zle_of _ _ (int_sum_ext N _ _ (λ C p. sym (last_action m (class_weight m F C) (chosen_joint_action m F C) (suc k))))) (chosen_under m h F front ok 0 (suc k))))
 advanced_bound_le m ok h (suc r) (suc k) F front lt all some =
     let N = product (class_counts F.agents) in

@@ -6,16 +6,14 @@ use Rattle.std.proofs.lemmas.Bool.Decides.{nat_tests}
 use Rattle.std.proofs.lemmas.List.{get_or_append_left, get_or_push, length-replicate}
 use Rattle.std.proofs.lemmas.List.FromFn.{get_or-map-range_with_len}
 use Rattle.std.proofs.lemmas.Nat.{div-mul-add, mod-mul-add}
-use Rattle.std.proofs.Math.Nat.{pow-suc}
 use Rattle.dp_laws.proofs.AgreeingActions.{actions_for, chosen_joint_action}
 use Rattle.dp_laws.proofs.JointPairs.{pair_counts, pair_injective, pair_number}
 use Rattle.dp_laws.proofs.LinearSteps.{weights_after_histories}
 use Rattle.dp_laws.proofs.NaturalSums.{nat_history_sum_ext, nat_sum_one}
-use Rattle.dp_laws.proofs.OwnHistories.{Below, Within, joint_below, owns_within, parts-joint, parts_below}
+use Rattle.dp_laws.proofs.OwnHistories.{Below, Within, joint_below, next_history_below, own_histories_within, parts-joint, parts_below}
 use Rattle.dp_laws.proofs.KeptActions.{history_length}
 use Rattle.dp_laws.proofs.CompleteFronts.{new_class}
 use Rattle.dp_laws.proofs.Sums.{dec_eq, nat_sum_ext}
-use Rattle.dp_laws.proofs.Trees.{row_below}
 use Rattle.dp_spec.specs.Front.{AgentFront, Front, class_counts, class_weight, fixed_actions, fixed_joint_action, joint_class, next_own_histories, own_classes, own_histories}
 use Rattle.dp_spec.specs.JointHistory.{IsJointHistory, history_weight}
 use Rattle.dp_spec.specs.JointNumbers.{joint_number, parts_of, product}
@@ -45,14 +43,11 @@ counts_advanced {f} (and_agent {n = n} {ns = ns} {d = d} {ds = ds} k ks) =
     let rest = counts_advanced ks in
     λ j. here j ∷ rest j
 
-step_in : (x n t p : ℕ) → x < n ^ t → p < n → x * n + p < n ^ suc t
-step_in x n t p h g = rw pow-suc (row_below x (n ^ t) n p h g)
-
 class_step : (n f x p : ℕ) (cs : List ℕ) → x < n ^ f → p < n → get_or (map (λ x. get_or cs (x / n) 0 * n + x % n) (range_with_len 0 (n ^ suc f))) (x * n + p) 0 ≡ get_or cs x 0 * n + p
 class_step n f x p cs h g =
     let first : (x * n + p) / n ≡ x = div-mul-add x n p g in
     let rest : (x * n + p) % n ≡ p = mod-mul-add x n p g in
-    new_class n f (x * n + p) cs (step_in x n f p h g) ∙ (rw (first, rest))
+    new_class n f (x * n + p) cs (next_history_below x n f p h g) ∙ (rw (first, rest))
 
 pub classes_advanced : {f : ℕ} {bs ns : List ℕ} {ds : List AgentFront} → AreAgentFronts f bs ns ds → (xs ps : List ℕ) → Within ns f xs → Below ns ps →
     own_classes (advanced_agents ns f ds) (next_own_histories ns xs ps) ≡ next_own_histories ns (own_classes ds xs) ps
@@ -87,7 +82,7 @@ fixed_at {f} (and_agent {n = n} {d = d} k ks) (x ∷ xs) h =
     λ j. here j ∷ rest j
 
 -- a test of pairs as two tests
-both_tests : (u v p p' q q' x y : ℕ) → (u ≡ v → (p ≡ p') × (q ≡ q')) → (p ≡ p' → q ≡ q' → u ≡ v) → (p ≡ p' → x ≡ y) → cond (eqb u v) x 0 ≡ cond (eqb q q') (cond (eqb p p') y 0) 0
+pub both_tests : (u v p p' q q' x y : ℕ) → (u ≡ v → (p ≡ p') × (q ≡ q')) → (p ≡ p' → q ≡ q' → u ≡ v) → (p ≡ p' → x ≡ y) → cond (eqb u v) x 0 ≡ cond (eqb q q') (cond (eqb p p') y 0) 0
 both_tests u v p p' q q' x y apart together same =
     elim (dec_eq u v) [
       | inl e ↦ let parts = apart e in equal (e, parts.0, parts.1, same parts.0)
@@ -113,7 +108,7 @@ module _ (m : Model) (h : ℕ) (F : Front) (front : IsFront m h F) where
 
   pub class_in_range : (H : List ℕ) → IsJointHistory (joint_observations m) F.stage H → joint_class m F H < product (class_counts F.agents)
   unfolding joint_class joint_observations
-  class_in_range H p = joint_below _ _ (classes_below front.agents _ (owns_within m.observations F.stage H p))
+  class_in_range H p = joint_below _ _ (classes_below front.agents _ (own_histories_within m.observations F.stage H p))
 
   pub action_before : (t : ℕ) (H : List ℕ) → t < F.stage → IsJointHistory (joint_observations m) t H → fixed_joint_action m F H ≡ fixed_joint_action m G H
   unfolding fixed_joint_action
@@ -126,7 +121,7 @@ module _ (m : Model) (h : ℕ) (F : Front) (front : IsFront m h F) where
   unfolding fixed_joint_action chosen_joint_action joint_class joint_observations
   action_at H p =
       let xs = own_histories m.observations H in
-      let w = owns_within m.observations F.stage H p in
+      let w = own_histories_within m.observations F.stage H p in
       ap (λ (t : ℕ). joint_number m.actions (fixed_actions G.agents t xs)) (history_length _ F.stage H p)
       ∙ ap (joint_number m.actions) (fixed_at front.agents xs w ∙ ap (actions_for F.agents) (sym (parts-joint _ _ (classes_below front.agents xs w))))
 
@@ -151,7 +146,7 @@ module _ (m : Model) (h : ℕ) (F : Front) (front : IsFront m h F) where
       joint_class m G (o ∷ H) ≡ pair_number (class_counts F.agents) m.observations (joint_class m F H) o
   unfolding joint_class joint_observations
   class_is_pair o H q p =
-      let w = owns_within m.observations F.stage H p in
+      let w = own_histories_within m.observations F.stage H p in
       let classes = classes_advanced front.agents (own_histories m.observations H) (parts_of m.observations o) w (parts_below m.observations o q) in
       let parts = parts-joint (class_counts F.agents) (own_classes F.agents (own_histories m.observations H)) (classes_below front.agents _ w) in
       (λ j. joint_number (counts_are_pairs j) (classes j)) ∙ ap (λ z. joint_number (pair_counts (class_counts F.agents) m.observations) (next_own_histories m.observations z (parts_of m.observations o))) (sym parts)

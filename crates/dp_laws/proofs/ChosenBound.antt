@@ -1,10 +1,9 @@
 -- a bound does not grow by choosing
-use Rattle.std.proofs.Common.{◌≡◌, ℕ, zero, suc, ◌+◌, ◌<◌, ℤ, ◌+ℤ◌, ◌≤ℤ◌, get_or, sym, ap, ◌∙◌, subst, arith}
-use Rattle.std.proofs.lemmas.Int.{ints}
+use Rattle.std.proofs.Common.{◌≡◌, ℕ, zero, suc, ◌+◌, ◌<◌, ◌≤ℤ◌, get_or, sym, ap, ◌∙◌, subst}
 use Rattle.dp_laws.proofs.AgreeingActions.{IsIn_filter, agree_without, chosen_action_agrees, greatest_of_part, some_in}
 use Rattle.dp_laws.proofs.Best.{IsIn, IsIn-filter}
 use Rattle.dp_laws.proofs.ChosenFronts.{actions_chosen, counts_chosen, weight_chosen}
-use Rattle.dp_laws.proofs.Ring.{zle_of, zle_trans}
+use Rattle.dp_laws.proofs.Ring.{zadd_le, zle_of, zle_trans}
 use Rattle.dp_laws.proofs.Sums.{int_sum_le}
 use Rattle.dp_laws.proofs.WellFormedSteps.{chosen_is_front}
 use Rattle.dp_spec.specs.Bound.{agreeing_actions, all_agree, bound_of}
@@ -25,9 +24,6 @@ still_agrees m F i c a C x free h =
     let agreed = agree_without i c a F.agents (parts_of (class_counts (chosen_front F i c a).agents) C) (parts_of m.actions x) free both.1 in
     IsIn-filter _ x (numbers_below (joint_actions m)) both.0 (ap (λ z. all_agree F.agents (parts_of z C) (parts_of m.actions x)) (sym (counts_chosen i c a F.agents)) ∙ agreed)
 
-add_both : (a b c d : ℤ) → a ≡ b → c ≤ℤ d → (a +ℤ c) ≤ℤ (b +ℤ d)
-add_both a b c d e h = omega (arith, ints)
-
 -- a bound does not grow by choosing
 pub chosen_bound_le : (m : Model) → IsModel m → (h r look : ℕ) (F : Front) (i c a : ℕ) → IsFront m h F → F.stage < h → IsUnassigned i c F.agents → a < get_or m.actions i 0 →
     bound_of m r (chosen_front F i c a) look ≤ℤ bound_of m r F look
@@ -37,7 +33,7 @@ chosen_bound_le m ok h (suc r) look F i c a front lt free p =
     let N = product (class_counts F.agents) in
     let best = λ (C : ℕ). greatest (λ x. action_look_ahead m r (class_weight m G C) x look) (agreeing_actions m G C) in
     let as_many : product (class_counts G.agents) ≡ N = ap product (counts_chosen i c a F.agents) in
-    add_both _ _ _ _ (ap (λ act. earned_reward m act (F.stage + suc r) F.stage) (actions_chosen m F i c a))
+    zadd_le _ _ _ _ (zle_of _ _ (ap (λ act. earned_reward m act (F.stage + suc r) F.stage) (actions_chosen m F i c a)))
     (zle_trans _ _ _ (zle_of _ _ (ap (λ (n : ℕ). int_sum n best) as_many))
     (int_sum_le N _ _ (λ C q.
     let q' : C < product (class_counts G.agents) = subst (λ (n : ℕ). C < n) (sym as_many) q in

@@ -4,9 +4,9 @@ use Rattle.std.proofs.Math.IntN.{zero-*ℤ}
 use Rattle.dp_laws.proofs.Order.{add_le_left, add_le_right, le_of_mul_le_left, le_total}
 use Rattle.dp_laws.proofs.Ring.{v, nat, ◌⊗◌, by_ring, zle_of, zmul_le}
 use Rattle.dp_laws.proofs.Sums.{int_sum_ext, int_sum_zero, mul_two, ext_two}
-use Rattle.dp_laws.proofs.Forward.{int_history_sum_ext, int_history_sum_swap}
+use Rattle.dp_laws.proofs.ForwardValue.{int_history_sum_ext, int_history_sum_swap}
 use Rattle.dp_laws.proofs.HistorySums.{int_history_sum_zero, nat_history_sum_none, nat_sum_none}
-use Rattle.dp_laws.proofs.Sound.{int_history_sum_group, int_history_sum_weigh, eq_of}
+use Rattle.dp_laws.proofs.FollowedBound.{int_history_sum_group, int_history_sum_weigh, equal_of_test}
 use Rattle.dp_spec.specs.JointHistory.{IsJointHistory, int_history_sum, nat_history_sum}
 use Rattle.dp_spec.specs.Sums.{int_sum, nat_sum}
 
@@ -14,6 +14,7 @@ use Rattle.dp_spec.specs.Sums.{int_sum, nat_sum}
 as_good : (t t' : ℕ) (ga gb ga' gb' : ℤ) → 0 < t → pos t' *ℤ ga ≡ pos t *ℤ ga' → pos t' *ℤ gb ≡ pos t *ℤ gb' → ga ≤ℤ gb → ga' ≤ℤ gb'
 as_good t t' ga gb ga' gb' p e f h = let le = zmul_le t' ga gb h in le_of_mul_le_left t ga' gb' p (rw (← e, ← f) le)
 
+-- 0 or more
 zero_or_more : (t : ℕ) → (t ≡ 0) ⊎ (0 < t)
 zero_or_more t = grind arith
 
@@ -49,7 +50,7 @@ module _ (n t states k : ℕ) (weight : List ℕ → ℕ → ℕ) (class others 
       int_history_sum_group n t k _ others in_range
       ∙ int_sum_ext k _ _ (λ y p.
       int_history_sum_ext n t _ (λ H. int_sum states (λ s. pos (cond (eqb (others H) y) (cond (eqb (class H) c) (weight H s) 0) 0) *ℤ value y x s))
-      (λ H h. value_where_both (eqb (others H) y) (eqb (class H) c) states (weight H) (value (others H) x) (value y x) (λ e s q. ap (λ (z : ℕ). value z x s) (eq_of _ _ e)))
+      (λ H h. value_where_both (eqb (others H) y) (eqb (class H) c) states (weight H) (value (others H) x) (value y x) (λ e s q. ap (λ (z : ℕ). value z x s) (equal_of_test _ _ e)))
       ∙ int_history_sum_swap n t states _
       ∙ int_sum_ext states _ _ (λ s q. int_history_sum_weigh n t (λ H. cond (eqb (others H) y) (cond (eqb (class H) c) (weight H s) 0) 0) (value y x s)))
 

@@ -4,7 +4,7 @@ use Rattle.std.proofs.lemmas.Int.{ints}
 use Rattle.dp_laws.proofs.Sums.{int_sum_zero}
 use Rattle.dp_laws.proofs.OwnHistories.{Below, parts_below}
 use Rattle.dp_laws.proofs.JointParts.{joint-parts}
-use Rattle.dp_laws.proofs.RecursiveWorth.{worth_is}
+use Rattle.dp_laws.proofs.EarnedValue.{policy_value_is_recursive}
 use Rattle.dp_spec.specs.Bound.{agreeing_actions, agrees, all_agree, bound_of}
 use Rattle.dp_spec.specs.ConstantPolicy.{constant_policy, constant_tree, constant_trees, repeated_tree}
 use Rattle.dp_spec.specs.Front.{class_counts, class_weight, joint_class, own_classes}
@@ -63,9 +63,9 @@ none_more : (n : ℕ) (x : ℤ) → x +ℤ int_sum n (λ o. pos 0) ≡ x
 none_more n x = let e = int_sum_zero n in omega (arith, ints)
 
 -- over one step its value is the reward
-constant_value : (m : Model) → IsModel m → (a : ℕ) → a < joint_actions m → policy_value m 1 (constant_policy m 1 a) ≡ weighted_reward m 0 (start_at m) a
-constant_value m ok a p =
-    worth_is m 1 (constant_policy m 1 a)
+pub constant_policy_value : (m : Model) → IsModel m → (a : ℕ) → a < joint_actions m → policy_value m 1 (constant_policy m 1 a) ≡ weighted_reward m 0 (start_at m) a
+constant_policy_value m ok a p =
+    policy_value_is_recursive m 1 (constant_policy m 1 a)
     ∙ none_more (joint_observations m) _
     ∙ ap (weighted_reward m 0 (start_at m)) (constant_policy_begins m ok 1 a p)
 
@@ -126,4 +126,4 @@ root_bound_at_one m ok look =
     ∙ greatest_ext_below _ _ (joint_actions m) (λ a p.
     last_action m (class_weight m (root_front m) 0) a look
     ∙ ap (λ w. weighted_reward m 0 w a) (λ i s. root_weight m s i)
-    ∙ sym (constant_value m ok a p))
+    ∙ sym (constant_policy_value m ok a p))

@@ -21,8 +21,10 @@ no_weight m F i c x s e p =
     none_at (eqb (class_of_others m F i H) x) (eqb (class_of_agent m F i H) c) m.states (history_weight m (fixed_joint_action m F) H) s p
     (nat_history_sum_none (joint_observations m) F.stage _ e H h))
 
+-- both products are 0
 zero_sides : (a b p q : ℕ) → p ≡ 0 → a ≡ 0 → p * b ≡ q * a
 zero_sides a b p q e f = rw (e, f) (omega arith)
 
+-- so its weights are in proportion to those of every class
 pub empty_class_is_equivalent : (m : Model) (F : Front) (i c c' : ℕ) → class_total m F i c ≡ 0 → AreEquivalent m F i c c'
 empty_class_is_equivalent m F i c c' e = record { same = λ x s p q. zero_sides (class_total m F i c) (class_total m F i c') (place_weight m F i c x s) (place_weight m F i c' x s) (no_weight m F i c x s e q) e }

@@ -2,7 +2,7 @@
 use Rattle.std.proofs.Common.{◌≡◌, ℕ, zero, suc, ◌+◌, ◌-◌, ◌*◌, ◌^◌, ◌<◌, ◌≤◌, Bool, true, false, cond, eqb, ℤ, pos, ◌*ℤ◌, List, [], ◌∷◌, refl, ap, ◌∙◌, subst, arith}
 use Rattle.dp_spec.specs.declared.span.Span.{Span}
 use Rattle.dp_laws.proofs.Scales.{scale_after_carry, scale_after_reward, scale_after_step, scale_after_tail, scale_at_stage, scale_of_first, scale_of_next}
-use Rattle.dp_laws.proofs.Look.{look_le}
+use Rattle.dp_laws.proofs.TableBound.{look_ahead_le_table}
 use Rattle.dp_spec.specs.Arithmetic.{Arithmetic, point}
 use Rattle.dp_spec.specs.Bound.{agreeing_actions, bound_of}
 use Rattle.dp_spec.specs.Enclosure.{Enclosure, IsSound}
@@ -34,10 +34,12 @@ module _ (m : Model) (A : Arithmetic) (R : Enclosure) (ok : IsSound m A R) where
   weighs_sum T zero w s h = ok.no_weight T
   weighs_sum T (suc n) w s h = ok.more_weight T _ _ _ _ (weighs_sum T n w s (λ i p. h i (omega arith))) (h n (omega arith))
 
+  -- of what is earned
   pub earns_sum : (F n : ℕ) (x : ℕ → ℤ) (s : ℕ → Span) → ((i : ℕ) → i < n → R.Earns F (x i) (s i)) → R.Earns F (int_sum n x) (span_sum n s)
   earns_sum F zero x s h = ok.no_gain F
   earns_sum F (suc n) x s h = ok.more_gain F _ _ _ _ (earns_sum F n x s (λ i p. h i (omega arith))) (h n (omega arith))
 
+  -- of numbers from above
   pub tops_sum : (F n : ℕ) (x u : ℕ → ℤ) → ((i : ℕ) → i < n → R.Tops F (x i) (u i)) → R.Tops F (int_sum n x) (int_sum n u)
   tops_sum F zero x u h = ok.no_top F
   tops_sum F (suc n) x u h = ok.more_top F _ _ _ _ (tops_sum F n x u (λ i p. h i (omega arith))) (h n (omega arith))
@@ -53,6 +55,7 @@ module _ (m : Model) (A : Arithmetic) (R : Enclosure) (ok : IsSound m A R) where
   weighs_history_sum T n zero w s h = h [] tt
   weighs_history_sum T n (suc t) w s h = weighs_history_sum T n t _ _ (λ H p. weighs_sum T n _ _ (λ o q. h (o ∷ H) (q, p)))
 
+  -- of what is earned
   pub earns_history_sum : (F n t : ℕ) (x : List ℕ → ℤ) (s : List ℕ → Span) → ((H : List ℕ) → IsJointHistory n t H → R.Earns F (x H) (s H)) → R.Earns F (int_history_sum n t x) (span_history_sum n t s)
   earns_history_sum F n zero x s h = h [] tt
   earns_history_sum F n (suc t) x s h = earns_history_sum F n t _ _ (λ H p. earns_sum F n _ _ (λ o q. h (o ∷ H) (q, p)))
@@ -130,7 +133,7 @@ module _ (m : Model) (A : Arithmetic) (R : Enclosure) (ok : IsSound m A R) where
   look_ahead_enclosed is T zero k w ws h = ok.no_top _
   look_ahead_enclosed is T (suc r) zero w ws h = weighted_table_enclosed T (suc r) w ws h
   look_ahead_enclosed is T (suc r) (suc k) w ws h =
-      ok.smaller _ _ _ _ _ (look_le m is (suc r) (suc k) w)
+      ok.smaller _ _ _ _ _ (look_ahead_le_table m is (suc r) (suc k) w)
       (tops_greatest _ _ _ (numbers_below (joint_actions m)) (λ a.
       ok.more_top _ _ _ _ _ (ok.top _ _ _ (weighted_reward_enclosed T r w ws a h))
       (tops_sum _ (joint_observations m) _ _ (λ o p. tops_same _ _ _ _ (scale_after_tail m T r) (look_ahead_enclosed is (T * step_scale m) r k (weights_after m w a o) (weights_after_in A m ws a o) (λ t q. weights_after_enclosed T w ws a o t h))))))

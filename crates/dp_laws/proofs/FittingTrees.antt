@@ -1,11 +1,11 @@
 -- A bound tree that fits a front bounds every joint policy that keeps it.
-use Rattle.std.proofs.Common.{◌≡◌, ◌⊎◌, inl, inr, ℕ, suc, ◌+◌, ◌-◌, ◌<◌, ◌≤◌, ℤ, pos, ◌≤ℤ◌, List, get_or, refl, sym, subst, arith}
+use Rattle.std.proofs.Common.{◌≡◌, inl, inr, ℕ, suc, ◌+◌, ◌-◌, ◌<◌, ◌≤◌, ℤ, pos, ◌≤ℤ◌, List, get_or, refl, sym, subst, arith}
 use Rattle.std.specs.Int.{int_min}
 use Rattle.dp_laws.proofs.EnclosedQuantities.{bound_enclosed}
 use Rattle.dp_laws.proofs.KeptBound.{keeper_under_bound}
 use Rattle.dp_laws.proofs.KeptSteps.{keeps_some_next}
 use Rattle.dp_laws.proofs.LosslessMerging.{merging_loses_nothing}
-use Rattle.dp_laws.proofs.Order.{mul_le_right}
+use Rattle.dp_laws.proofs.Order.{equal_or_less, mul_le_right}
 use Rattle.dp_laws.proofs.OutwardArithmetic.{IsAbove, smaller_above}
 use Rattle.dp_laws.proofs.Ring.{zle_trans, zle_of}
 use Rattle.dp_laws.proofs.RootFront.{policy_keeps_root, root_is_front}
@@ -26,10 +26,6 @@ use Rattle.dp_spec.specs.Quantities.{bound_in}
 use Rattle.dp_spec.specs.Steps.{IsUnassigned, front_after_choice, root_front}
 use Rattle.dp_spec.specs.Value.{policy_value}
 use Rattle.dp_spec.specs.WellFormed.{IsFront}
-
--- equal or below
-lt_or_eq : (a b : ℕ) → a ≤ b → (a ≡ b) ⊎ (a < b)
-lt_or_eq a b h = grind arith
 
 -- ---- in a sound arithmetic
 module _ (A : Arithmetic) (R : Enclosure) (m : Model) (is : IsModel m) (ok : IsSound m A R) (h look : ℕ) where
@@ -74,7 +70,7 @@ module _ (A : Arithmetic) (R : Enclosure) (m : Model) (is : IsModel m) (ok : IsS
         v ≤ℤ policy_value m h qs → Bounds least v → k ≤ a → AllLeavesAtMost u Ts → Bounds u v
     fitting_trees_bound v u no_bound_trees F i c k a least qs front lt free fits policy inside keeps best bounded from below = absurd (omega arith)
     fitting_trees_bound v u (more_bound_trees T Ts) F i c k a least qs front lt free fits policy inside keeps best bounded from below =
-        elim (lt_or_eq k a from) [
+        elim (equal_or_less k a from) [
           | inl e ↦
               let G = front_after_choice m F i c k in
               let next = after_choice_is_front m h F i c k front lt free (omega arith) in

@@ -2,7 +2,7 @@
 use Rattle.std.proofs.Common.{◌≡◌, ℕ, zero, suc, ◌+◌, ◌*◌, ◌/◌, ◌%◌, ◌^◌, ◌<◌, refl, sym, ap, ◌∙◌, subst, arith}
 use Rattle.std.proofs.Math.Nat.{pow-suc, pow-zero}
 use Rattle.std.proofs.lemmas.Nat.{mod_below}
-use Rattle.dp_laws.proofs.Trees.{kid_fits, part_below, pos_of, root_in, row_below}
+use Rattle.dp_laws.proofs.Trees.{subtree_fits, part_below, positive_factor, root_action_below, row_below}
 use Rattle.dp_spec.specs.FullPolicy.{trees_from}
 use Rattle.dp_spec.specs.Keeping.{tree_at}
 use Rattle.dp_spec.specs.PolicyTree.{ArePolicyTrees, IsPolicyTree, PolicyTree, node, nth_tree, root_action, subtree}
@@ -34,7 +34,7 @@ tree_at-graft n q new (suc t) j k x y e h =
     let h' : y < n ^ t * n = rw pow-suc at h in
     let h2 : y < n * n ^ t = omega arith in
     ap (λ z. subtree z (y % n)) (tree_at-graft n q new t (suc j) k x (y / n) (omega arith) (part_below (n ^ t) n y h'))
-    ∙ nth_tree-trees_from n _ (y % n) (mod_below y n (pos_of (n ^ t) n y h'))
+    ∙ nth_tree-trees_from n _ (y % n) (mod_below y n (positive_factor (n ^ t) n y h'))
     ∙ ap (λ (z : ℕ). graft n j z (subtree (tree_at n q t (y / n)) (y % n)) new) (next_number n t y x)
 
 -- they are trees of r steps where each is
@@ -56,8 +56,8 @@ graft_fits b n r zero j x q new e fits news =
 graft_fits b n r (suc k) zero x q new e fits news = absurd (omega arith)
 graft_fits b n r (suc k) (suc zero) x q new e fits news = absurd (omega arith)
 graft_fits b n r (suc k) (suc (suc j)) x q new e fits news = (
-  root_in b n (suc j) q fits,
+  root_action_below b n (suc j) q fits,
   trees_from_fit b n (suc j) n _ (λ o p.
-      graft_fits b n r k (suc j) (x * n + o) (subtree q o) new (omega arith) (kid_fits b n (suc j) q o p fits)
+      graft_fits b n r k (suc j) (x * n + o) (subtree q o) new (omega arith) (subtree_fits b n (suc j) q o p fits)
       (λ y u. subst (λ (z : ℕ). IsPolicyTree b n (suc r) (new z)) (sym (grafted_number x n k o y)) (news (o * n ^ k + y) (rw pow-suc (let lt = row_below o n (n ^ k) y p u in omega arith))))),
 )

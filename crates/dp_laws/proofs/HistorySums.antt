@@ -1,12 +1,10 @@
 -- Sums over joint histories that are 0.
-use Rattle.std.proofs.Common.{◌≡◌, ◌⊎◌, inl, inr, ℕ, zero, suc, ◌<◌, pos, List, [], ◌∷◌, refl, sym, ◌∙◌, subst, arith}
+use Rattle.std.proofs.Common.{◌≡◌, inl, inr, ℕ, zero, suc, ◌<◌, pos, List, [], ◌∷◌, refl, sym, ◌∙◌, subst, arith}
+use Rattle.dp_laws.proofs.Order.{last_or_before}
 use Rattle.dp_laws.proofs.Sums.{int_sum_zero}
-use Rattle.dp_laws.proofs.Forward.{int_history_sum_ext}
+use Rattle.dp_laws.proofs.ForwardValue.{int_history_sum_ext}
 use Rattle.dp_spec.specs.JointHistory.{IsJointHistory, int_history_sum, nat_history_sum}
 use Rattle.dp_spec.specs.Sums.{nat_sum}
-
-last_or_before : (i n : ℕ) → i < suc n → (i ≡ n) ⊎ (i < n)
-last_or_before i n h = grind arith
 
 -- where a sum of naturals is 0 each of them is
 pub nat_sum_none : (n : ℕ) (f : ℕ → ℕ) → nat_sum n f ≡ 0 → (i : ℕ) → i < n → f i ≡ 0

@@ -2,7 +2,7 @@
 use Rattle.std.proofs.Common.{◌≡◌, ℕ, zero, suc, ◌+◌, ◌*◌, ◌/◌, ◌%◌, ◌<◌, ◌≤◌, ℤ, List, [], ◌∷◌, length, get_or, refl, sym, ap, ◌∙◌, arith}
 use Rattle.std.proofs.lemmas.Nat.{div-mul-add, mod-mul-add}
 use Rattle.dp_laws.proofs.JointParts.{joint-parts}
-use Rattle.dp_laws.proofs.OwnHistories.{Below, joint_below, parts-joint, parts_below}
+use Rattle.dp_laws.proofs.OwnHistories.{Below, parts-joint, parts_below}
 use Rattle.dp_laws.proofs.Sums.{int_sum_ext, int_sum_prod, int_sum_swap}
 use Rattle.dp_spec.specs.JointNumbers.{joint_number, parts_of, product}
 use Rattle.dp_spec.specs.Merge.{inserted, without}
@@ -64,9 +64,6 @@ parts_long i ns x p h = let e = as_long (without i ns) (parts_of (without i ns) 
 
 pub parts-placed : (i : ℕ) (ns : List ℕ) (c x : ℕ) → i < length ns → c < get_or ns i 0 → x < product (without i ns) → parts_of ns (placed_number i ns c x) ≡ inserted i c (parts_of (without i ns) x)
 parts-placed i ns c x p q h = parts-joint ns _ (below_inserted i ns c _ p q (parts_below (without i ns) x h))
-
-pub placed_below : (i : ℕ) (ns : List ℕ) (c x : ℕ) → i < length ns → c < get_or ns i 0 → x < product (without i ns) → placed_number i ns c x < product ns
-placed_below i ns c x p q h = joint_below ns _ (below_inserted i ns c _ p q (parts_below (without i ns) x h))
 
 -- different places have different numbers
 pub placed_injective : (i : ℕ) (ns : List ℕ) (c x d y : ℕ) → i < length ns → c < get_or ns i 0 → x < product (without i ns) → d < get_or ns i 0 → y < product (without i ns) → placed_number i ns c x ≡ placed_number i ns d y → (c ≡ d) × (x ≡ y)

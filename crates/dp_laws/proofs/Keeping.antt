@@ -1,10 +1,11 @@
 -- A joint policy keeps a well-formed front exactly where it follows the front with some trees at its classes.
-use Rattle.std.proofs.Common.{◌≡◌, ◌⊎◌, inl, inr, ℕ, zero, suc, ◌+◌, ◌*◌, ◌/◌, ◌%◌, ◌^◌, ◌<◌, true, false, cond, eqb, List, [], ◌∷◌, length, get_or, None, sym, ap, ◌∙◌, subst, arith}
+use Rattle.std.proofs.Common.{◌≡◌, inl, inr, ℕ, zero, suc, ◌+◌, ◌*◌, ◌/◌, ◌%◌, ◌^◌, ◌<◌, true, false, cond, eqb, List, [], ◌∷◌, length, get_or, None, sym, ap, ◌∙◌, subst, arith}
 use Rattle.std.proofs.lemmas.Bool.Decides.{nat_tests}
 use Rattle.std.proofs.lemmas.Nat.{mod_below}
 use Rattle.std.proofs.Math.Nat.{pow-suc}
+use Rattle.dp_laws.proofs.Order.{last_or_before}
 use Rattle.dp_laws.proofs.Sums.{dec_eq}
-use Rattle.dp_laws.proofs.Trees.{kid_fits, part_below, pos_of}
+use Rattle.dp_laws.proofs.Trees.{subtree_fits, part_below, positive_factor}
 use Rattle.dp_laws.specs.Following.{FollowsAgentFront, FollowsAgentFronts}
 use Rattle.dp_laws.specs.Following.FollowsAgentFronts.{and_agent as and_follows, no_agents as none_follow}
 use Rattle.dp_spec.specs.Front.{AgentFront, Front}
@@ -21,15 +22,12 @@ pub tree_at_fits : (b n : ℕ) (q : PolicyTree) (t r k x : ℕ) → t + r ≡ k 
 tree_at_fits b n q zero r k x e h is = let e' : k ≡ r = omega arith in subst (λ (z : ℕ). IsPolicyTree b n z q) e' is
 tree_at_fits b n q (suc t) r k x e h is =
     let h' : x < n ^ t * n = rw pow-suc at h in
-    kid_fits b n r (tree_at n q t (x / n)) (x % n) (mod_below x n (pos_of (n ^ t) n x h')) (tree_at_fits b n q t (suc r) k (x / n) (omega arith) (part_below (n ^ t) n x h') is)
+    subtree_fits b n r (tree_at n q t (x / n)) (x % n) (mod_below x n (positive_factor (n ^ t) n x h')) (tree_at_fits b n q t (suc r) k (x / n) (omega arith) (part_below (n ^ t) n x h') is)
 
 -- the last number below k that is of class c
 abbrev last_member : (ℕ → ℕ) → ℕ → ℕ → ℕ
 last_member class c zero = 0
 last_member class c (suc k) = cond (eqb (class k) c) k (last_member class c k)
-
-equal_or_less : (x k : ℕ) → x < suc k → (x ≡ k) ⊎ (x < k)
-equal_or_less x k h = grind arith
 
 -- where there is one
 last_member_is : (class : ℕ → ℕ) (c k x : ℕ) → x < k → class x ≡ c → (last_member class c k < k) × (class (last_member class c k) ≡ c)
@@ -38,7 +36,7 @@ last_member_is class c (suc k) x h e =
     elim (dec_eq (class k) c) [
       | inl same ↦ let t : eqb (class k) c ≡ true = grind (arith, nat_tests) in rw t (omega arith, same)
       | inr other ↦ let t : eqb (class k) c ≡ false = grind (arith, nat_tests) in
-          elim (equal_or_less x k h) [
+          elim (last_or_before x k h) [
             | inl last ↦ absurd (other (ap class (sym last) ∙ e))
             | inr below ↦ let rest = last_member_is class c k x below e in rw t (omega (arith, rest.0), rest.1)
           ]

@@ -1,7 +1,7 @@
 -- What a joint policy that keeps a front does before the front's stage.
 use Rattle.std.proofs.Common.{◌≡◌, ℕ, zero, suc, ◌<◌, List, [], ◌∷◌, map, length, refl, ap}
-use Rattle.dp_laws.proofs.KeepsAllAgents.{rests_are}
-use Rattle.dp_laws.proofs.OwnHistories.{Within, owns_within, trees_at, trees_at-start}
+use Rattle.dp_laws.proofs.FollowedFronts.{trees_after_history_are}
+use Rattle.dp_laws.proofs.OwnHistories.{Within, own_histories_within, trees_at, trees_at-start}
 use Rattle.dp_spec.specs.Front.{AgentFront, Front, fixed_actions, fixed_joint_action, own_histories}
 use Rattle.dp_spec.specs.JointHistory.{IsJointHistory, trees_after_history}
 use Rattle.dp_spec.specs.Keeping.{KeepAgentFronts, KeepsFront}
@@ -26,4 +26,4 @@ kept_actions (and_agent k ks) t (x ∷ xs) p h = let here = k.does_fixed t x p h
 pub kept_joint_action : (m : Model) (F : Front) (qs : List PolicyTree) → KeepsFront m F qs → (t : ℕ) (H : List ℕ) → t < F.stage → IsJointHistory (joint_observations m) t H → joint_root_action m (trees_after_history m qs H) ≡ fixed_joint_action m F H
 unfolding joint_root_action fixed_joint_action joint_observations
 kept_joint_action m F qs keeps t H p h =
-    rw (rests_are m qs (trees_at-start keeps) t H h, kept_actions keeps t (own_histories m.observations H) p (owns_within m.observations t H h), history_length _ t H h)
+    rw (trees_after_history_are m qs (trees_at-start keeps) t H h, kept_actions keeps t (own_histories m.observations H) p (own_histories_within m.observations t H h), history_length _ t H h)

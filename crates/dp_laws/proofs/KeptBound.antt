@@ -1,12 +1,12 @@
 -- No joint policy that keeps a front is worth more than its bound.
-use Rattle.std.proofs.Common.{◌≡◌, ℕ, zero, suc, ◌+◌, ℤ, pos, ◌+ℤ◌, ◌*ℤ◌, ◌≤ℤ◌, List, refl, ◌∙◌, subst, arith}
+use Rattle.std.proofs.Common.{◌≡◌, ℕ, zero, suc, ◌+◌, ℤ, pos, ◌+ℤ◌, ◌≤ℤ◌, List, refl, ◌∙◌, subst, arith}
 use Rattle.std.proofs.lemmas.Int.{ints}
-use Rattle.dp_laws.proofs.Forward.{int_history_sum_ext, forward}
+use Rattle.dp_laws.proofs.OneStep.{weighted_zeros}
+use Rattle.dp_laws.proofs.ForwardValue.{int_history_sum_ext, forward_is_backward}
 use Rattle.dp_laws.proofs.HistorySums.{int_history_sum_zero}
 use Rattle.dp_laws.proofs.Keeping.{follows_of_keeps}
 use Rattle.dp_laws.proofs.Ring.{zle_trans, zle_of}
-use Rattle.dp_laws.proofs.Sound.{sound, does_fixed}
-use Rattle.dp_laws.proofs.Sums.{int_sum_weigh}
+use Rattle.dp_laws.proofs.FollowedBound.{following_policy_le_bound, follows_fixed}
 use Rattle.dp_laws.specs.Following.{FollowsAgentFronts}
 use Rattle.dp_spec.specs.Bound.{bound_of}
 use Rattle.dp_spec.specs.Front.{Front, fixed_joint_action}
@@ -14,7 +14,6 @@ use Rattle.dp_spec.specs.JointHistory.{history_weight}
 use Rattle.dp_spec.specs.Keeping.{KeepsFront}
 use Rattle.dp_spec.specs.Model.{IsModel, Model, joint_observations}
 use Rattle.dp_spec.specs.PolicyTree.{IsPolicyOf, PolicyTree}
-use Rattle.dp_spec.specs.Sums.{int_sum}
 use Rattle.dp_spec.specs.Value.{policy_value}
 use Rattle.dp_spec.specs.WellFormed.{IsFront}
 
@@ -22,18 +21,14 @@ use Rattle.dp_spec.specs.WellFormed.{IsFront}
 add_none_le : (a b : ℤ) → b ≡ pos 0 → (a +ℤ b) ≤ℤ a
 add_none_le a b e = omega (arith, ints)
 
--- weights against 0
-weighted_zeros : (n : ℕ) (w : ℕ → ℕ) → int_sum n (λ s. pos (w s) *ℤ pos 0) ≡ pos 0
-weighted_zeros n w = int_sum_weigh n w (pos 0) ∙ omega (arith, ints)
-
 -- with trees at the classes of the front
 value_le_bound : (m : Model) → IsModel m → (look : ℕ) (F : Front) (r : ℕ) (qs : List PolicyTree) (uss : List (ℕ → PolicyTree)) → FollowsAgentFronts F.stage r m.actions m.observations F.agents qs uss → policy_value m (F.stage + r) qs ≤ℤ bound_of m r F look
 value_le_bound m ok look F zero qs uss ks =
     let O = joint_observations m in
     zle_trans _ _ _
-    (zle_of _ _ (forward m (fixed_joint_action m F) qs (F.stage + 0) F.stage 0 refl (does_fixed m F 0 qs uss ks)))
+    (zle_of _ _ (forward_is_backward m (fixed_joint_action m F) qs (F.stage + 0) F.stage 0 refl (follows_fixed m F 0 qs uss ks)))
     (add_none_le _ _ (int_history_sum_ext O F.stage _ (λ H. pos 0) (λ H p. weighted_zeros m.states (history_weight m (fixed_joint_action m F) H)) ∙ int_history_sum_zero O F.stage))
-value_le_bound m ok look F (suc r) qs uss ks = sound m ok F r look qs uss ks
+value_le_bound m ok look F (suc r) qs uss ks = following_policy_le_bound m ok F r look qs uss ks
 
 -- for a horizon of h steps
 pub keeper_under_bound : (m : Model) → IsModel m → (h r look : ℕ) (F : Front) (qs : List PolicyTree) → IsFront m h F → F.stage + r ≡ h → IsPolicyOf m h qs → KeepsFront m F qs → policy_value m h qs ≤ℤ bound_of m r F look

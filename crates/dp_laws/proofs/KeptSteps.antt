@@ -10,7 +10,7 @@ use Rattle.dp_laws.proofs.CompleteFronts.{parts_of_true}
 use Rattle.dp_laws.proofs.Keeping.{tree_at_fits}
 use Rattle.dp_laws.proofs.CompleteFronts.{new_class, some_at}
 use Rattle.dp_laws.proofs.Sums.{dec_eq}
-use Rattle.dp_laws.proofs.Trees.{part_below, pos_of, root_in}
+use Rattle.dp_laws.proofs.Trees.{part_below, positive_factor, root_action_below}
 use Rattle.dp_laws.proofs.WellFormedSteps.{before_or_at, chosen_is_front, no_choice}
 use Rattle.dp_spec.specs.Front.{AgentFront, Front}
 use Rattle.dp_spec.specs.Keeping.{KeepAgentFronts, KeepsAgentFront, KeepsFront, tree_at}
@@ -45,7 +45,7 @@ choose r e no_fronts no_policies none_keep i c free = absurd free
 choose {f} {h} r e (and_front {b = b} {n = n} {d = d} front fronts) (and_policy {q = q} tree trees) (and_keeps k ks) zero c free =
     let x = front.member c free.0 in (
       root_action (tree_at n q f x.0),
-      root_in b n r _ (tree_at_fits b n q f (suc r) h x.0 e x.1 tree),
+      root_action_below b n r _ (tree_at_fits b n q f (suc r) h x.0 e x.1 tree),
       and_keeps (keeps_choice n f d q c _ x.0 k free.0 x.1 x.2 refl) ks,
     )
 choose r e (and_front front fronts) (and_policy tree trees) (and_keeps k ks) (suc i) c free =
@@ -83,7 +83,7 @@ keeps_next b n f d q front k all =
       alike = λ x y u v e.
           let u' : x < n ^ f * n = rw pow-suc at u in
           let v' : y < n ^ f * n = rw pow-suc at v in
-          let parts = same_parts n _ _ _ _ (mod_below x n (pos_of (n ^ f) n x u')) (mod_below y n (pos_of (n ^ f) n y v')) (sym (new_class n f x d.class_of u) ∙ e ∙ new_class n f y d.class_of v) in
+          let parts = same_parts n _ _ _ _ (mod_below x n (positive_factor (n ^ f) n x u')) (mod_below y n (positive_factor (n ^ f) n y v')) (sym (new_class n f x d.class_of u) ∙ e ∙ new_class n f y d.class_of v) in
           ap (λ z. subtree z (x % n)) (k.alike (x / n) (y / n) (part_below (n ^ f) n x u') (part_below (n ^ f) n y v') parts.0)
           ∙ ap (λ (z : ℕ). subtree (tree_at n q f (y / n)) z) parts.1;
       does_chosen = λ x a u s. let none = no_choice (length d.chosen * n) (get_or (map (λ x. get_or d.class_of (x / n) 0 * n + x % n) (range_with_len 0 (n ^ suc f))) x 0) in cc;

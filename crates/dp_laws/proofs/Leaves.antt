@@ -22,6 +22,7 @@ mutual
   leaves_below u w (branch i c Ts) le h = all_leaves_below u w Ts le h
   leaves_below u w (merge i a b T) le h = leaves_below u w T le h
 
+  -- the same for each tree of a list
   all_leaves_below : (u w : ℤ) (Ts : BoundTrees) → u ≤ℤ w → AllLeavesAtMost u Ts → AllLeavesAtMost w Ts
   all_leaves_below u w no_bound_trees le h = tt
   all_leaves_below u w (more_bound_trees T Ts) le h = (leaves_below u w T le h.0, all_leaves_below u w Ts le h.1)
@@ -33,6 +34,7 @@ mutual
   greatest_leaf-at_most (branch i c Ts) = greatest_leaf_of-at_most Ts
   greatest_leaf-at_most (merge i a b T) = greatest_leaf-at_most T
 
+  -- the same for a list
   greatest_leaf_of-at_most : (Ts : BoundTrees) → AllLeavesAtMost (greatest_leaf_of Ts) Ts
   greatest_leaf_of-at_most no_bound_trees = tt
   greatest_leaf_of-at_most (more_bound_trees T no_bound_trees) = (greatest_leaf-at_most T, tt)
@@ -45,6 +47,7 @@ mutual
 
 -- ---- a tree that fits a front has a leaf below each branch
 
+-- the factors of a product that is not 0
 factor_not_zero : (a b : ℕ) → 0 < a * b → (0 < a) × (0 < b)
 factor_not_zero zero b h = absurd (omega arith)
 factor_not_zero (suc a) zero h = absurd (omega arith)
@@ -56,6 +59,7 @@ some_action_of no_agents i c free h = absurd free
 some_action_of (and_agent {b = b} {bs = bs} front fronts) zero c free h = (factor_not_zero b (product bs) h).0
 some_action_of (and_agent {b = b} {bs = bs} front fronts) (suc i) c free h = some_action_of fronts i c free (factor_not_zero b (product bs) h).1
 
+-- the agent of an unassigned class has an action
 some_action : (m : Model) (h : ℕ) (F : Front) (i c : ℕ) → IsModel m → IsFront m h F → IsUnassigned i c F.agents → 0 < get_or m.actions i 0
 unfolding joint_actions
 some_action m h F i c ok front free = some_action_of front.agents i c free ok.sizes.some_action
@@ -73,6 +77,7 @@ module _ (A : Arithmetic) (m : Model) (ok : IsModel m) (h look : ℕ) (u : ℤ) 
     greatest_leaf_below (branch i c Ts) F least front fits below = greatest_leaf_of_below Ts F i c 0 least front fits.0 fits.1 (some_action m h F i c ok front fits.1) fits.2 below
     greatest_leaf_below (merge i a b T) F least front fits below = greatest_leaf_below T (merged_front F i a b) _ (merged_is_front m h F i a b front fits.0 fits.1 fits.2 fits.3) fits.5 below
 
+    -- the same for the trees of the actions from a on
     greatest_leaf_of_below : (Ts : BoundTrees) (F : Front) (i c a : ℕ) (least : ℤ) → IsFront m h F → F.stage < h → IsUnassigned i c F.agents → a < get_or m.actions i 0 → FitEachAction A m h look Ts F i c a least → AllLeavesAtMost u Ts → greatest_leaf_of Ts ≤ℤ u
     greatest_leaf_of_below no_bound_trees F i c a least front lt free inside fits below = absurd (omega arith)
     greatest_leaf_of_below (more_bound_trees T no_bound_trees) F i c a least front lt free inside fits below = greatest_leaf_below T (front_after_choice m F i c a) _ (after_choice_is_front m h F i c a front lt free inside) fits.0 below.0

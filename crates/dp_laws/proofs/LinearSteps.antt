@@ -2,10 +2,10 @@
 use Rattle.std.proofs.Common.{◌≡◌, ℕ, zero, suc, ◌+◌, ◌-◌, ◌*◌, ◌^◌, Bool, true, false, cond, ℤ, pos, ◌+ℤ◌, ◌*ℤ◌, ◌≤ℤ◌, List, [], ◌∷◌, refl, sym, ap, ◌∙◌, arith}
 use Rattle.std.specs.Int.{int_max}
 use Rattle.std.proofs.lemmas.Int.{ints, clamps}
-use Rattle.dp_laws.proofs.Forward.{int_history_sum_ext, int_history_sum_swap}
+use Rattle.dp_laws.proofs.ForwardValue.{int_history_sum_ext, int_history_sum_swap}
 use Rattle.dp_laws.proofs.NaturalSums.{nat_history_sum_ext, nat_history_sum_swap, nat_history_sum_times, nat_sum_add, nat_sum_cond}
 use Rattle.dp_laws.proofs.Ring.{v, nat, ◌⊕◌, ◌⊗◌, by_ring, zadd_le, zadd_swap, zle_of, zle_trans}
-use Rattle.dp_laws.proofs.Sound.{int_history_sum_weigh, pick}
+use Rattle.dp_laws.proofs.FollowedBound.{int_history_sum_weigh, value_where}
 use Rattle.dp_laws.proofs.Sums.{int_sum_add, int_sum_ext, int_sum_le, mul_two, nat_sum_ext}
 use Rattle.dp_spec.specs.JointHistory.{int_history_sum, nat_history_sum}
 use Rattle.dp_spec.specs.LookAhead.{action_look_ahead, look_ahead, weighted_reward, weights_after}
@@ -34,7 +34,7 @@ pub reward_of_histories : (m : Model) (r n f a : ℕ) (test : List ℕ → Bool)
 reward_of_histories m r n f a test w =
     int_history_sum_ext n f _ _ (λ H p.
     ap (λ x. cond (test H) x (pos 0)) (reward_by_state m r (w H) a)
-    ∙ pick (test H) m.states (w H) (λ q s. state_reward m r a s) [] [] (λ e. refl))
+    ∙ value_where (test H) m.states (w H) (λ q s. state_reward m r a s) [] [] (λ e. refl))
     ∙ int_history_sum_swap n f m.states _
     ∙ int_sum_ext m.states _ _ (λ s p. int_history_sum_weigh n f (λ H. cond (test H) (w H s) 0) (state_reward m r a s))
     ∙ sym (reward_by_state m r (λ s. nat_history_sum n f (λ H. cond (test H) (w H s) 0)) a)

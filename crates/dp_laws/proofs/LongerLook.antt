@@ -1,20 +1,18 @@
 -- more look never raises the look-ahead
-use Rattle.std.proofs.Common.{◌≡◌, inl, inr, ℕ, zero, suc, ◌+◌, ◌-◌, ◌<◌, ◌≤◌, ℤ, pos, ◌+ℤ◌, ◌*ℤ◌, ◌≤ℤ◌, List, [], ◌∷◌, length, refl, subst, arith}
+use Rattle.std.proofs.Common.{◌≡◌, inl, inr, ℕ, zero, suc, ◌+◌, ◌-◌, ◌<◌, ◌≤◌, ℤ, pos, ◌*ℤ◌, ◌≤ℤ◌, List, [], ◌∷◌, length, refl, subst, arith}
 use Rattle.std.specs.Int.{int_max}
 use Rattle.std.proofs.lemmas.Int.{ints, clamps}
+use Rattle.dp_laws.proofs.Order.{add_le_right, max_le}
 use Rattle.dp_laws.proofs.Ring.{zle_trans, zle_of}
 use Rattle.dp_laws.proofs.Sums.{int_sum_le}
 use Rattle.dp_laws.proofs.Best.{IsIn}
-use Rattle.dp_laws.proofs.Look.{look_le}
-use Rattle.dp_laws.proofs.OneStep.{value_le_action}
+use Rattle.dp_laws.proofs.TableBound.{look_ahead_le_table}
+use Rattle.dp_laws.proofs.OneStep.{value_le_action_look_ahead}
 use Rattle.dp_spec.specs.LookAhead.{action_look_ahead, look_ahead, weighted_reward, weights_after}
 use Rattle.dp_spec.specs.Model.{IsModel, Model, joint_actions, joint_observations}
 use Rattle.dp_spec.specs.PolicyTree.{IsPolicyOf, PolicyTree}
 use Rattle.dp_spec.specs.Sums.{greatest, int_sum, numbers_below}
 use Rattle.dp_spec.specs.Value.{backward_value, joint_root_action}
-
-max_le : (a b x : ℤ) → a ≤ℤ x → b ≤ℤ x → int_max a b ≤ℤ x
-max_le a b x p q = omega (arith, ints, clamps)
 
 -- what is above each of a list that is not empty is above the greatest
 pub greatest_under : (f : ℕ → ℤ) (xs : List ℕ) (z : ℤ) → 0 < length xs → ((x : ℕ) → IsIn x xs → f x ≤ℤ z) → greatest f xs ≤ℤ z
@@ -31,15 +29,12 @@ greatest_le f g [] h = zle_of (pos 0) (pos 0) refl
 greatest_le f g (x ∷ []) h = h x
 greatest_le f g (x ∷ (y ∷ ys)) h = max_mono _ _ _ _ (h x) (greatest_le f g (y ∷ ys) h)
 
-add_le : (a b c : ℤ) → b ≤ℤ c → (a +ℤ b) ≤ℤ (a +ℤ c)
-add_le a b c h = omega (arith, ints)
-
 -- one step of look more
 one_more : (m : Model) → IsModel m → (r k : ℕ) (w : ℕ → ℕ) → look_ahead m r w (suc k) ≤ℤ look_ahead m r w k
 one_more m ok zero k w = zle_of (pos 0) (pos 0) refl
-one_more m ok (suc r) zero w = look_le m ok (suc r) 1 w
+one_more m ok (suc r) zero w = look_ahead_le_table m ok (suc r) 1 w
 one_more m ok (suc r) (suc k) w =
-    greatest_le _ _ (numbers_below (joint_actions m)) (λ a. add_le (weighted_reward m r w a) _ _ (int_sum_le (joint_observations m) _ _ (λ o p. one_more m ok r k (weights_after m w a o))))
+    greatest_le _ _ (numbers_below (joint_actions m)) (λ a. add_le_right (weighted_reward m r w a) _ _ (int_sum_le (joint_observations m) _ _ (λ o p. one_more m ok r k (weights_after m w a o))))
 
 so_many_more : (m : Model) → IsModel m → (r k j : ℕ) (w : ℕ → ℕ) → look_ahead m r w (k + j) ≤ℤ look_ahead m r w k
 so_many_more m ok r k zero w = zle_of _ _ (let e : k + 0 ≡ k = omega arith in rw e)
@@ -57,10 +52,10 @@ longer_look_le m ok r k l w h =
 pub longer_look_action_le : (m : Model) → IsModel m → (r k l : ℕ) (w : ℕ → ℕ) (a : ℕ) → k ≤ l → action_look_ahead m r w a l ≤ℤ action_look_ahead m r w a k
 unfolding action_look_ahead
 longer_look_action_le m ok r k l w a h =
-    add_le (weighted_reward m r w a) _ _ (int_sum_le (joint_observations m) _ _ (λ o p. longer_look_le m ok r (k - 1) (l - 1) (weights_after m w a o) (omega arith)))
+    add_le_right (weighted_reward m r w a) _ _ (int_sum_le (joint_observations m) _ _ (λ o p. longer_look_le m ok r (k - 1) (l - 1) (weights_after m w a o) (omega arith)))
 
 -- no joint policy that begins with a joint action earns more than its look-ahead
 pub value_under_action : (m : Model) → IsModel m → (r k : ℕ) (w : ℕ → ℕ) (a : ℕ) (qs : List PolicyTree) → IsPolicyOf m (suc r) qs → joint_root_action m qs ≡ a →
     int_sum m.states (λ s. pos (w s) *ℤ backward_value m (suc r) s qs) ≤ℤ action_look_ahead m r w a k
 value_under_action m ok r k w a qs policy e =
-    subst (λ (b : ℕ). int_sum m.states (λ s. pos (w s) *ℤ backward_value m (suc r) s qs) ≤ℤ action_look_ahead m r w b k) e (value_le_action m ok r k w qs policy)
+    subst (λ (b : ℕ). int_sum m.states (λ s. pos (w s) *ℤ backward_value m (suc r) s qs) ≤ℤ action_look_ahead m r w b k) e (value_le_action_look_ahead m ok r k w qs policy)

@@ -1,6 +1,7 @@
 -- One agent whose classes a < b were merged: its front, and the tree that follows it.
 use Rattle.std.proofs.Common.{◌≡◌, ◌≢◌, ◌⊎◌, inl, inr, ℕ, zero, suc, ◌+◌, ◌*◌, ◌-◌, ◌^◌, ◌<◌, ◌≤◌, true, false, cond, eqb, ltb, List, [], ◌∷◌, map, length, get_or, Option, Some, None, refl, sym, ap, ◌∙◌, subst, arith}
 use Rattle.std.proofs.lemmas.Bool.Decides.{nat_tests}
+use Rattle.dp_laws.proofs.Order.{less_or_not}
 use Rattle.dp_laws.proofs.Graft.{graft, graft_fits, tree_at-graft}
 use Rattle.dp_laws.proofs.Sums.{dec_eq}
 use Rattle.dp_spec.specs.Front.{AgentFront}
@@ -37,6 +38,14 @@ pub get_or-renumbered : (a b : ℕ) (xs : List ℕ) (k : ℕ) → a < b → get_
 get_or-renumbered a b [] k h = grind (arith, nat_tests)
 get_or-renumbered a b (x ∷ xs) zero h = refl
 get_or-renumbered a b (x ∷ xs) (suc k) h = get_or-renumbered a b xs k h
+
+-- a lower class keeps its number
+pub renumbered_low : (a b c : ℕ) → c < b → renumbered a b c ≡ c
+renumbered_low a b c h = grind (arith, nat_tests)
+
+-- a higher one is called one less
+pub renumbered_high : (a b c : ℕ) → b ≤ c → renumbered a b (suc c) ≡ c
+renumbered_high a b c h = grind (arith, nat_tests)
 
 -- the trees of the merged classes, where y is that of a and b
 abbrev pub joined_trees : ℕ → ℕ → PolicyTree → (ℕ → PolicyTree) → ℕ → PolicyTree
@@ -96,9 +105,6 @@ joined_trees_below a b y us c ne h = grind (arith, nat_tests)
 joined_trees_above : (a b : ℕ) (y : PolicyTree) (us : ℕ → PolicyTree) (c : ℕ) → a < b → b ≤ c → joined_trees a b y us c ≡ us (suc c)
 joined_trees_above a b y us c h g = grind (arith, nat_tests)
 
-below_or_not : (c b : ℕ) → (c < b) ⊎ (b ≤ c)
-below_or_not c b = grind arith
-
 -- the merged classes do the chosen actions
 chosen_actions_kept : (a b : ℕ) (y : PolicyTree) (us : ℕ → PolicyTree) (os : List (Option ℕ)) → a < b → b < length os → get_or os a None ≡ None →
     ((c e : ℕ) → c < length os → get_or os c None ≡ Some e → root_action (us c) ≡ e) →
@@ -107,7 +113,7 @@ chosen_actions_kept a b y us os h g na does c e p s =
     let len = length-without b os g in
     elim (dec_eq a c) [
       | inl ac ↦ let lt : c < b = omega arith in let same = get_or-without_below b os c None lt in let na' : get_or os c None ≡ None = subst (λ (z : ℕ). get_or os z None ≡ None) ac na in cc
-      | inr ne ↦ elim (below_or_not c b) [
+      | inr ne ↦ elim (less_or_not c b) [
         | inl lt ↦ ap root_action (joined_trees_below a b y us c ne lt) ∙ does c e (omega arith) (sym (get_or-without_below b os c None lt) ∙ s)
         | inr le ↦ ap root_action (joined_trees_above a b y us c h le) ∙ does (suc c) e (omega arith) (sym (get_or-without_above b os c None le) ∙ s)
       ]

@@ -1,7 +1,6 @@
 -- whoever keeps a merged front keeps the old one
 use Rattle.std.proofs.Common.{◌≡◌, ◌≢◌, ◌⊎◌, inl, inr, ℕ, zero, suc, ◌-◌, ◌<◌, List, [], ◌∷◌, get_or, Option, Some, None, sym, ap, ◌∙◌, subst, arith}
-use Rattle.std.proofs.lemmas.Bool.Decides.{nat_tests}
-use Rattle.dp_laws.proofs.MergedAgents.{get_or-renumbered, get_or-without_above, get_or-without_below}
+use Rattle.dp_laws.proofs.MergedAgents.{get_or-renumbered, get_or-without_above, get_or-without_below, renumbered_high, renumbered_low}
 use Rattle.dp_spec.specs.Front.{AgentFront}
 use Rattle.dp_spec.specs.Keeping.{KeepAgentFronts, KeepsAgentFront}
 use Rattle.dp_spec.specs.Keeping.KeepAgentFronts.{and_agent}
@@ -9,16 +8,9 @@ use Rattle.dp_spec.specs.Merge.{merged_agent, merged_agents, renumbered, without
 use Rattle.dp_spec.specs.PolicyTree.{PolicyTree}
 use Rattle.dp_spec.specs.Steps.{IsUnassigned}
 
+-- another number is below or above
 below_or_above : (c b : ℕ) → c ≢ b → (c < b) ⊎ (b < c)
 below_or_above c b ne = grind arith
-
--- a lower class keeps its number
-renumbered_low : (a b c : ℕ) → c < b → renumbered a b c ≡ c
-renumbered_low a b c h = grind (arith, nat_tests)
-
--- a higher one is called one less
-renumbered_high : (a b c : ℕ) → b < c → renumbered a b c ≡ c - 1
-renumbered_high a b c h = grind (arith, nat_tests)
 
 -- a class other than the one that was joined has the same action under its new number
 get_or-without_renumbered : (a b : ℕ) (os : List (Option ℕ)) (c : ℕ) → c ≢ b → get_or (without b os) (renumbered a b c) None ≡ get_or os c None
@@ -26,7 +18,7 @@ get_or-without_renumbered a b os c ne =
     elim (below_or_above c b ne) [
       | inl lt ↦ ap (λ (k : ℕ). get_or (without b os) k None) (renumbered_low a b c lt) ∙ get_or-without_below b os c None lt
       | inr gt ↦
-          ap (λ (k : ℕ). get_or (without b os) k None) (renumbered_high a b c gt)
+          ap (λ (k : ℕ). get_or (without b os) k None) (ap (renumbered a b) (omega arith) ∙ renumbered_high a b (c - 1) (omega arith))
           ∙ get_or-without_above b os (c - 1) None (omega arith)
           ∙ ap (λ (k : ℕ). get_or os k None) (omega arith)
     ]

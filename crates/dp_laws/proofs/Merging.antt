@@ -1,10 +1,11 @@
 -- Merging two equivalent classes loses nothing.
 use Rattle.std.proofs.Common.{◌≡◌, ℕ, zero, suc, ◌+◌, ◌<◌, Bool, true, false, cond, eqb, ℤ, pos, ◌+ℤ◌, ◌*ℤ◌, ◌≤ℤ◌, List, [], ◌∷◌, get_or, refl, sym, ap, ◌∙◌, subst, arith}
+use Rattle.dp_laws.proofs.JointPlaces.{below_others}
 use Rattle.dp_laws.proofs.Sums.{int_sum_ext, int_sum_two}
-use Rattle.dp_laws.proofs.Forward.{int_history_sum_ext, forward}
-use Rattle.dp_laws.proofs.OwnHistories.{Below, joint_below, parts-joint, owns_within, base}
-use Rattle.dp_laws.proofs.KeepsAllAgents.{trees_of, rests_are, at_stage, class_in}
-use Rattle.dp_laws.proofs.Sound.{int_history_sum_group, eq_of, does_fixed}
+use Rattle.dp_laws.proofs.ForwardValue.{int_history_sum_ext, forward_is_backward}
+use Rattle.dp_laws.proofs.OwnHistories.{Below, joint_below, parts-joint, own_histories_within, followed_from_start}
+use Rattle.dp_laws.proofs.FollowedFronts.{trees_of, trees_after_history_are, trees_at_stage, classes_below}
+use Rattle.dp_laws.proofs.FollowedBound.{int_history_sum_group, equal_of_test, follows_fixed}
 use Rattle.dp_laws.proofs.Order.{add_le_right}
 use Rattle.dp_laws.proofs.ClassValue.{better_for_both}
 use Rattle.dp_laws.proofs.MergedTrees.{fixed_joint_action_merged, joined_trees_by_agent, joined_trees_of, merged_agents_follow, tree_for, trees_by_agent}
@@ -19,14 +20,6 @@ use Rattle.dp_spec.specs.PolicyTree.{IsPolicyOf, PolicyTree}
 use Rattle.dp_spec.specs.Steps.{IsUnassigned}
 use Rattle.dp_spec.specs.Sums.{int_sum}
 use Rattle.dp_spec.specs.Value.{backward_value, policy_value}
-
--- parts below their numbers are so without a place
-below_without : (i : ℕ) (ns xs : List ℕ) → Below ns xs → Below (without i ns) (without i xs)
-below_without i [] [] h = tt
-below_without i [] (x ∷ xs) h = absurd h
-below_without i (n ∷ ns) [] h = absurd h
-below_without zero (n ∷ ns) (x ∷ xs) h = h.1
-below_without (suc i) (n ∷ ns) (x ∷ xs) h = (h.0, below_without i ns xs h.1)
 
 -- a class of an agent is below its count
 class_in_count : (i c : ℕ) (ds : List AgentFront) (cs : List ℕ) → IsUnassigned i c ds → Below (class_counts ds) cs → get_or cs i 0 < get_or (class_counts ds) i 0
@@ -66,7 +59,7 @@ module _ (m : Model) (F : Front) (r i : ℕ) (uss : List (ℕ → PolicyTree)) w
       let O = joint_observations m in
       int_history_sum_group O F.stage k _ (class_of_agent m F i) in_range
       ∙ int_sum_ext k _ _ (λ c p.
-      int_history_sum_ext O F.stage _ _ (λ H h. value_at_class (eqb (class_of_agent m F i H) c) m.states (weight H) (λ x s. value_with (class_of_others m F i H) x s) _ _ (λ e. ap z (eq_of _ _ e))))
+      int_history_sum_ext O F.stage _ _ (λ H h. value_at_class (eqb (class_of_agent m F i H) c) m.states (weight H) (λ x s. value_with (class_of_others m F i H) x s) _ _ (λ e. ap z (equal_of_test _ _ e))))
 
   -- the value of a joint policy whose trees after the front are given by class
   value_of_policy : (qs : List PolicyTree) (F' : Front) (uss' : List (ℕ → PolicyTree)) (z : ℕ → PolicyTree) (k : ℕ) → F'.stage ≡ F.stage → fixed_joint_action m F' ≡ fixed_joint_action m F →
@@ -75,7 +68,7 @@ module _ (m : Model) (F : Front) (r i : ℕ) (uss : List (ℕ → PolicyTree)) w
       ((H : List ℕ) → IsJointHistory (joint_observations m) F.stage H → trees_after_history m qs H ≡ inserted i (z (class_of_agent m F i H)) (trees_of (without i uss) (parts_of (without i (class_counts F.agents)) (class_of_others m F i H)))) →
       policy_value m (F.stage + r) qs ≡ earned_reward m (fixed_joint_action m F) (F.stage + r) F.stage +ℤ int_sum k (λ c. class_value_of c (z c))
   value_of_policy qs F' uss' z k st act ks in_range are =
-      forward m (fixed_joint_action m F) qs (F.stage + r) F.stage r refl (λ t H p h. does_fixed m F' r qs uss' ks t H (subst (λ (f : ℕ). t < f) (sym st) p) h ∙ ap (λ g. g H) act)
+      forward_is_backward m (fixed_joint_action m F) qs (F.stage + r) F.stage r refl (λ t H p h. follows_fixed m F' r qs uss' ks t H (subst (λ (f : ℕ). t < f) (sym st) p) h ∙ ap (λ g. g H) act)
       ∙ ap (λ x. earned_reward m (fixed_joint_action m F) (F.stage + r) F.stage +ℤ x)
       (int_history_sum_ext (joint_observations m) F.stage _ _ (λ H h. ap (λ z. int_sum m.states (λ s. pos (weight H s) *ℤ backward_value m r s z)) (are H h)) ∙ value_by_class k in_range z)
 
@@ -83,13 +76,13 @@ module _ (m : Model) (F : Front) (r i : ℕ) (uss : List (ℕ → PolicyTree)) w
 class_in_range : (m : Model) (F : Front) (r : ℕ) (qs : List PolicyTree) (uss : List (ℕ → PolicyTree)) → FollowsAgentFronts F.stage r m.actions m.observations F.agents qs uss → (i c : ℕ) → IsUnassigned i c F.agents →
     (H : List ℕ) → IsJointHistory (joint_observations m) F.stage H → class_of_agent m F i H < get_or (class_counts F.agents) i 0
 unfolding class_of_agent joint_observations
-class_in_range m F r qs uss ks i c free H h = class_in_count i c F.agents _ free (class_in ks _ (owns_within m.observations F.stage H h))
+class_in_range m F r qs uss ks i c free H h = class_in_count i c F.agents _ free (classes_below ks _ (own_histories_within m.observations F.stage H h))
 
 -- the joint class of the others is below the product of their counts
 others_in_range : (m : Model) (F : Front) (r : ℕ) (qs : List PolicyTree) (uss : List (ℕ → PolicyTree)) → FollowsAgentFronts F.stage r m.actions m.observations F.agents qs uss → (i : ℕ) →
     (H : List ℕ) → IsJointHistory (joint_observations m) F.stage H → class_of_others m F i H < product (without i (class_counts F.agents))
 unfolding class_of_others joint_observations
-others_in_range m F r qs uss ks i H h = joint_below _ _ (below_without i _ _ (class_in ks _ (owns_within m.observations F.stage H h)))
+others_in_range m F r qs uss ks i H h = joint_below _ _ (below_others i _ _ (classes_below ks _ (own_histories_within m.observations F.stage H h)))
 
 -- what remains after a joint history of the stage, by agent i and the others
 trees_after_front : (m : Model) (F : Front) (r : ℕ) (qs : List PolicyTree) (uss : List (ℕ → PolicyTree)) → FollowsAgentFronts F.stage r m.actions m.observations F.agents qs uss → (i c : ℕ) → IsUnassigned i c F.agents →
@@ -97,9 +90,9 @@ trees_after_front : (m : Model) (F : Front) (r : ℕ) (qs : List PolicyTree) (us
     trees_after_history m qs H ≡ inserted i (tree_for i uss (class_of_agent m F i H)) (trees_of (without i uss) (parts_of (without i (class_counts F.agents)) (class_of_others m F i H)))
 unfolding class_of_agent class_of_others joint_observations
 trees_after_front m F r qs uss ks i c free H h =
-    let w = owns_within m.observations F.stage H h in
-    rests_are m qs (base ks) F.stage H h ∙ at_stage ks _ w ∙ trees_by_agent ks i c free _ w
-    ∙ ap (λ z. inserted i (tree_for i uss (get_or (own_classes F.agents (own_histories m.observations H)) i 0)) (trees_of (without i uss) z)) (sym (parts-joint _ _ (below_without i _ _ (class_in ks _ w))))
+    let w = own_histories_within m.observations F.stage H h in
+    trees_after_history_are m qs (followed_from_start ks) F.stage H h ∙ trees_at_stage ks _ w ∙ trees_by_agent ks i c free _ w
+    ∙ ap (λ z. inserted i (tree_for i uss (get_or (own_classes F.agents (own_histories m.observations H)) i 0)) (trees_of (without i uss) z)) (sym (parts-joint _ _ (below_others i _ _ (classes_below ks _ w))))
 
 -- the same for the joint policy that follows the merged front
 trees_after_merged : (m : Model) (F : Front) (r : ℕ) (qs qs' : List PolicyTree) (uss : List (ℕ → PolicyTree)) → FollowsAgentFronts F.stage r m.actions m.observations F.agents qs uss → (i a b : ℕ) → a < b → IsUnassigned i b F.agents → (y : PolicyTree) →
@@ -108,9 +101,9 @@ trees_after_merged : (m : Model) (F : Front) (r : ℕ) (qs qs' : List PolicyTree
     trees_after_history m qs' H ≡ inserted i (replaced_trees a b y (tree_for i uss) (class_of_agent m F i H)) (trees_of (without i uss) (parts_of (without i (class_counts F.agents)) (class_of_others m F i H)))
 unfolding class_of_agent class_of_others joint_observations
 trees_after_merged m F r qs qs' uss ks i a b lt free y ks' H h =
-    let w = owns_within m.observations F.stage H h in
-    rests_are m qs' (base ks') F.stage H h ∙ at_stage ks' _ w ∙ joined_trees_by_agent ks i a b lt free y _ w
-    ∙ ap (λ z. inserted i (replaced_trees a b y (tree_for i uss) (get_or (own_classes F.agents (own_histories m.observations H)) i 0)) (trees_of (without i uss) z)) (sym (parts-joint _ _ (below_without i _ _ (class_in ks _ w))))
+    let w = own_histories_within m.observations F.stage H h in
+    trees_after_history_are m qs' (followed_from_start ks') F.stage H h ∙ trees_at_stage ks' _ w ∙ joined_trees_by_agent ks i a b lt free y _ w
+    ∙ ap (λ z. inserted i (replaced_trees a b y (tree_for i uss) (get_or (own_classes F.agents (own_histories m.observations H)) i 0)) (trees_of (without i uss) z)) (sym (parts-joint _ _ (below_others i _ _ (classes_below ks _ w))))
 
 -- Some trees follow the merged front and are worth at least as much, and where steps are left they are a joint policy if the old ones are.
 pub merging_keeps_value : (m : Model) (F : Front) (r : ℕ) (qs : List PolicyTree) (uss : List (ℕ → PolicyTree)) → FollowsAgentFronts F.stage r m.actions m.observations F.agents qs uss →

@@ -10,6 +10,7 @@ use Rattle.dp_spec.specs.Enclosure.{IsSound, enclosure}
 use Rattle.dp_spec.specs.Mode.{is_exact_mode, unit_of}
 use Rattle.dp_spec.specs.Model.{IsModel, Model, value_scale}
 
+-- the arithmetic of either mode is sound
 pub arithmetic_sound : (m : Model) → IsModel m → (e : Bool) → IsSound m (arithmetic e m.scales) (enclosure e)
 arithmetic_sound m is true = exact_sound m
 arithmetic_sound m is false = outward_sound m is
@@ -19,6 +20,7 @@ pub low_reads : (e : Bool) (F : ℕ) (x : ℤ) (s : Span) → (enclosure e).Earn
 low_reads true F x s h = zle_of _ _ (ap (λ (s : Span). s.low *ℤ pos F) h)
 low_reads false F x s h = h.from
 
+-- by the mode
 unit_is : (e : Bool) (u : ℕ) → (if e then u else 10 ^ 9) ≡ (enclosure e).unit u
 unit_is true u = refl
 unit_is false u = refl

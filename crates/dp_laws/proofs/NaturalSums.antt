@@ -1,6 +1,7 @@
 -- sums of natural numbers, over ranges and over joint histories
-use Rattle.std.proofs.Common.{◌≡◌, inl, inr, ℕ, zero, suc, ◌+◌, ◌*◌, ◌<◌, ◌≤◌, Bool, true, false, cond, eqb, List, [], ◌∷◌, refl, sym, ap, ◌∙◌, arith}
+use Rattle.std.proofs.Common.{◌≡◌, inl, inr, ℕ, zero, suc, ◌+◌, ◌*◌, ◌^◌, ◌<◌, ◌≤◌, Bool, true, false, cond, eqb, List, [], ◌∷◌, refl, sym, ap, ◌∙◌, arith}
 use Rattle.std.proofs.lemmas.Bool.Decides.{nat_tests}
+use Rattle.std.proofs.Math.Nat.{pow-suc, pow-zero}
 use Rattle.dp_laws.proofs.Sums.{dec_eq, nat_sum_ext}
 use Rattle.dp_spec.specs.JointHistory.{IsJointHistory, nat_history_sum}
 use Rattle.dp_spec.specs.Sums.{nat_sum}
@@ -70,3 +71,13 @@ nat_history_sum_swap n (suc t) k f = nat_history_sum_ext n t _ _ (λ H p. nat_su
 pub nat_history_sum_times : (n t : ℕ) (f : List ℕ → ℕ) (c : ℕ) → nat_history_sum n t (λ H. f H * c) ≡ nat_history_sum n t f * c
 nat_history_sum_times n zero f c = refl
 nat_history_sum_times n (suc t) f c = nat_history_sum_ext n t _ _ (λ H p. nat_sum_times n (λ o. f (o ∷ H)) c) ∙ nat_history_sum_times n t _ c
+
+-- n times one number
+pub nat_sum_const : (n c : ℕ) → nat_sum n (λ i. c) ≡ n * c
+nat_sum_const zero c = omega arith
+nat_sum_const (suc n) c = let rest = nat_sum_const n c in omega arith
+
+-- the same over joint histories
+pub nat_history_sum_const : (n t c : ℕ) → nat_history_sum n t (λ H. c) ≡ n ^ t * c
+nat_history_sum_const n zero c = rw (pow-zero n) (omega arith)
+nat_history_sum_const n (suc t) c = nat_history_sum_ext n t _ (λ H. n * c) (λ H p. nat_sum_const n c) ∙ nat_history_sum_const n t (n * c) ∙ rw (pow-suc n t) (omega arith)

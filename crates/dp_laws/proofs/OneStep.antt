@@ -1,6 +1,7 @@
+-- One step forwards, and what table and look-ahead bound by it.
 use Rattle.std.proofs.Common.{◌≡◌, ℕ, zero, suc, ◌*◌, ◌-◌, ◌^◌, ◌<◌, ℤ, pos, ◌+ℤ◌, ◌*ℤ◌, ◌≤ℤ◌, List, refl, sym, ap, ◌∙◌, arith}
 use Rattle.std.proofs.lemmas.Int.{ints}
-use Rattle.dp_laws.proofs.Trees.{joint_below, kids_fit}
+use Rattle.dp_laws.proofs.Trees.{joint_root_action_below, subtrees_fit}
 use Rattle.dp_laws.proofs.Best.{best_below}
 use Rattle.dp_laws.proofs.Order.{add_le_right}
 use Rattle.dp_laws.proofs.Ring.{v, nat, ◌⊕◌, ◌⊗◌, by_ring, zmul_le, zle_trans, zle_of}
@@ -17,10 +18,10 @@ regroup : (w p g k : ℕ) (r n : ℤ) → pos w *ℤ (pos p *ℤ (r *ℤ pos k +
 regroup w p g k r n =
     by_ring (nat w ⊗ (nat p ⊗ (v r ⊗ nat k ⊕ nat g ⊗ v n))) (nat (w * p) ⊗ (v r ⊗ nat k) ⊕ nat (w * (p * g)) ⊗ v n) (omega arith)
 
--- pushed weights against a function of the next state
-pushed : (m : Model) (w : ℕ → ℕ) (a o t : ℕ) (x : ℤ) → pos (weights_after m w a o t) *ℤ x ≡ int_sum m.states (λ s. pos (w s * (trans_at m a s t * obs_at m a t o * m.scales.gain)) *ℤ x)
+-- the weights one step on against a function of the next state
+weights_after_times : (m : Model) (w : ℕ → ℕ) (a o t : ℕ) (x : ℤ) → pos (weights_after m w a o t) *ℤ x ≡ int_sum m.states (λ s. pos (w s * (trans_at m a s t * obs_at m a t o * m.scales.gain)) *ℤ x)
 unfolding weights_after
-pushed m w a o t x = sym (int_sum_weigh m.states _ x)
+weights_after_times m w a o t x = sym (int_sum_weigh m.states _ x)
 
 -- one step forwards from weights, whatever comes after
 pub one_step_to : (m : Model) (r : ℕ) (w : ℕ → ℕ) (a : ℕ) (N : ℕ → ℕ → ℤ) →
@@ -40,22 +41,25 @@ one_step_to m r w a N =
     ∙ add_two S O (B s) (C s))
     ∙ int_sum_add S (λ s. int_sum S (λ t. int_sum O (λ o. B s t o))) (λ s. int_sum S (λ t. int_sum O (λ o. C s t o)))
     ∙ ap (λ x. int_sum S (λ s. int_sum S (λ t. int_sum O (λ o. B s t o))) +ℤ x)
-    (rotate S S O C ∙ ext_two O S _ _ (λ o t p q. sym (pushed m w a o t (N t o))))
+    (rotate S S O C ∙ ext_two O S _ _ (λ o t p q. sym (weights_after_times m w a o t (N t o))))
 
--- one step forwards: weights against the value are the reward and the pushed weights against the value after it
+-- one step forwards: weights against the value are the reward and the weights one step on against the value after it
 pub one_step : (m : Model) (r : ℕ) (w : ℕ → ℕ) (qs : List PolicyTree) →
     int_sum m.states (λ s. pos (w s) *ℤ backward_value m (suc r) s qs)
     ≡ weighted_reward m r w (joint_root_action m qs) +ℤ int_sum (joint_observations m) (λ o. int_sum m.states (λ t. pos (weights_after m w (joint_root_action m qs) o t) *ℤ backward_value m r t (trees_after m qs o)))
 one_step m r w qs = one_step_to m r w (joint_root_action m qs) (λ t o. backward_value m r t (trees_after m qs o))
 
-pub root_below : (m : Model) (r : ℕ) (qs : List PolicyTree) → IsPolicyOf m (suc r) qs → joint_root_action m qs < joint_actions m
+-- the joint action at the roots exists
+pub root_joint_action_below : (m : Model) (r : ℕ) (qs : List PolicyTree) → IsPolicyOf m (suc r) qs → joint_root_action m qs < joint_actions m
 unfolding joint_root_action joint_actions
-root_below m r qs h = joint_below h
+root_joint_action_below m r qs h = joint_root_action_below h
 
-pub after_fits : (m : Model) (r : ℕ) (qs : List PolicyTree) (o : ℕ) → o < joint_observations m → IsPolicyOf m (suc r) qs → IsPolicyOf m r (trees_after m qs o)
+-- what remains after a joint observation is a joint policy of one step less
+pub trees_after_fit : (m : Model) (r : ℕ) (qs : List PolicyTree) (o : ℕ) → o < joint_observations m → IsPolicyOf m (suc r) qs → IsPolicyOf m r (trees_after m qs o)
 unfolding trees_after joint_observations
-after_fits m r qs o p h = kids_fit o p h
+trees_after_fit m r qs o p h = subtrees_fit o p h
 
+-- the summand of a step under a greater number
 step_le : (p g : ℕ) (x n b : ℤ) → n ≤ℤ b → (pos p *ℤ (x +ℤ pos g *ℤ n)) ≤ℤ (pos p *ℤ x +ℤ pos (p * g) *ℤ b)
 step_le p g x n b h =
     let le = zmul_le (p * g) n b h in
@@ -85,27 +89,28 @@ step_le_table m ok r s a N p a_in small =
 pub value_le_table : (m : Model) → IsModel m → (r s : ℕ) (qs : List PolicyTree) → s < m.states → IsPolicyOf m r qs → backward_value m r s qs ≤ℤ mdp_table m r s
 value_le_table m ok zero s qs p h = zle_of _ _ refl
 value_le_table m ok (suc r) s qs p h =
-    step_le_table m ok r s (joint_root_action m qs) (λ t o. backward_value m r t (trees_after m qs o)) p (root_below m r qs h)
-    (λ t o q u. value_le_table m ok r t (trees_after m qs o) q (after_fits m r qs o u h))
+    step_le_table m ok r s (joint_root_action m qs) (λ t o. backward_value m r t (trees_after m qs o)) p (root_joint_action_below m r qs h)
+    (λ t o q u. value_le_table m ok r t (trees_after m qs o) q (trees_after_fit m r qs o u h))
 
-tail_zero : (n : ℕ) (w : ℕ → ℕ) → int_sum n (λ s. pos (w s) *ℤ pos 0) ≡ pos 0
-tail_zero n w = int_sum_weigh n w (pos 0) ∙ omega (arith, ints)
+-- weights against 0
+pub weighted_zeros : (n : ℕ) (w : ℕ → ℕ) → int_sum n (λ s. pos (w s) *ℤ pos 0) ≡ pos 0
+weighted_zeros n w = int_sum_weigh n w (pos 0) ∙ omega (arith, ints)
 
 -- no joint policy of r steps earns more from weights than the look-ahead says
-pub value_le_tail : (m : Model) → IsModel m → (r k : ℕ) (w : ℕ → ℕ) (qs : List PolicyTree) → IsPolicyOf m r qs → int_sum m.states (λ s. pos (w s) *ℤ backward_value m r s qs) ≤ℤ look_ahead m r w k
-value_le_tail m ok zero k w qs h = zle_of _ _ (tail_zero m.states w)
-value_le_tail m ok (suc r) zero w qs h = int_sum_le m.states _ _ (λ s p. zmul_le (w s) _ _ (value_le_table m ok (suc r) s qs p h))
-value_le_tail m ok (suc r) (suc k) w qs h =
+pub value_le_look_ahead : (m : Model) → IsModel m → (r k : ℕ) (w : ℕ → ℕ) (qs : List PolicyTree) → IsPolicyOf m r qs → int_sum m.states (λ s. pos (w s) *ℤ backward_value m r s qs) ≤ℤ look_ahead m r w k
+value_le_look_ahead m ok zero k w qs h = zle_of _ _ (weighted_zeros m.states w)
+value_le_look_ahead m ok (suc r) zero w qs h = int_sum_le m.states _ _ (λ s p. zmul_le (w s) _ _ (value_le_table m ok (suc r) s qs p h))
+value_le_look_ahead m ok (suc r) (suc k) w qs h =
     let a = joint_root_action m qs in
     zle_trans _ _ _ (zle_of _ _ (one_step m r w qs))
     (zle_trans _ _ _
-    (add_le_right (weighted_reward m r w a) _ _ (int_sum_le (joint_observations m) _ _ (λ o p. value_le_tail m ok r k (weights_after m w a o) (trees_after m qs o) (after_fits m r qs o p h))))
-    (best_below _ (joint_actions m) a (root_below m r qs h)))
+    (add_le_right (weighted_reward m r w a) _ _ (int_sum_le (joint_observations m) _ _ (λ o p. value_le_look_ahead m ok r k (weights_after m w a o) (trees_after m qs o) (trees_after_fit m r qs o p h))))
+    (best_below _ (joint_actions m) a (root_joint_action_below m r qs h)))
 
 -- the same for trees whose roots do a
-pub value_le_action : (m : Model) → IsModel m → (r k : ℕ) (w : ℕ → ℕ) (qs : List PolicyTree) → IsPolicyOf m (suc r) qs → int_sum m.states (λ s. pos (w s) *ℤ backward_value m (suc r) s qs) ≤ℤ action_look_ahead m r w (joint_root_action m qs) k
+pub value_le_action_look_ahead : (m : Model) → IsModel m → (r k : ℕ) (w : ℕ → ℕ) (qs : List PolicyTree) → IsPolicyOf m (suc r) qs → int_sum m.states (λ s. pos (w s) *ℤ backward_value m (suc r) s qs) ≤ℤ action_look_ahead m r w (joint_root_action m qs) k
 unfolding action_look_ahead
-value_le_action m ok r k w qs h =
+value_le_action_look_ahead m ok r k w qs h =
     let a = joint_root_action m qs in
     zle_trans _ _ _ (zle_of _ _ (one_step m r w qs))
-    (add_le_right (weighted_reward m r w a) _ _ (int_sum_le (joint_observations m) _ _ (λ o p. value_le_tail m ok r (k - 1) (weights_after m w a o) (trees_after m qs o) (after_fits m r qs o p h))))
+    (add_le_right (weighted_reward m r w a) _ _ (int_sum_le (joint_observations m) _ _ (λ o p. value_le_look_ahead m ok r (k - 1) (weights_after m w a o) (trees_after m qs o) (trees_after_fit m r qs o p h))))

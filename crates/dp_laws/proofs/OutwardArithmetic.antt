@@ -45,6 +45,7 @@ times_above T u p d x l some h =
 same_below : (T T' u : ℕ) (x x' l : ℤ) → T ≡ T' → x ≡ x' → IsBelow T u x l → IsBelow T' u x' l
 same_below T T' u x x' l e f h = subst (λ (t : ℕ). IsBelow t u x' l) e (subst (λ (y : ℤ). IsBelow T u y l) f h)
 
+-- the same from above
 same_above : (T T' u : ℕ) (x x' l : ℤ) → T ≡ T' → x ≡ x' → IsAbove T u x l → IsAbove T' u x' l
 same_above T T' u x x' l e f h = subst (λ (t : ℕ). IsAbove t u x' l) e (subst (λ (y : ℤ). IsAbove T u y l) f h)
 
@@ -57,6 +58,7 @@ signed_below : (T u : ℕ) (x l h r : ℤ) → IsBelow T u x l → IsAbove T u x
 signed_below T u x l h (pos n) p q = zle_trans _ _ _ (zle_of _ _ (zmul_comm (l *ℤ pos T) (pos n))) (zle_trans _ _ _ (zmul_le n _ _ p) (zle_of _ _ (zmul_comm (pos n) (x *ℤ pos u))))
 signed_below T u x l h (negsuc n) p q = mul_negative_le n (x *ℤ pos u) (h *ℤ pos T) q
 
+-- the same from above
 signed_above : (T u : ℕ) (x l h r : ℤ) → IsBelow T u x l → IsAbove T u x h → ((x *ℤ pos u) *ℤ r) ≤ℤ ((by_sign r h l *ℤ pos T) *ℤ r)
 signed_above T u x l h (pos n) p q = zle_trans _ _ _ (zle_of _ _ (zmul_comm (x *ℤ pos u) (pos n))) (zle_trans _ _ _ (zmul_le n _ _ q) (zle_of _ _ (zmul_comm (pos n) (h *ℤ pos T))))
 signed_above T u x l h (negsuc n) p q = mul_negative_le n (l *ℤ pos T) (x *ℤ pos u) p
@@ -112,13 +114,16 @@ carry_above F e p do' dt dg g x z some some' o =
 start_below : (d u b : ℕ) → 0 < d → IsBelow d u (pos b) (mul_down (pos b) (pos u) d)
 start_below d u b some = mul_down_le (pos b) (pos u) d some
 
+-- and from above
 start_above : (d u b : ℕ) → 0 < d → IsAbove d u (pos b) (mul_up (pos b) (pos u) d)
 start_above d u b some = le_mul_up (pos b) (pos u) d some
 
 -- ---- sums
+-- sums, from below
 sum_below : (T u : ℕ) (x y l k : ℤ) → IsBelow T u x l → IsBelow T u y k → IsBelow T u (x +ℤ y) (l +ℤ k)
 sum_below T u x y l k p q = zle_trans _ _ _ (zle_of _ _ (zadd_mul l k (pos T))) (zle_trans _ _ _ (zadd_le _ _ _ _ p q) (zle_of _ _ (sym (zadd_mul x y (pos u)))))
 
+-- and from above
 sum_above : (T u : ℕ) (x y l k : ℤ) → IsAbove T u x l → IsAbove T u y k → IsAbove T u (x +ℤ y) (l +ℤ k)
 sum_above T u x y l k p q = zle_trans _ _ _ (zle_of _ _ (zadd_mul x y (pos u))) (zle_trans _ _ _ (zadd_le _ _ _ _ p q) (zle_of _ _ (sym (zadd_mul l k (pos T)))))
 
@@ -126,6 +131,7 @@ sum_above T u x y l k p q = zle_trans _ _ _ (zle_of _ _ (zadd_mul x y (pos u))) 
 none_above : (T u : ℕ) → IsAbove T u (pos 0) (pos 0)
 none_above T u = zle_of _ _ (by_ring (nat 0 ⊗ nat u) (nat 0 ⊗ nat T) (omega arith))
 
+-- and from below
 none_below : (T u : ℕ) → IsBelow T u (pos 0) (pos 0)
 none_below T u = zle_of _ _ (by_ring (nat 0 ⊗ nat T) (nat 0 ⊗ nat u) (omega arith))
 
@@ -147,12 +153,15 @@ smaller_above F u x y a b h p q =
       | inr e ↦ subst (λ (z : ℤ). IsAbove F u x z) (sym e) (zle_trans _ _ _ (mul_le_right u _ _ h) q)
     ]
 
+-- a product that is not 0
 thousands_positive : (d : ℕ) → 0 < d → 0 < 1000 * d
 thousands_positive d h = omega arith
 
+-- the weight after two chances
 product_of_chances : (w p z : ℕ) → pos w *ℤ pos p *ℤ pos z ≡ pos (w * (p * z))
 product_of_chances w p z = by_ring (nat w ⊗ nat p ⊗ nat z) (nat (w * (p * z))) (omega arith)
 
+-- its scale
 product_of_scales : (T a b : ℕ) → T * a * b ≡ T * (a * b)
 product_of_scales T a b = omega arith
 

@@ -1,7 +1,8 @@
+-- Own histories, joint numbers, and what remains of trees after them.
 use Rattle.std.proofs.Common.{◌≡◌, ℕ, zero, suc, ◌+◌, ◌*◌, ◌/◌, ◌%◌, ◌^◌, ◌<◌, List, [], ◌∷◌, map, refl, ap, arith}
 use Rattle.std.proofs.lemmas.Nat.{mod-mul-add, div-mul-add, mod_below}
 use Rattle.std.proofs.Math.Nat.{pow-suc, pow-zero}
-use Rattle.dp_laws.proofs.Trees.{row_below, part_below, pos_of}
+use Rattle.dp_laws.proofs.Trees.{row_below, part_below, positive_factor}
 use Rattle.dp_spec.specs.Front.{AgentFront, next_own_histories, own_histories}
 use Rattle.dp_spec.specs.JointHistory.{IsJointHistory}
 use Rattle.dp_spec.specs.JointNumbers.{joint_number, parts_of, product}
@@ -27,16 +28,19 @@ Below [] (x ∷ xs) = ⊥
 Below (n ∷ ns) [] = ⊥
 Below (n ∷ ns) (x ∷ xs) = (x < n) × Below ns xs
 
+-- the parts of a joint number are below their numbers
 pub parts_below : (ns : List ℕ) (o : ℕ) → o < product ns → Below ns (parts_of ns o)
 parts_below [] o h = tt
-parts_below (n ∷ ns) o h = (part_below n (product ns) o h, parts_below ns _ (mod_below o (product ns) (pos_of n (product ns) o h)))
+parts_below (n ∷ ns) o h = (part_below n (product ns) o h, parts_below ns _ (mod_below o (product ns) (positive_factor n (product ns) o h)))
 
+-- a joint number is below the product
 pub joint_below : (ns ps : List ℕ) → Below ns ps → joint_number ns ps < product ns
 joint_below [] [] h = omega arith
 joint_below [] (p ∷ ps) h = absurd h
 joint_below (n ∷ ns) [] h = absurd h
 joint_below (n ∷ ns) (p ∷ ps) h = row_below p n _ _ h.0 (joint_below ns ps h.1)
 
+-- the parts of the joint number of parts
 pub parts-joint : (ns ps : List ℕ) → Below ns ps → parts_of ns (joint_number ns ps) ≡ ps
 parts-joint [] [] h = refl
 parts-joint [] (p ∷ ps) h = absurd h
@@ -51,6 +55,7 @@ parts-joint (n ∷ ns) (p ∷ ps) h =
 pub next_history_below : (x n t p : ℕ) → x < n ^ t → p < n → x * n + p < n ^ suc t
 next_history_below x n t p h g = rw pow-suc (row_below x (n ^ t) n p h g)
 
+-- own histories one step longer
 next_within : (ns : List ℕ) (t : ℕ) (xs ps : List ℕ) → Within ns t xs → Below ns ps → Within ns (suc t) (next_own_histories ns xs ps)
 next_within [] t [] ps h g = tt
 next_within [] t (x ∷ xs) ps h g = absurd h
@@ -58,15 +63,17 @@ next_within (n ∷ ns) t [] ps h g = absurd h
 next_within (n ∷ ns) t (x ∷ xs) [] h g = absurd g
 next_within (n ∷ ns) t (x ∷ xs) (p ∷ ps) h g = (next_history_below x n t p h.0 g.0, next_within ns t xs ps h.1 g.1)
 
+-- the empty own histories
 none_within : (ns : List ℕ) → Within ns zero (map (λ n. 0) ns)
 none_within [] = tt
 none_within (n ∷ ns) = (rw pow-zero (omega arith), none_within ns)
 
-pub owns_within : (ns : List ℕ) (t : ℕ) (H : List ℕ) → IsJointHistory (product ns) t H → Within ns t (own_histories ns H)
-owns_within ns zero [] h = none_within ns
-owns_within ns zero (o ∷ H) h = absurd h
-owns_within ns (suc t) [] h = absurd h
-owns_within ns (suc t) (o ∷ H) h = next_within ns t _ _ (owns_within ns t H h.1) (parts_below ns o h.0)
+-- the own histories of a joint history
+pub own_histories_within : (ns : List ℕ) (t : ℕ) (H : List ℕ) → IsJointHistory (product ns) t H → Within ns t (own_histories ns H)
+own_histories_within ns zero [] h = none_within ns
+own_histories_within ns zero (o ∷ H) h = absurd h
+own_histories_within ns (suc t) [] h = absurd h
+own_histories_within ns (suc t) (o ∷ H) h = next_within ns t _ _ (own_histories_within ns t H h.1) (parts_below ns o h.0)
 
 -- the trees of all agents after own histories
 abbrev pub trees_at : List ℕ → List PolicyTree → ℕ → List ℕ → List PolicyTree
@@ -75,20 +82,22 @@ trees_at (n ∷ ns) [] t xs = []
 trees_at (n ∷ ns) (q ∷ qs) t [] = []
 trees_at (n ∷ ns) (q ∷ qs) t (x ∷ xs) = tree_at n q t x ∷ trees_at ns qs t xs
 
-pub kids_next : (ns : List ℕ) (qs : List PolicyTree) (t : ℕ) (xs ps : List ℕ) → Below ns ps → subtrees_at (trees_at ns qs t xs) ps ≡ trees_at ns qs (suc t) (next_own_histories ns xs ps)
-kids_next [] qs t xs ps h = refl
-kids_next (n ∷ ns) [] t xs ps h = refl
-kids_next (n ∷ ns) (q ∷ qs) t [] ps h = refl
-kids_next (n ∷ ns) (q ∷ qs) t (x ∷ xs) [] h = absurd h
-kids_next (n ∷ ns) (q ∷ qs) t (x ∷ xs) (p ∷ ps) h =
+-- what remains one step on
+pub subtrees_at_next : (ns : List ℕ) (qs : List PolicyTree) (t : ℕ) (xs ps : List ℕ) → Below ns ps → subtrees_at (trees_at ns qs t xs) ps ≡ trees_at ns qs (suc t) (next_own_histories ns xs ps)
+subtrees_at_next [] qs t xs ps h = refl
+subtrees_at_next (n ∷ ns) [] t xs ps h = refl
+subtrees_at_next (n ∷ ns) (q ∷ qs) t [] ps h = refl
+subtrees_at_next (n ∷ ns) (q ∷ qs) t (x ∷ xs) [] h = absurd h
+subtrees_at_next (n ∷ ns) (q ∷ qs) t (x ∷ xs) (p ∷ ps) h =
     let first : (x * n + p) / n ≡ x = div-mul-add x n p h.0 in
     let rest : (x * n + p) % n ≡ p = mod-mul-add x n p h.0 in
-    rw (first, rest, kids_next ns qs t xs ps h.1)
+    rw (first, rest, subtrees_at_next ns qs t xs ps h.1)
 
 -- after no observations the trees are those of the start
 pub trees_at-start : {f : ℕ} {ns : List ℕ} {ds : List AgentFront} {qs : List PolicyTree} → KeepAgentFronts f ns ds qs → trees_at ns qs zero (map (λ n. 0) ns) ≡ qs
 trees_at-start none_keep = refl
 trees_at-start (and_keeps {q = q} k ks) = ap (λ x. q ∷ x) (trees_at-start ks)
 
-pub base : {f r : ℕ} {bs ns : List ℕ} {ds : List AgentFront} {qs : List PolicyTree} {uss : List (ℕ → PolicyTree)} → FollowsAgentFronts f r bs ns ds qs uss → trees_at ns qs zero (map (λ n. 0) ns) ≡ qs
-base follows = trees_at-start (keep_agents follows)
+-- the same where the trees follow a front
+pub followed_from_start : {f r : ℕ} {bs ns : List ℕ} {ds : List AgentFront} {qs : List PolicyTree} {uss : List (ℕ → PolicyTree)} → FollowsAgentFronts f r bs ns ds qs uss → trees_at ns qs zero (map (λ n. 0) ns) ≡ qs
+followed_from_start follows = trees_at-start (keep_agents follows)

@@ -4,7 +4,7 @@ use Rattle.dp_laws.proofs.EnclosedQuantities.{action_look_ahead_enclosed, bound_
 use Rattle.dp_laws.proofs.ExactArithmetic.{exact_sound}
 use Rattle.dp_laws.proofs.Modes.{arithmetic_sound}
 use Rattle.dp_laws.proofs.OutwardArithmetic.{outward_sound}
-use Rattle.dp_laws.proofs.RecursiveWorth.{value_is_earned}
+use Rattle.dp_laws.proofs.EarnedValue.{value_is_earned}
 use Rattle.dp_laws.specs.ArithmeticLaws.{EnclosesQuantities}
 use Rattle.dp_spec.specs.Arithmetic.{Arithmetic, arithmetic, exact, outward}
 use Rattle.dp_spec.specs.Enclosure.{Enclosure, IsSound, containment, enclosure, equality}
@@ -36,11 +36,14 @@ quantities_enclosed m A R is ok = record {
   bounds = bound_enclosed m A R ok is;
 }
 
+-- in the exact arithmetic
 pub exact_quantities : (m : Model) → IsModel m → EnclosesQuantities m (exact m.scales) equality
 exact_quantities m is = quantities_enclosed m (exact m.scales) equality is (exact_sound m)
 
+-- in the outward arithmetic
 pub outward_quantities : (m : Model) → IsModel m → EnclosesQuantities m (outward m.scales) containment
 outward_quantities m is = quantities_enclosed m (outward m.scales) containment is (outward_sound m is)
 
+-- in that of either mode
 pub mode_quantities : (m : Model) → IsModel m → (e : Bool) → EnclosesQuantities m (arithmetic e m.scales) (enclosure e)
 mode_quantities m is e = quantities_enclosed m (arithmetic e m.scales) (enclosure e) is (arithmetic_sound m is e)

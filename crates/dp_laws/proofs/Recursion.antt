@@ -1,6 +1,6 @@
--- The recursion that pushes weights forwards recursive_worth_at_stage the trees gives the forward worth, in any arithmetic.
-use Rattle.std.proofs.Common.{◌≡◌, ℕ, zero, suc, ◌+◌, ℤ, pos, ◌+ℤ◌, List, [], ◌∷◌, refl, sym, ap, ◌∙◌, arith}
-use Rattle.std.proofs.lemmas.Int.{ints}
+-- The recursion that pushes weights forwards along the trees gives the forward worth, in any arithmetic.
+use Rattle.std.proofs.Common.{◌≡◌, ℕ, zero, suc, ◌+◌, ◌<◌, ℤ, pos, List, [], ◌∷◌, refl, sym, ap, ◌∙◌, arith}
+use Rattle.std.proofs.Math.IntN.{+ℤ_assoc, +ℤ_idl, +ℤ_idr}
 use Rattle.dp_spec.specs.declared.span.Span.{Span}
 use Rattle.dp_laws.proofs.Ring.{zadd_swap}
 use Rattle.dp_spec.specs.Arithmetic.{Arithmetic, point, span_add}
@@ -20,23 +20,17 @@ span_equal a b e f =
 span_add_swap : (a b c d : Span) → span_add (span_add a b) (span_add c d) ≡ span_add (span_add a c) (span_add b d)
 span_add_swap a b c d = span_equal _ _ (zadd_swap a.low b.low c.low d.low) (zadd_swap a.high b.high c.high d.high)
 
-int_assoc : (a b c : ℤ) → (a +ℤ b) +ℤ c ≡ a +ℤ (b +ℤ c)
-int_assoc a b c = omega (arith, ints)
-
-int_add_none : (a : ℤ) → a +ℤ pos 0 ≡ a
-int_add_none a = omega (arith, ints)
-
-int_none_add : (a : ℤ) → pos 0 +ℤ a ≡ a
-int_none_add a = omega (arith, ints)
-
+-- brackets of spans
 span_add_assoc : (a b c : Span) → span_add (span_add a b) c ≡ span_add a (span_add b c)
-span_add_assoc a b c = span_equal _ _ (int_assoc a.low b.low c.low) (int_assoc a.high b.high c.high)
+span_add_assoc a b c = span_equal _ _ (+ℤ_assoc a.low b.low c.low) (+ℤ_assoc a.high b.high c.high)
 
+-- nothing added to a span
 span_add_none : (a : Span) → span_add a (point (pos 0)) ≡ a
-span_add_none a = span_equal _ _ (int_add_none a.low) (int_add_none a.high)
+span_add_none a = span_equal _ _ (+ℤ_idr a.low) (+ℤ_idr a.high)
 
+-- a span added to nothing
 span_none_add : (a : Span) → span_add (point (pos 0)) a ≡ a
-span_none_add a = span_equal _ _ (int_none_add a.low) (int_none_add a.high)
+span_none_add a = span_equal _ _ (+ℤ_idl a.low) (+ℤ_idl a.high)
 
 -- a sum of sums
 span_sum_add : (n : ℕ) (f g : ℕ → Span) → span_sum n (λ i. span_add (f i) (g i)) ≡ span_add (span_sum n f) (span_sum n g)
@@ -44,14 +38,14 @@ span_sum_add zero f g = sym (span_add_none (point (pos 0)))
 span_sum_add (suc n) f g = ap (λ (x : Span). span_add x (span_add (f n) (g n))) (span_sum_add n f g) ∙ span_add_swap (span_sum n f) (span_sum n g) (f n) (g n)
 
 -- equal spans have equal sums
-span_sum_ext : (n : ℕ) (f g : ℕ → Span) → ((i : ℕ) → f i ≡ g i) → span_sum n f ≡ span_sum n g
+pub span_sum_ext : (n : ℕ) (f g : ℕ → Span) → ((i : ℕ) → i < n → f i ≡ g i) → span_sum n f ≡ span_sum n g
 span_sum_ext zero f g h = refl
-span_sum_ext (suc n) f g h = let here = h n in let rest : span_sum n f ≡ span_sum n g = span_sum_ext n f g h in cc
+span_sum_ext (suc n) f g h = let here = h n (omega arith) in let rest : span_sum n f ≡ span_sum n g = span_sum_ext n f g (λ i p. h i (omega arith)) in cc
 
 -- the same over joint histories
 span_history_sum_ext : (n t : ℕ) (f g : List ℕ → Span) → ((H : List ℕ) → f H ≡ g H) → span_history_sum n t f ≡ span_history_sum n t g
 span_history_sum_ext n zero f g h = h []
-span_history_sum_ext n (suc t) f g h = span_history_sum_ext n t _ _ (λ H. span_sum_ext n _ _ (λ o. h (o ∷ H)))
+span_history_sum_ext n (suc t) f g h = span_history_sum_ext n t _ _ (λ H. span_sum_ext n _ _ (λ o p. h (o ∷ H)))
 
 -- a sum of sums over joint histories
 span_history_sum_add : (n t : ℕ) (f g : List ℕ → Span) → span_history_sum n t (λ H. span_add (f H) (g H)) ≡ span_add (span_history_sum n t f) (span_history_sum n t g)

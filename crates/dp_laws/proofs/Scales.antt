@@ -9,6 +9,7 @@ pub step_scale_is : (m : Model) → m.scales.trans * m.scales.obs * m.scales.dis
 unfolding step_scale
 step_scale_is m = refl
 
+-- three factors as one
 times_step : (T K a b c : ℕ) → a * b * c ≡ K → T * (a * b) * c ≡ T * K
 times_step T K a b c e = omega (arith, ap (λ (n : ℕ). T * n) e)
 
@@ -16,6 +17,7 @@ times_step T K a b c e = omega (arith, ap (λ (n : ℕ). T * n) e)
 pub scale_after_step : (m : Model) (T : ℕ) → T * (m.scales.trans * m.scales.obs) * m.scales.discount ≡ T * step_scale m
 scale_after_step m T = times_step T (step_scale m) m.scales.trans m.scales.obs m.scales.discount (step_scale_is m)
 
+-- three factors as one, apart
 times_gain : (T K a b c p d : ℕ) → a * b * c ≡ K → T * (a * b) * (c * p) * d ≡ T * (d * (p * K))
 times_gain T K a b c p d e = omega (arith, ap (λ (n : ℕ). T * (d * (p * n))) e)
 
@@ -29,6 +31,7 @@ scale_after_reward m T r =
 pub scale_after_carry : (m : Model) (r : ℕ) → m.scales.reward * step_scale m ^ r * step_scale m ≡ m.scales.reward * step_scale m ^ suc r
 scale_after_carry m r = omega (arith, ap (λ (n : ℕ). m.scales.reward * n) (pow-suc (step_scale m) r))
 
+-- a factor as two
 times_tail : (T d K p q : ℕ) → q ≡ p * K → T * K * (d * p) ≡ T * (d * q)
 times_tail T d K p q e = omega (arith, ap (λ (n : ℕ). T * (d * n)) e)
 
@@ -49,7 +52,8 @@ scale_of_next m t = omega (arith, ap (λ (n : ℕ). m.scales.start * n) (pow-suc
 pub scale_of_first : (m : Model) → m.scales.start ≡ m.scales.start * step_scale m ^ 0
 scale_of_first m = rw pow-zero (omega arith)
 
-product_positive : (a b : ℕ) → 0 < a → 0 < b → 0 < a * b
+-- a product of numbers that are not 0
+pub product_positive : (a b : ℕ) → 0 < a → 0 < b → 0 < a * b
 product_positive zero b p q = absurd (omega arith)
 product_positive (suc a) zero p q = absurd (omega arith)
 product_positive (suc a) (suc b) p q = omega arith

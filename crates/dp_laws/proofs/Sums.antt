@@ -1,3 +1,4 @@
+-- Sums over the numbers below n.
 use Rattle.std.proofs.Common.{◌≡◌, ◌≢◌, ◌⊎◌, inl, inr, ℕ, zero, suc, ◌+◌, ◌*◌, ◌<◌, ◌≤◌, ℤ, pos, ◌+ℤ◌, ◌*ℤ◌, ◌≤ℤ◌, cond, eqb, refl, sym, ap, ◌∙◌, arith, add-zero, add-suc}
 use Rattle.std.proofs.Math.IntN.{+ℤ_idl, +ℤ_idr, +ℤ_assoc}
 use Rattle.std.proofs.lemmas.Bool.Decides.{nat_tests}
@@ -5,38 +6,41 @@ use Rattle.std.proofs.lemmas.Int.{ints}
 use Rattle.dp_laws.proofs.Ring.{v, nat, ◌⊕◌, ◌⊗◌, by_ring, zadd_le, zmul_add, zle_of}
 use Rattle.dp_spec.specs.Sums.{int_sum, nat_sum}
 
+-- equal or not
 pub dec_eq : (k n : ℕ) → (k ≡ n) ⊎ (k ≢ n)
 dec_eq k n = grind arith
 
+-- equal numbers
 pub int_sum_ext : (n : ℕ) (f g : ℕ → ℤ) → ((i : ℕ) → i < n → f i ≡ g i) → int_sum n f ≡ int_sum n g
 int_sum_ext zero f g h = refl
 int_sum_ext (suc n) f g h =
     let here : f n ≡ g n = h n (omega arith) in
     let rest : int_sum n f ≡ int_sum n g = int_sum_ext n f g (λ i p. h i (omega arith)) in cc
 
+-- greater numbers
 pub int_sum_le : (n : ℕ) (f g : ℕ → ℤ) → ((i : ℕ) → i < n → f i ≤ℤ g i) → int_sum n f ≤ℤ int_sum n g
 int_sum_le zero f g h = zle_of (pos 0) (pos 0) refl
 int_sum_le (suc n) f g h = zadd_le _ _ _ _ (int_sum_le n f g (λ i p. h i (omega arith))) (h n (omega arith))
 
+-- zeros
 pub int_sum_zero : (n : ℕ) → int_sum n (λ i. pos 0) ≡ pos 0
 int_sum_zero zero = refl
 int_sum_zero (suc n) = omega (arith, ints, int_sum_zero n)
 
+-- sums of two
 pub int_sum_add : (n : ℕ) (f g : ℕ → ℤ) → int_sum n (λ i. f i +ℤ g i) ≡ int_sum n f +ℤ int_sum n g
 int_sum_add zero f g = refl
 int_sum_add (suc n) f g = omega (arith, ints, int_sum_add n f g)
 
+-- a common factor
 pub int_sum_mul : (c : ℤ) (n : ℕ) (f : ℕ → ℤ) → int_sum n (λ i. c *ℤ f i) ≡ c *ℤ int_sum n f
 int_sum_mul c zero f = omega (arith, ints)
 int_sum_mul c (suc n) f = rw (int_sum_mul c n f) (sym (zmul_add c (int_sum n f) (f n)))
 
+-- a sum of sums in the other order
 pub int_sum_swap : (n m : ℕ) (f : ℕ → ℕ → ℤ) → int_sum n (λ i. int_sum m (λ j. f i j)) ≡ int_sum m (λ j. int_sum n (λ i. f i j))
 int_sum_swap zero m f = sym (int_sum_zero m)
 int_sum_swap (suc n) m f = rw (int_sum_swap n m f) (sym (int_sum_add m (λ j. int_sum n (λ i. f i j)) (f n)))
-
-pub int_sum_nsum : (n : ℕ) (f : ℕ → ℕ) → int_sum n (λ i. pos (f i)) ≡ pos (nat_sum n f)
-int_sum_nsum zero f = refl
-int_sum_nsum (suc n) f = rw (int_sum_nsum n f)
 
 -- n + k numbers
 pub int_sum_plus : (n k : ℕ) (f : ℕ → ℤ) → int_sum (n + k) f ≡ int_sum n f +ℤ int_sum k (λ j. f (n + j))
@@ -49,12 +53,15 @@ int_sum_prod zero m f = let e : zero * m ≡ 0 = omega arith in rw e
 int_sum_prod (suc n) m f =
     let e : suc n * m ≡ n * m + m = omega arith in rw (e, int_sum_plus (n * m) m f, int_sum_prod n m f)
 
+-- at the place itself
 pub ite_same : (k : ℕ) (x y : ℤ) → cond (eqb k k) x y ≡ x
 ite_same k x y = grind (arith, nat_tests)
 
+-- at another place
 pub ite_other : (k i : ℕ) (x y : ℤ) → k ≢ i → cond (eqb k i) x y ≡ y
 ite_other k i x y h = grind (arith, nat_tests)
 
+-- no place counts
 pub int_sum_none : (n k : ℕ) (x : ℤ) → n ≤ k → int_sum n (λ i. cond (eqb k i) x (pos 0)) ≡ pos 0
 int_sum_none zero k x h = refl
 int_sum_none (suc n) k x h =
@@ -75,12 +82,15 @@ int_sum_one (suc n) k x h =
 pub mul_two : (c : ℤ) (n k : ℕ) (f : ℕ → ℕ → ℤ) → c *ℤ int_sum n (λ i. int_sum k (λ j. f i j)) ≡ int_sum n (λ i. int_sum k (λ j. c *ℤ f i j))
 mul_two c n k f = sym (int_sum_mul c n (λ i. int_sum k (λ j. f i j))) ∙ int_sum_ext n _ _ (λ i h. sym (int_sum_mul c k (f i)))
 
+-- sums of two, inside
 pub add_two : (n k : ℕ) (f g : ℕ → ℕ → ℤ) → int_sum n (λ i. int_sum k (λ j. f i j +ℤ g i j)) ≡ int_sum n (λ i. int_sum k (λ j. f i j)) +ℤ int_sum n (λ i. int_sum k (λ j. g i j))
 add_two n k f g = int_sum_ext n _ _ (λ i h. int_sum_add k (f i) (g i)) ∙ int_sum_add n (λ i. int_sum k (f i)) (λ i. int_sum k (g i))
 
+-- equal numbers, inside
 pub ext_two : (n k : ℕ) (f g : ℕ → ℕ → ℤ) → ((i j : ℕ) → i < n → j < k → f i j ≡ g i j) → int_sum n (λ i. int_sum k (λ j. f i j)) ≡ int_sum n (λ i. int_sum k (λ j. g i j))
 ext_two n k f g h = int_sum_ext n _ _ (λ i p. int_sum_ext k _ _ (λ j q. h i j p q))
 
+-- greater numbers, inside
 pub le_two : (n k : ℕ) (f g : ℕ → ℕ → ℤ) → ((i j : ℕ) → i < n → j < k → f i j ≤ℤ g i j) → int_sum n (λ i. int_sum k (λ j. f i j)) ≤ℤ int_sum n (λ i. int_sum k (λ j. g i j))
 le_two n k f g h = int_sum_le n _ _ (λ i p. int_sum_le k _ _ (λ j q. h i j p q))
 
@@ -94,10 +104,12 @@ pub int_sum_weigh : (n : ℕ) (f : ℕ → ℕ) (x : ℤ) → int_sum n (λ s. p
 int_sum_weigh zero f x = omega (arith, ints)
 int_sum_weigh (suc n) f x = rw (int_sum_weigh n f x) (by_ring (nat (nat_sum n f) ⊗ v x ⊕ nat (f n) ⊗ v x) (nat (nat_sum n f + f n) ⊗ v x) (omega arith))
 
+-- common factors of naturals
 pub nat_sum_scale : (n t g : ℕ) (f : ℕ → ℕ) → nat_sum n (λ o. t * f o * g) ≡ t * nat_sum n f * g
 nat_sum_scale zero t g f = omega arith
 nat_sum_scale (suc n) t g f = rw (nat_sum_scale n t g f) (omega arith)
 
+-- equal naturals
 pub nat_sum_ext : (n : ℕ) (f g : ℕ → ℕ) → ((i : ℕ) → i < n → f i ≡ g i) → nat_sum n f ≡ nat_sum n g
 nat_sum_ext zero f g h = refl
 nat_sum_ext (suc n) f g h =
@@ -112,11 +124,13 @@ place_split a c f =
       | inr ne ↦ rw (ite_other a c (pos 0) (f c) ne, ite_other a c (f a) (pos 0) ne) (sym (+ℤ_idr (f c)))
     ]
 
+-- a sum is what one place adds to the others
 pub int_sum_out : (n a : ℕ) (f : ℕ → ℤ) → a < n → int_sum n f ≡ int_sum n (λ c. cond (eqb a c) (pos 0) (f c)) +ℤ f a
 int_sum_out n a f h =
     int_sum_ext n _ _ (λ c p. place_split a c f) ∙ int_sum_add n (λ c. cond (eqb a c) (pos 0) (f c)) (λ c. cond (eqb a c) (f a) (pos 0))
     ∙ ap (λ x. int_sum n (λ c. cond (eqb a c) (pos 0) (f c)) +ℤ x) (int_sum_one n a (f a) h)
 
+-- two numbers aside
 two_le : (r s fa fb ga gb : ℤ) → r ≡ s → (fa +ℤ fb) ≤ℤ (ga +ℤ gb) → (r +ℤ fb +ℤ fa) ≤ℤ (s +ℤ gb +ℤ ga)
 two_le r s fa fb ga gb e h = omega (arith, ints)
 

@@ -5,7 +5,7 @@ use Rattle.std.proofs.lemmas.Nat.{div-mul-add, mod-mul-add, mod_below}
 use Rattle.dp_laws.proofs.Graft.{nth_tree-trees_from, trees_from_fit}
 use Rattle.dp_laws.proofs.Keeping.{tree_at_fits}
 use Rattle.dp_laws.proofs.OwnHistories.{next_history_below}
-use Rattle.dp_laws.proofs.Trees.{part_below, pos_of, root_in}
+use Rattle.dp_laws.proofs.Trees.{part_below, positive_factor, root_action_below}
 use Rattle.dp_spec.specs.FullPolicy.{tree_doing, tree_doing_after}
 use Rattle.dp_spec.specs.Keeping.{tree_at}
 use Rattle.dp_spec.specs.PolicyTree.{ArePolicyTrees, IsPolicyTree, PolicyTree, PolicyTrees, more_trees, no_trees, node, nth_tree, root_action, subtree}
@@ -70,7 +70,7 @@ tree_at-tree_doing n act (suc t) r h x e u =
     let u' : x < n ^ t * n = rw pow-suc at u in
     let place : x / n * n + x % n ≡ x = omega arith in
     ap (λ z. subtree z (x % n)) (tree_at-tree_doing n act t (suc r) h (x / n) (omega arith) (part_below (n ^ t) n x u'))
-    ∙ subtree-tree_doing_after n act r t (x / n) (x % n) (mod_below x n (pos_of (n ^ t) n x u'))
+    ∙ subtree-tree_doing_after n act r t (x / n) (x % n) (mod_below x n (positive_factor (n ^ t) n x u'))
     ∙ ap (tree_doing_after n act r (suc t)) place
 
 root-tree_doing_after : (n : ℕ) (act : ℕ → ℕ → ℕ) (r t x : ℕ) → root_action (tree_doing_after n act (suc r) t x) ≡ act t x
@@ -88,4 +88,4 @@ tree_of_actions b n r act below = (is-tree_doing_after b n r act below r 0 0 (om
 
 -- a tree of r steps does actions of its agent after each own history shorter than r
 pub action_below : (b n r : ℕ) (q : PolicyTree) → IsPolicyTree b n r q → (t x : ℕ) → t < r → x < n ^ t → root_action (tree_at n q t x) < b
-action_below b n r q tree t x p u = root_in b n (r - suc t) (tree_at n q t x) (tree_at_fits b n q t (suc (r - suc t)) r x (omega arith) u tree)
+action_below b n r q tree t x p u = root_action_below b n (r - suc t) (tree_at n q t x) (tree_at_fits b n q t (suc (r - suc t)) r x (omega arith) u tree)

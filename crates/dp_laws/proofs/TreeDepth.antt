@@ -1,9 +1,10 @@
 -- On a path of a tree that fits a front there are at most as many inner nodes as own histories.
 -- Each choice and each merge leaves one unassigned class less, and an advance opens at most one class for each own history of the next length.
-use Rattle.std.proofs.Common.{◌≡◌, ◌⊎◌, inl, inr, ℕ, zero, suc, ◌+◌, ◌-◌, ◌*◌, ◌^◌, ◌<◌, ◌≤◌, Bool, true, false, ℤ, List, [], ◌∷◌, length, get_or, set, Option, Some, None, refl, ap, arith}
+use Rattle.std.proofs.Common.{◌≡◌, inl, inr, ℕ, zero, suc, ◌+◌, ◌-◌, ◌*◌, ◌^◌, ◌<◌, ◌≤◌, Bool, true, false, ℤ, List, [], ◌∷◌, length, get_or, set, Option, Some, None, refl, ap, arith}
 use Rattle.std.proofs.lemmas.List.{length-replicate}
 use Rattle.std.proofs.Math.ListN.{length-set}
 use Rattle.std.proofs.Math.Nat.{mul-le-mul_right, pow-suc}
+use Rattle.dp_laws.proofs.Order.{less_or_not}
 use Rattle.dp_laws.proofs.ClassCounts.{classes_within_histories}
 use Rattle.dp_laws.proofs.CompleteFronts.{parts_of_true}
 use Rattle.dp_laws.proofs.MergedAgents.{length-without}
@@ -122,9 +123,6 @@ unassigned_within f (n ∷ ns) (d ∷ ds) w = omega (arith, w.0, none_count-le-l
 -- d inner nodes on a path from a front are at most its unassigned classes and the longer own histories
 abbrev IsDepthBelow : Model → ℕ → Front → ℕ → Type 0
 IsDepthBelow m h F d = d + own_history_count m.observations (suc F.stage) ≤ unassigned_count F.agents + own_history_count m.observations h
-
-less_or_not : (a b : ℕ) → (a < b) ⊎ (b ≤ a)
-less_or_not a b = grind arith
 
 after_advance : (m : Model) (h : ℕ) (F : Front) (t : Bool) → is_complete F.agents ≡ t → F.stage < h → ClassesWithin F.stage m.observations F.agents →
     ClassesWithin (advanced_if m F t).stage m.observations (advanced_if m F t).agents

@@ -1,6 +1,5 @@
 -- choosing, advancing and merging keep a front well formed
-use Rattle.std.proofs.Common.{◌≡◌, ◌⊎◌, inl, inr, ℕ, zero, suc, ◌+◌, ◌*◌, ◌/◌, ◌%◌, ◌^◌, ◌<◌, ◌≤◌, Bool, true, false, List, [], ◌∷◌, ◌++◌, map, length, get_or, set, replicate, Option, Some, None, refl, sym, ap, ◌∙◌, subst, arith, length-append}
-use Rattle.std.proofs.lemmas.Bool.Decides.{nat_tests}
+use Rattle.std.proofs.Common.{◌≡◌, ◌⊎◌, inl, inr, ℕ, zero, suc, ◌+◌, ◌*◌, ◌/◌, ◌%◌, ◌^◌, ◌<◌, Bool, true, false, List, [], ◌∷◌, ◌++◌, map, length, get_or, set, replicate, Option, Some, None, refl, sym, ap, ◌∙◌, subst, arith, length-append}
 use Rattle.std.specs.Prelude.{unwrap_or}
 use Rattle.std.specs.List.{range_with_len}
 use Rattle.std.proofs.lemmas.List.{get_or-set_other, get_or-set_same, get_or_append_left, get_or_push, get_or-replicate, length-map, length-replicate}
@@ -8,11 +7,12 @@ use Rattle.std.proofs.lemmas.List.FromFn.{get_or-map-range_with_len, length-map-
 use Rattle.std.proofs.lemmas.Nat.{div-mul-add, mod-mul-add, mod_below}
 use Rattle.std.proofs.Math.Nat.{pow-suc}
 use Rattle.std.proofs.Math.ListN.{length-set}
+use Rattle.dp_laws.proofs.Order.{less_or_not}
 use Rattle.dp_laws.proofs.CompleteFronts.{parts_of_true}
-use Rattle.dp_laws.proofs.MergedAgents.{get_or-renumbered, get_or-without_above, get_or-without_below, length-without, renumbered_below}
+use Rattle.dp_laws.proofs.MergedAgents.{get_or-renumbered, get_or-without_above, get_or-without_below, length-without, renumbered_below, renumbered_high, renumbered_low}
 use Rattle.dp_laws.proofs.CompleteFronts.{new_class, some_at}
 use Rattle.dp_laws.proofs.Sums.{dec_eq}
-use Rattle.dp_laws.proofs.Trees.{part_below, pos_of, row_below}
+use Rattle.dp_laws.proofs.Trees.{part_below, positive_factor, row_below}
 use Rattle.dp_spec.specs.Front.{AgentFront, Front}
 use Rattle.dp_spec.specs.Merge.{merged_agent, merged_agents, merged_front, renumbered}
 use Rattle.dp_spec.specs.Model.{Model}
@@ -86,11 +86,11 @@ next_agent b n f d k all =
       of_histories = length-map-range_with_len (λ x. get_or d.class_of (x / n) 0 * n + x % n) 0 (n ^ suc f);
       class_below = λ x u.
           let u' : x < n ^ f * n = rw pow-suc at u in
-          rw (new_class n f x d.class_of u, len) (row_below _ _ n _ (k.class_below (x / n) (part_below (n ^ f) n x u')) (mod_below x n (pos_of (n ^ f) n x u')));
+          rw (new_class n f x d.class_of u, len) (row_below _ _ n _ (k.class_below (x / n) (part_below (n ^ f) n x u')) (mod_below x n (positive_factor (n ^ f) n x u')));
       member = λ c u.
           let u' : c < length d.chosen * n = omega arith in
           let old_member = k.member (c / n) (part_below (length d.chosen) n c u') in
-          let lt : c % n < n = mod_below c n (pos_of (length d.chosen) n c u') in
+          let lt : c % n < n = mod_below c n (positive_factor (length d.chosen) n c u') in
           let x = old_member.0 * n + c % n in
           let x_in : x < n ^ suc f = rw pow-suc (row_below old_member.0 (n ^ f) n (c % n) old_member.1 lt) in
           let first : x / n ≡ old_member.0 = div-mul-add old_member.0 n (c % n) lt in
@@ -136,15 +136,6 @@ unfolding front_after_choice
 after_choice_is_front m h F i c a front lt free p = next_is_front m h (chosen_front F i c a) (chosen_is_front m h F i c a front lt free p) lt (is_complete (with_choice i c a F.agents)) refl
 
 -- ---- merging
-below_or_above : (c b : ℕ) → (c < b) ⊎ (b ≤ c)
-below_or_above c b = grind arith
-
-renumbered_low : (a b c : ℕ) → c < b → renumbered a b c ≡ c
-renumbered_low a b c h = grind (arith, nat_tests)
-
-renumbered_high : (a b c : ℕ) → b ≤ c → renumbered a b (suc c) ≡ c
-renumbered_high a b c h = grind (arith, nat_tests)
-
 joined_agent : (b n f : ℕ) (d : AgentFront) (first second : ℕ) → IsAgentFront b n f d → first < second → second < length d.chosen → IsAgentFront b n f (merged_agent first second d)
 joined_agent b n f d first second k lt p =
     let len = length-without second d.chosen p in
@@ -156,11 +147,11 @@ joined_agent b n f d first second k lt p =
       fixed_below = k.fixed_below;
       of_histories = length-map d.class_of (renumbered first second) ∙ k.of_histories;
       class_below = λ x u. rw (get_or-renumbered first second d.class_of x lt) (renumbered_below first second _ _ lt (omega arith) (let c_in = k.class_below x u in omega arith));
-      member = λ c u. elim (below_or_above c second) [
+      member = λ c u. elim (less_or_not c second) [
         | inl low ↦ let old = k.member c (omega arith) in (old.0, old.1, new old.0 c c old.2 (renumbered_low first second c low))
         | inr high ↦ let old = k.member (suc c) (omega arith) in (old.0, old.1, new old.0 (suc c) c old.2 (renumbered_high first second c high))
       ];
-      chosen_below = λ c a u s. elim (below_or_above c second) [
+      chosen_below = λ c a u s. elim (less_or_not c second) [
         | inl low ↦ k.chosen_below c a (omega arith) (sym (get_or-without_below second d.chosen c None low) ∙ s)
         | inr high ↦ k.chosen_below (suc c) a (omega arith) (sym (get_or-without_above second d.chosen c None high) ∙ s)
       ];

@@ -2,7 +2,7 @@ ghost use Rattle.dp_laws.specs.ForwardLaws.{ValueIsEarned, ValueIsEarnedAndRemai
 
 /// The value of a joint policy, defined backwards, is what its own joint actions earn, computed
 /// forwards.
-#[tactic(auto, using(crate::proofs::RecursiveWorth::value_is_earned))]
+#[tactic(auto, using(crate::proofs::EarnedValue::value_is_earned))]
 pub fn value_is_earned()
     ensures { ValueIsEarned }
 {}

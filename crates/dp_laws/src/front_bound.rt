@@ -1,4 +1,4 @@
-ghost use Rattle.dp_laws.specs.FrontBoundLaws.{AdvancingNeverRaisesBound, ChoosingNeverRaisesBound, NoKeepingPolicyAboveBound};
+ghost use Rattle.dp_laws.specs.FrontBoundLaws.{AdvancingNeverRaisesBound, ChoiceNeverRaisesBound, ChoosingNeverRaisesBound, MergingNeverRaisesBound, NoKeepingPolicyAboveBound};
 
 /// No policy that keeps a front is worth more than the front's bound, with any look.
 #[tactic(auto, using(crate::proofs::KeptBound::keeper_under_bound))]
@@ -18,4 +18,18 @@ pub fn choosing_never_raises_bound()
 #[tactic(auto, using(crate::proofs::AdvancedBound::advanced_bound_le))]
 pub fn advancing_never_raises_bound()
     ensures { AdvancingNeverRaisesBound }
+{}
+
+/// The bound of a front does not grow where two unassigned classes are merged, equivalent or not,
+/// in exact numbers.
+#[tactic(auto, using(crate::proofs::MergedBound::merged_bound_le))]
+pub fn merging_never_raises_bound()
+    ensures { MergingNeverRaisesBound }
+{}
+
+/// The bound of a front with a look of at least 1 does not grow by a choice and the advance that
+/// may follow, in exact numbers.
+#[tactic(auto, using(crate::proofs::BoundOnPath::after_choice_bound_le))]
+pub fn choice_never_raises_bound()
+    ensures { ChoiceNeverRaisesBound }
 {}

@@ -14,6 +14,7 @@ mod look_ahead;
 mod lossless_merging;
 mod policy_trees;
 mod root_fronts;
+mod sizes;
 mod texts;
 mod tree_depth;
 
@@ -32,7 +33,8 @@ pub use class_counts::{
 };
 pub use forward_values::{value_is_earned, value_is_earned_and_remaining};
 pub use front_bound::{
-    advancing_never_raises_bound, choosing_never_raises_bound, no_keeping_policy_above_bound,
+    advancing_never_raises_bound, choice_never_raises_bound, choosing_never_raises_bound,
+    merging_never_raises_bound, no_keeping_policy_above_bound,
 };
 pub use front_steps::{
     advancing_keeps_well_formed, choosing_keeps_well_formed, front_after_choice_is_well_formed,
@@ -54,6 +56,11 @@ pub use policy_trees::{
     actions_are_of_the_agent, tree_of_any_actions_exists, trees_with_equal_actions_are_equal,
 };
 pub use root_fronts::{every_policy_keeps_the_root_front, root_front_is_well_formed};
+pub use sizes::{
+    history_weights_are_within_bound, mode_allows_advances, mode_allows_bounds,
+    mode_allows_class_weights, mode_allows_earnings, mode_allows_look_ahead, mode_allows_pushes,
+    mode_allows_rewards, mode_allows_table, mode_allows_worth,
+};
 pub use texts::{certificates_have_one_text, policies_have_one_text};
 pub use tree_depth::{
     paths_below_a_front_are_short, paths_below_the_root_are_short, paths_of_valid_trees_are_short,

@@ -13,7 +13,7 @@ pub fn table_bounds_every_policy()
 {}
 
 /// No joint policy earns more from weights over states than their look-ahead says.
-#[tactic(auto, using(crate::proofs::OneStep::value_le_tail))]
+#[tactic(auto, using(crate::proofs::OneStep::value_le_look_ahead))]
 pub fn look_ahead_bounds_every_policy()
     ensures { LookAheadBoundsEveryPolicy }
 {}

@@ -10,7 +10,7 @@ use Rattle.std.proofs.Math.Nat.{mod-eq_of_lt, div-add-mod, mod-mod_of_dvd, le-mu
 use Rattle.std.proofs.lemmas.Nat.Gcd.{dvd_refl, dvd_trans}
 use Rattle.std.proofs.Math.Seq.{drop-cons}
 use Rattle.std.specs.Int.{◌∣◌}
-use Rattle.dp_spec.specs.JointNumbers.{joint_number, parts_of, product}
+use Rattle.dp_spec.specs.JointNumbers.{joint_number, product}
 use Rattle.dp_model.specs.Parts.{AreParts, AreSteps, part_of}
 
 -- where a product is above 0, both factors are

@@ -1,3 +1,4 @@
 pub mod JointNumberLemmas
 pub mod NameLemmas
 pub mod ModelLemmas
+pub mod TwoAgents

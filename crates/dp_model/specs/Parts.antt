@@ -1,5 +1,5 @@
 -- Joint numbers and their parts.
-use Rattle.std.specs.Prelude.{ℕ, suc, ◌*◌, ◌<◌, ◌≤◌, ◌≡◌, List, length, drop, slice_index}
+use Rattle.std.specs.Prelude.{ℕ, suc, ◌<◌, ◌≤◌, ◌≡◌, List, length, drop, slice_index}
 use Rattle.dp_spec.specs.JointNumbers.{parts_of, product}
 
 -- one part for each agent, below the agent's number

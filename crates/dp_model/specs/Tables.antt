@@ -1,5 +1,5 @@
 -- A model with its names, as contracts see it.
-use Rattle.std.specs.Prelude.{ℕ, ◌<◌, ◌≤◌, ◌≡◌, List, length, slice_index}
+use Rattle.std.specs.Prelude.{ℕ, ◌<◌, ◌≡◌, List, length, slice_index}
 use Rattle.dp_spec.specs.Model.{IsModel, Model}
 use Rattle.dp_spec.specs.declared.scales.Scales.{Scales}
 use Rattle.dp_model.specs.declared.sizes.Sizes.{Sizes}
@@ -24,17 +24,17 @@ model_of sizes scales cells = record {
 }
 
 -- a list of names has one for each of n things, or none
-abbrev pub Names : List (List ℕ) → ℕ → Type 0
-Names names n = 0 < length names → length names ≡ n
+abbrev pub NamesAllOrNone : List (List ℕ) → ℕ → Type 0
+NamesAllOrNone names n = 0 < length names → length names ≡ n
 
 -- the names are of the model's agents, and each list names all of its kind or none
 pub record AreNamesOf (m : Model) (names : NameLists) : Type 0 where
   pub action_lists : length names.actions ≡ length m.actions
   pub observation_lists : length names.observations ≡ length m.actions
-  pub agents : Names names.agents (length m.actions)
-  pub states : Names names.states m.states
-  pub actions : (i : ℕ) → i < length m.actions → Names (names_of names.actions i) (slice_index m.actions i)
-  pub observations : (i : ℕ) → i < length m.actions → Names (names_of names.observations i) (slice_index m.observations i)
+  pub agents : NamesAllOrNone names.agents (length m.actions)
+  pub states : NamesAllOrNone names.states m.states
+  pub actions : (i : ℕ) → i < length m.actions → NamesAllOrNone (names_of names.actions i) (slice_index m.actions i)
+  pub observations : (i : ℕ) → i < length m.actions → NamesAllOrNone (names_of names.observations i) (slice_index m.observations i)
 
 -- what every model with names keeps
 pub record IsNamedModel (m : NamedModel) : Type 0 where

@@ -14,3 +14,6 @@ pub use limit::{Limit, TooLarge};
 pub use model::Model;
 pub use names::Names;
 pub use sizes::{Cells, Sizes};
+
+#[cfg(test)]
+mod tests;

@@ -8,25 +8,28 @@ use Rattle.std.proofs.lemmas.List.Sums.{prefix_len_passes, prefix_len_stops, pre
 use Rattle.dp_num.specs.declared.significand.Significand.{Significand}
 use Rattle.dp_num.specs.Significands.{IsSeen}
 
-left : (a b : Bool) → (a && b) ≡ true → a ≡ true
+-- the parts of a test
+pub left : (a b : Bool) → (a && b) ≡ true → a ≡ true
 left true b h = refl
 left false b h = h
 
-right : (a b : Bool) → (a && b) ≡ true → b ≡ true
+pub right : (a b : Bool) → (a && b) ≡ true → b ≡ true
 right true b h = h
 right false b h = absurd cc
 
--- the number of a digit's byte
+-- the byte of a digit is at least 48
 pub digit_low : (b : ℕ) → is_ascii_digit b ≡ true → 48 ≤ b
 digit_low b digit = leb-true 48 b (left (leb 48 b) (leb b 57) digit)
 
+-- and at most 57
 pub digit_high : (b : ℕ) → is_ascii_digit b ≡ true → b ≤ 57
 digit_high b digit = leb-true b 57 (right (leb 48 b) (leb b 57) digit)
 
+-- a bound is reached or not
 cases : (i n : ℕ) → i ≤ n → (n ≡ i) ⊎ (i < n)
 cases i n le = grind arith
 
--- one more
+-- a digit behind digits at the front is one more of them
 pub run_more : (text : List ℕ) (i : ℕ) → i ≤ prefix_len is_ascii_digit text → i < length text → is_ascii_digit (get_or text i 0) ≡ true → i + 1 ≤ prefix_len is_ascii_digit text
 run_more text i le lt digit =
     elim (cases i (prefix_len is_ascii_digit text) le) [

@@ -45,20 +45,24 @@ IsLcm-from_IsGcd a b g some h =
     product_is : (q b g a : ℕ) → q * g ≡ a → q * b * g ≡ a * b
     product_is q b g a e = omega (arith, ap (λ n. n * b) e)
 
+-- there is only one
 pub same_from_IsLcm : (a b m k : ℕ) → IsLcm a b m → IsLcm a b k → m ≡ k
 same_from_IsLcm a b m k p q = dvd_antisymm (p.least k q.of_left q.of_right) (q.least m p.of_left p.of_right)
 
 -- ---- the numbers that compute
 
+-- with enough steps it is the greatest common divisor
 gcd_within-IsGcd : (steps a b : ℕ) → b < steps → IsGcd a b (gcd_within steps a b)
 gcd_within-IsGcd zero a b lt = absurd (omega arith)
 gcd_within-IsGcd (suc steps) a zero lt = IsGcd-from_zero a 0 refl
 gcd_within-IsGcd (suc steps) a (suc b) lt = IsGcd-from_mod a (suc b) _ (gcd_within-IsGcd steps (suc b) (a % suc b) (omega arith))
 
+-- the number that computes is the greatest common divisor
 pub gcd_of-IsGcd : (a b : ℕ) → IsGcd a b (gcd_of a b)
 unfolding gcd_of
 gcd_of-IsGcd a b = gcd_within-IsGcd (b + 1) a b (omega arith)
 
+-- and that is the least common multiple
 pub lcm_of-IsLcm : (a b : ℕ) → 0 < a → IsLcm a b (lcm_of a b)
 unfolding lcm_of
 lcm_of-IsLcm a b some = IsLcm-from_IsGcd a b (gcd_of a b) some (gcd_of-IsGcd a b)

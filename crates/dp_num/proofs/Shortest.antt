@@ -13,10 +13,12 @@ use Rattle.dp_num.specs.Decimals.{signed, shortest, judged}
 use Rattle.dp_num.specs.Significands.{HasLength, IsSeen}
 use Rattle.dp_num.proofs.SignificandLaws.{tens_up, ten_more, times_ten}
 
-abbrev pub of : Bool → ℕ → ℕ → Decimal
-of negative units digits = record { units = signed negative units; digits = digits }
+-- units / 10 ^ digits with a sign
+abbrev pub decimal_with : Bool → ℕ → ℕ → Decimal
+decimal_with negative units digits = record { units = signed negative units; digits = digits }
 
-pub shortest_zero : (negative : Bool) (k : ℕ) → shortest negative 0 k ≡ of negative 0 0
+-- zero has no fraction digits
+pub shortest_zero : (negative : Bool) (k : ℕ) → shortest negative 0 k ≡ decimal_with negative 0 0
 shortest_zero negative zero = refl
 shortest_zero negative (suc k) = shortest_zero negative k
 
@@ -35,12 +37,14 @@ shortest_less negative n (suc j) k =
         let back : q * 10 / 10 ≡ q = omega arith in
         rw (none, back) refl
 
-shortest_stop : (negative : Bool) (n k : ℕ) → n % 10 ≢ 0 → shortest negative n k ≡ of negative n k
+-- a number that does not end in 0 keeps its digits
+shortest_stop : (negative : Bool) (n k : ℕ) → n % 10 ≢ 0 → shortest negative n k ≡ decimal_with negative n k
 shortest_stop negative n zero some = refl
 shortest_stop negative n (suc k) some = rw (ne_eqb (n % 10) 0 some) refl
 
 module _ (ds : List ℕ) (s : Significand) (negative : Bool) (up down : ℕ) where
-  pub at_zero : s.len ≡ 0 → IsSeen ds s → shortest negative (digits_value 10 ds * 10 ^ up) down ≡ of negative 0 0
+  -- where no digit but 0 was seen
+  pub at_zero : s.len ≡ 0 → IsSeen ds s → shortest negative (digits_value 10 ds * 10 ^ up) down ≡ decimal_with negative 0 0
   at_zero empty seen =
       let none : seen.0 ≡ 0 = seen.1.none empty in
       let value : digits_value 10 ds ≡ 0 * 10 ^ s.zeros = seen.1.value ∙ ap (λ n. n * 10 ^ s.zeros) none in
@@ -55,7 +59,8 @@ module _ (ds : List ℕ) (s : Significand) (negative : Bool) (up down : ℕ) whe
       let first : digits_value 10 ds * 10 ^ up ≡ seen.0 * 10 ^ s.zeros * 10 ^ up = ap (λ v. v * 10 ^ up) seen.1.value in
       omega (arith, sum, first)
 
-  pub at_whole : (seen : IsSeen ds s) → down ≤ s.zeros + up → shortest negative (digits_value 10 ds * 10 ^ up) down ≡ of negative (seen.0 * 10 ^ (s.zeros + up - down)) 0
+  -- where the tens make it a whole number
+  pub at_whole : (seen : IsSeen ds s) → down ≤ s.zeros + up → shortest negative (digits_value 10 ds * 10 ^ up) down ≡ decimal_with negative (seen.0 * 10 ^ (s.zeros + up - down)) 0
   at_whole seen le =
       let split : s.zeros + up ≡ (s.zeros + up - down) + down = omega arith in
       let apart : seen.0 * 10 ^ (s.zeros + up) ≡ seen.0 * (10 ^ (s.zeros + up - down) * 10 ^ down) = ap (λ k. seen.0 * 10 ^ k) split ∙ ap (λ p. seen.0 * p) (pow-add 10 (s.zeros + up - down) down) in
@@ -63,20 +68,23 @@ module _ (ds : List ℕ) (s : Significand) (negative : Bool) (up down : ℕ) whe
       let none : down ≡ down + 0 = omega arith in
       rw tens (ap (shortest negative (seen.0 * 10 ^ (s.zeros + up - down) * 10 ^ down)) none ∙ shortest_less negative (seen.0 * 10 ^ (s.zeros + up - down)) down 0)
 
-  pub at_fraction : (seen : IsSeen ds s) → 0 < s.len → s.zeros + up < down → shortest negative (digits_value 10 ds * 10 ^ up) down ≡ of negative seen.0 (down - (s.zeros + up))
+  -- where they do not
+  pub at_fraction : (seen : IsSeen ds s) → 0 < s.len → s.zeros + up < down → shortest negative (digits_value 10 ds * 10 ^ up) down ≡ decimal_with negative seen.0 (down - (s.zeros + up))
   at_fraction seen some lt =
       let split : down ≡ (s.zeros + up) + (down - (s.zeros + up)) = omega arith in
       rw (all_tens seen) (ap (shortest negative (seen.0 * 10 ^ (s.zeros + up))) split ∙ shortest_less negative seen.0 (s.zeros + up) (down - (s.zeros + up)))
       ∙ shortest_stop negative seen.0 (down - (s.zeros + up)) (seen.1.some some).ends
 
--- ---- the three answers
-
+-- the magnitude of a number with a sign
 pub unsigned_abs-signed : (negative : Bool) (n : ℕ) → unsigned_abs (signed negative n) ≡ n
 unsigned_abs-signed true zero = refl
 unsigned_abs-signed true (suc n) = refl
 unsigned_abs-signed false n = refl
 
-pub large_whole : (negative : Bool) (n len more : ℕ) → HasLength n len → 18 < len + more → judged (of negative (n * 10 ^ more) 0) ≡ Err Large
+-- ---- what is answered of a number that has so many digits and does not end in 0
+
+-- of a whole number with more than 18 digits
+pub large_whole : (negative : Bool) (n len more : ℕ) → HasLength n len → 18 < len + more → judged (decimal_with negative (n * 10 ^ more) 0) ≡ Err Large
 large_whole negative n len more long lt =
     let sum : 10 ^ (len + more) ≡ 10 ^ len * 10 ^ more = pow-add 10 len more in
     let most : 10 ^ 19 ≤ 10 ^ (len + more) = tens_up 19 (len + more) lt in
@@ -84,6 +92,7 @@ large_whole negative n len more long lt =
     let large : 10 ^ 18 ≤ n * 10 ^ more = omega (arith, sum, most, low) in
     rw (unsigned_abs-signed negative (n * 10 ^ more), le-leb (10 ^ 18) (n * 10 ^ more) large) refl
 
+-- a whole number with at most 18 digits is below 10 ^ 18
 below_whole : (n len more : ℕ) → n < 10 ^ len → len + more ≤ 18 → n * 10 ^ more < 10 ^ 18
 below_whole n len more high le =
     let sum : 10 ^ (len + more) ≡ 10 ^ len * 10 ^ more = pow-add 10 len more in
@@ -92,36 +101,44 @@ below_whole n len more high le =
     let some : 10 ^ 0 ≤ 10 ^ more = tens_up 0 more (omega arith) in
     omega (arith, sum, most, all, some)
 
+-- so it has 127 bits
 pub whole_fits : (n len more : ℕ) → n < 10 ^ len → len + more ≤ 18 → n * 10 ^ more < 2 ^ 127
 whole_fits n len more high le = omega (arith, below_whole n len more high le)
 
-pub ok_whole : (negative : Bool) (n len more : ℕ) → HasLength n len → len + more ≤ 18 → judged (of negative (n * 10 ^ more) 0) ≡ Ok (of negative (n * 10 ^ more) 0)
+-- and is given
+pub ok_whole : (negative : Bool) (n len more : ℕ) → HasLength n len → len + more ≤ 18 → judged (decimal_with negative (n * 10 ^ more) 0) ≡ Ok (decimal_with negative (n * 10 ^ more) 0)
 ok_whole negative n len more long le = rw (unsigned_abs-signed negative (n * 10 ^ more), lt-leb (10 ^ 18) (n * 10 ^ more) (below_whole n len more long.high le)) refl
 
-pub large_fraction : (negative : Bool) (n len k : ℕ) → HasLength n len → 18 + k < len → judged (of negative n k) ≡ Err Large
+-- of a fraction with more than 18 digits before the point
+pub large_fraction : (negative : Bool) (n len k : ℕ) → HasLength n len → 18 + k < len → judged (decimal_with negative n k) ≡ Err Large
 large_fraction negative n len k long lt =
     let most : 10 ^ (18 + k + 1) ≤ 10 ^ len = tens_up (18 + k + 1) len (omega arith) in
     let large : 10 ^ (18 + k) ≤ n = omega (arith, most, ten_more (18 + k), long.low) in
     rw (unsigned_abs-signed negative n, le-leb (10 ^ (18 + k)) n large) refl
 
+-- a fraction with at most 18 of them is below 10 ^ 18
 not_large : (n len k : ℕ) → n < 10 ^ len → len ≤ 18 + k → leb (10 ^ (18 + k)) n ≡ false
 not_large n len k high le = lt-leb (10 ^ (18 + k)) n (let most = tens_up len (18 + k) le in omega (arith, most))
 
-pub digits_fraction : (negative : Bool) (n len k : ℕ) → HasLength n len → len ≤ 18 + k → 18 < k → judged (of negative n k) ≡ Err (Digits k)
+-- and refused where it has more than 18 fraction digits
+pub digits_fraction : (negative : Bool) (n len k : ℕ) → HasLength n len → len ≤ 18 + k → 18 < k → judged (decimal_with negative n k) ≡ Err (Digits k)
 digits_fraction negative n len k long le lt = rw (unsigned_abs-signed negative n, not_large n len k long.high le, lt-ltb 18 k lt) refl
 
-pub ok_fraction : (negative : Bool) (n len k : ℕ) → HasLength n len → len ≤ 18 + k → k ≤ 18 → judged (of negative n k) ≡ Ok (of negative n k)
+-- and else given
+pub ok_fraction : (negative : Bool) (n len k : ℕ) → HasLength n len → len ≤ 18 + k → k ≤ 18 → judged (decimal_with negative n k) ≡ Ok (decimal_with negative n k)
 ok_fraction negative n len k long le small = rw (unsigned_abs-signed negative n, not_large n len k long.high le, le-ltb 18 k small) refl
 
+-- where it has 127 bits
 pub fraction_fits : (n len k : ℕ) → n < 10 ^ len → len ≤ 18 + k → k ≤ 18 → n < 2 ^ 127
 fraction_fits n len k high le small = let most = tens_up len 36 (omega arith) in omega (arith, most)
 
-pub ok_zero : (negative : Bool) → judged (of negative 0 0) ≡ Ok (of negative 0 0)
+-- zero is given
+pub ok_zero : (negative : Bool) → judged (decimal_with negative 0 0) ≡ Ok (decimal_with negative 0 0)
 ok_zero true = refl
 ok_zero false = refl
 
 -- the decimal with these units is the one that is given
-pub ok_of : (negative : Bool) (n k : ℕ) (units : ℤ) → units ≡ signed negative n → judged (of negative n k) ≡ Ok (of negative n k) → Ok (record { units = units; digits = k }) ≡ judged (of negative n k)
+pub ok_of : (negative : Bool) (n k : ℕ) (units : ℤ) → units ≡ signed negative n → judged (decimal_with negative n k) ≡ Ok (decimal_with negative n k) → Ok (record { units = units; digits = k }) ≡ judged (decimal_with negative n k)
 ok_of negative n k units e ok = ap given e ∙ sym ok
   where
     given : ℤ → Result Decimal NumFault

@@ -97,8 +97,8 @@ magnitude_where false negative number = Err Shape
 unfoldable pub decimal_of : List ℕ → Result Decimal NumFault
 decimal_of text = let number = unsigned text in magnitude_where (is_magnitude number) (first text == minus) number
 
--- ---- what is known of a decimal that is read
-
+-- what is known of a decimal that is read: it is the number that the text writes, with the least digits, and
+-- within the limits
 pub record IsRead (text : List ℕ) (d : Decimal) : Type 0 where
   pub shortest : WritesShortest text d.units d.digits
   pub magnitude : unsigned_abs d.units < 10 ^ (18 + d.digits)

@@ -28,7 +28,9 @@ pub enum NumFault {
     Digits(u32),
 }
 
-/// The number that a text of at most `2^26` bytes writes, as units and the least number of fraction digits.
+/// The number that a text writes, as `units / 10^digits` with the least `digits`. It asks for at most `2^26`
+/// bytes. The fault is `Shape` where the text is not of the decimal shape; else `Large` where the magnitude is
+/// at least `10^18`; else `Digits` where the least number of fraction digits is more than 18.
 pub fn read_decimal(text: &[u8]) -> Result<Decimal, NumFault>
     requires { length text.now ≤ 2 ^ 26 }
     ensures computed { result ≡ decimal_of text.now }
@@ -65,7 +67,7 @@ fn read_magnitude(negative: bool, number: &[u8]) -> Result<Decimal, NumFault>
     }
 }
 
-/// A significand with so many fraction digits and an exponent.
+/// The number of a significand, so many of whose digits are fraction digits, with an exponent.
 fn scaled(
     negative: bool,
     seen: Significand,

@@ -1,8 +1,9 @@
 //! The decimal shape.
-ghost use Rattle.std.specs.Prelude.{◌≡◌, ◌≤◌, drop, slice_index, length};
+ghost use Rattle.std.specs.Prelude.{◌≡◌, ◌≤◌, ◌↔◌, IsTrue, drop, slice_index, length};
 ghost use Rattle.std.specs.List.{list_all};
 ghost use Rattle.std.specs.Char.{is_ascii_digit};
 ghost use Rattle.dp_num.specs.DecimalShape as spec;
+ghost use Rattle.dp_num.specs.DecimalGrammar.{HasDecimalShape};
 
 /// The byte at `index`, or 0 past the end.
 pub(crate) fn byte_at(text: &[u8], index: usize) -> u8
@@ -71,11 +72,17 @@ pub(crate) fn is_exponent(text: &[u8]) -> bool
 
 /// Whether a text is of the decimal shape: an optional sign; digits with at most one point before, among or
 /// after them, and at least one digit; optionally `e` or `E`, an optional sign and one to three digits.
-#[tactic(auto, unfolding(crate::specs::DecimalShape::is_decimal))]
 pub fn is_decimal(text: &[u8]) -> bool
-    ensures { result ≡ spec.is_decimal text.now }
+    ensures computed { result ≡ spec.is_decimal text.now }
+    ensures shape { IsTrue result ↔ HasDecimalShape text.now }
 {
-    let number = unsigned(text);
+    is_magnitude(unsigned(text))
+}
+
+/// Whether a text is of that shape and has no sign.
+fn is_magnitude(number: &[u8]) -> bool
+    ensures { result ≡ spec.is_magnitude number.now }
+{
     let whole = digit_count(number);
     let rest = &number[whole..];
     if byte_at(rest, 0) == b'.' {

@@ -2,6 +2,7 @@ mod NumberingRows
 mod SmallModels
 mod SmallRows
 mod TigerRows
+pub mod RoundingLaws
+pub mod ScaleRange
 pub mod TextLemmas
 mod TextRows
-pub mod RoundingLaws

@@ -15,6 +15,7 @@ pub mod Rounding
 pub mod Arithmetic
 pub mod Quantities
 pub mod Enclosure
+pub mod Calls
 pub mod BoundTree
 pub mod Fitting
 pub mod Keeping
@@ -27,3 +28,8 @@ pub mod Claims
 pub mod TextLines
 pub mod PolicyText
 pub mod CertificateText
+pub mod Sizes
+pub mod SizesOfEarnings
+pub mod SizesOfTable
+pub mod SizesOfLookAhead
+pub mod SizesOfFronts

@@ -5,6 +5,7 @@ use Rattle.dp_num.specs.Decimals.{signed}
 use Rattle.dp_num.proofs.Shortest.{at_zero, at_whole, at_fraction, large_whole, ok_whole, whole_fits, large_fraction, digits_fraction, ok_fraction, fraction_fits, ok_zero, ok_of}
 use Rattle.dp_num.proofs.decimal.judge.Goals as goal
 
+-- zero is the same with each sign
 no_sign : (negative : Bool) → pos 0 ≡ signed negative 0
 no_sign true = refl
 no_sign false = refl

@@ -1,4 +1,4 @@
-use Rattle.std.proofs.Common.{◌≡◌, refl, sym, subst, ◌∙◌, Result, ℕ}
+use Rattle.std.proofs.Common.{refl, ◌∙◌}
 use Rattle.dp_num.specs.Decimals.{decimal_of}
 use Rattle.dp_num.proofs.Outcomes.{read_is, shape_iff, large_iff, digits_iff}
 use Rattle.dp_num.proofs.decimal.read_decimal.Goals as goal

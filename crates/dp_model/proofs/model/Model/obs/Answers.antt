@@ -1,4 +1,4 @@
-use Rattle.std.proofs.Common.{◌≡◌, ap, get_or, length, sym, subst, ◌∙◌, ◌+◌, ◌*◌, ◌<◌, arith}
+use Rattle.std.proofs.Common.{ap, get_or, length, sym, subst, ◌∙◌, ◌+◌, ◌*◌, ◌<◌}
 use Rattle.dp_spec.specs.Model.{IsModel, Model, joint_observations, obs_at}
 use Rattle.dp_model.proofs.ModelLemmas.{obs_place}
 use Rattle.dp_model.proofs.model.Model.obs.Goals as goal

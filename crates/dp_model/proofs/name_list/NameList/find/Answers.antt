@@ -1,4 +1,4 @@
-use Rattle.std.proofs.Common.{◌≡◌, ◌∙◌, string_bytes}
+use Rattle.std.proofs.Common.{◌∙◌, string_bytes}
 use Rattle.dp_model.proofs.NameLemmas.{place_of-texts}
 use Rattle.dp_model.proofs.name_list.NameList.find.Goals as goal
 

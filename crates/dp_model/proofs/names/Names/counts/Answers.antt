@@ -1,6 +1,4 @@
-use Rattle.std.proofs.Common.{◌≡◌, List, [], ℕ, length, sym, ap, ◌∙◌, subst}
-use Rattle.std.specs.Prelude.{replicate}
-use Rattle.dp_model.specs.Names.{AreNames, IsNameList, names_of}
+use Rattle.std.proofs.Common.{length, sym, ap, ◌∙◌}
 use Rattle.dp_model.proofs.NameLemmas.{empty-kept, replicate-kept}
 use Rattle.dp_model.proofs.names.Names.counts.Goals as goal
 

@@ -1,4 +1,4 @@
-use Rattle.std.proofs.Common.{◌≡◌, ◌*◌, ◌-◌, ◌<◌, ◌≤◌, ℕ, suc, drop, get_or, length, arith}
+use Rattle.std.proofs.Common.{◌≡◌, ◌*◌, ◌-◌, ◌<◌, ◌≤◌, suc, drop, get_or, length, arith}
 use Rattle.dp_spec.specs.JointNumbers.{product}
 use Rattle.dp_model.proofs.JointNumberLemmas.{back-count, back-steps, product-drop_le}
 use Rattle.dp_model.proofs.numbering.Numbering.new.Goals as goal

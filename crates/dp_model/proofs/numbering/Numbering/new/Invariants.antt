@@ -1,5 +1,3 @@
-use Rattle.std.proofs.Common.{◌≡◌, ◌≤◌, ◌<◌, ℕ, suc, length, drop, get_or}
-use Rattle.dp_spec.specs.JointNumbers.{product}
 use Rattle.dp_model.specs.Parts.{AreSteps}
 use Rattle.dp_model.proofs.numbering.Numbering.new.Given as goal
 

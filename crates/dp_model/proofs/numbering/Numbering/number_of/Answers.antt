@@ -1,4 +1,4 @@
-use Rattle.std.proofs.Common.{◌≡◌, ◌+◌, ◌*◌, ◌<◌, ◌≤◌, suc, drop, get_or, length, sym, ap, ◌∙◌, subst, arith}
+use Rattle.std.proofs.Common.{◌≡◌, ◌+◌, ◌*◌, ◌<◌, ◌≤◌, suc, drop, get_or, length, arith}
 use Rattle.dp_spec.specs.JointNumbers.{joint_number, product}
 use Rattle.dp_model.specs.Parts.{AreParts}
 use Rattle.dp_model.proofs.JointNumberLemmas.{joint_number-drop, joint_number_below}

@@ -1,0 +1,99 @@
+-- A call that is done put a certificate whose claims hold.
+use Rattle.std.proofs.Common.{◌≡◌, ◌≢◌, ℕ, List, [], ◌∷◌, Bool, Option, Some, None, Result, Ok, Err, IfSome, ⊎_elim, refl, sym, ap, ◌∙◌, subst}
+use Rattle.dp_io.specs.FetchLaws.{fetch_answer}
+use Rattle.dp_io.specs.Shelf.{Contents}
+use Rattle.dp_io.specs.Sink.{SinkView, Puts}
+use Rattle.dp_io.specs.declared.sink.SinkFailed.{SinkFailed}
+use Rattle.dp_io.specs.declared.shelf.FetchFault.{FetchFault}
+use Rattle.dp_io.specs.declared.shelf.FetchFault.TheVariants.{Failed, TooLong, Memory}
+use Rattle.dp_plan.proofs.BestConstants.{best_constant_claims_hold, best_constant_is_valid}
+use Rattle.dp_plan.specs.ConstantCertificate.{constant_certificate}
+use Rattle.dp_words.specs.declared.job.Job.{Job}
+use Rattle.dp_words.specs.declared.job.Job.TheVariants.{Plan}
+use Rattle.dp_words.specs.declared.job.OrderWord.{OrderWord}
+use Rattle.dp_cli.specs.declared.refusal.FileRole.{FileRole}
+use Rattle.dp_cli.specs.declared.refusal.FileRole.TheVariants.{Model}
+use Rattle.dp_cli.specs.declared.refusal.Refusal.TheVariants as refusals
+use Rattle.dp_cli.specs.declared.status.Status.{Status}
+use Rattle.dp_cli.specs.declared.status.Status.TheVariants as statuses
+use Rattle.dp_cli.specs.Answer.{Answer, refused}
+use Rattle.dp_cli.specs.Certified.{CertifiesFor, IsCertified, PutsCertificateOf}
+use Rattle.dp_cli.specs.Job.{File, asks, IsReply}
+use Rattle.dp_cli.specs.ModelText.{model_of_text}
+use Rattle.dp_cli.specs.Planned.{IsPlanOf, IsPlanReply}
+use Rattle.dp_cli.specs.Put.{PutsAnswer, status_after}
+use Rattle.dp_cli.specs.Refusal.{fetch_refusal, most_bytes, refusal_status}
+use Rattle.dp_cli.specs.Run.{IsToldAnswer, RunsAsTold}
+use Rattle.dp_spec.specs.Model as models
+
+-- no refusal of a fetch is done
+not_done : (role : FileRole) (fault : FetchFault) → refusal_status (fetch_refusal role fault) ≢ statuses.Done
+not_done role Failed e = cc
+not_done role (TooLong count) e = cc
+not_done role Memory e = cc
+
+module _ (contents : Contents) (model : List ℕ) (horizon nodes look : ℕ) (merge : Bool) (order : OrderWord) where
+  after_model : {number : ℕ} {text : List ℕ} {answer : Answer} → IsToldAnswer contents (Some (Plan model horizon nodes look merge order)) number (text ∷ []) answer
+      → IsReply (Some (Plan model horizon nodes look merge order)) (text ∷ []) answer
+  after_model (IsToldAnswer.replies asked reply) = reply
+  after_model (IsToldAnswer.refuses file fault asked told) = cc
+  after_model (IsToldAnswer.goes_on file text asked told rest) = cc
+
+  -- A plan that is done was given the file of its model, and answered it.
+  done_plan : {number : ℕ} {answer : Answer} → IsToldAnswer contents (Some (Plan model horizon nodes look merge order)) number [] answer → answer.status ≡ statuses.Done
+      → (text : List ℕ) × (fetch_answer contents number model (most_bytes Model) ≡ Ok text) × (IsReply (Some (Plan model horizon nodes look merge order)) (text ∷ []) answer)
+  done_plan (IsToldAnswer.replies asked reply) e = cc
+  done_plan (IsToldAnswer.refuses file fault asked told) e = absurd (not_done file.role fault e)
+  done_plan {number} {answer} (IsToldAnswer.goes_on file text asked told rest) e =
+      let wanted : File = record { name = model; role = Model } in
+      let same : file ≡ wanted = cc in
+      (text, rw same at told, after_model rest)
+
+-- the text of the best constant policy's certificate certifies for its model
+plan_certifies : (m : models.Model) (answer : Answer) → IsPlanOf m answer → CertifiesFor m answer.text
+plan_certifies m answer h = record {
+      certificate = constant_certificate m h.text.action;
+      spelled = h.text.spelled;
+      valid = best_constant_is_valid m h.text.action h.is_model h.exact_mode h.text.best;
+      claims = best_constant_claims_hold m h.text.action h.is_model h.exact_mode h.text.best;
+    }
+
+-- a call that is done did not fail to put its answer
+done_puts : (old new : SinkView) (answer : Answer) (reply : Result (Unit {0}) SinkFailed) (result : Status) → Puts old new answer.text reply → result ≡ status_after reply answer.status → result ≡ statuses.Done
+    → (answer.status ≡ statuses.Done) × (Puts {T = Unit {0}} {E = SinkFailed} old new answer.text (Ok tt))
+done_puts old new answer (Ok done) result put ended e = (sym ended ∙ e, put)
+done_puts old new answer (Err fault) result put ended e = cc
+
+-- what is put where the file's bytes mean that model, or none
+certificate_of_reply : (contents : Contents) (number : ℕ) (name file : List ℕ) (old new : SinkView) (answer : Answer) (o : Option models.Model) → fetch_answer contents number name (most_bytes Model) ≡ Ok file
+    → model_of_text file ≡ o → IsPlanReply o answer → answer.status ≡ statuses.Done → Puts {T = Unit {0}} {E = SinkFailed} old new answer.text (Ok tt) → PutsCertificateOf contents number name old new
+certificate_of_reply contents number name file old new answer None given meant reply done put = absurd (let status = ap (λ (a : Answer). a.status) reply in cc)
+certificate_of_reply contents number name file old new answer (Some m) given meant reply done put = record {
+  file = file;
+  given = given;
+  model = m;
+  meant = meant;
+  is_model = reply.is_model;
+  bytes = answer.text;
+  put = put;
+  certified = plan_certifies m answer reply;
+}
+
+-- A job that is done put a certificate whose claims hold.
+certified : (contents : Contents) (number : ℕ) (job : Option Job) (old new : SinkView) (result : Status) → RunsAsTold contents number job old new result → result ≡ statuses.Done
+    → IsCertified contents number job old new
+certified contents number None old new result h done = tt
+certified contents number (Some (Plan model horizon nodes look merge order)) old new result h done =
+    let puts = done_puts old new h.answer h.puts.reply result h.puts.put h.puts.ended done in
+    ⊎_elim
+    (λ told.
+    let given = done_plan contents model horizon nodes look merge order told puts.0 in
+    certificate_of_reply contents number model given.0 old new h.answer (model_of_text given.0) given.1 refl given.2 puts.0 puts.1)
+    (λ memory. absurd (let status = sym puts.0 ∙ ap (λ (a : Answer). a.status) memory in cc))
+    h.determined
+
+-- the same over a shelf that may tell its contents
+pub certified_as_told : (told : Option Contents) (number : ℕ) (job : Option Job) (old new : SinkView) (result : Status)
+    → IfSome told (λ contents. RunsAsTold contents number job old new result) → result ≡ statuses.Done → IfSome told (λ contents. IsCertified contents number job old new)
+certified_as_told None number job old new result h done = tt
+certified_as_told (Some contents) number job old new result h done = certified contents number job old new result h done

@@ -1,0 +1,199 @@
+-- Magnitudes of sums: no part of a sum and no order of adding is larger than the magnitudes of all parts together.
+use Rattle.std.proofs.Common.{◌≡◌, ◌⊎◌, inl, inr, ℕ, zero, suc, ◌+◌, ◌-◌, ◌*◌, ◌<◌, ◌≤◌, ℤ, ◌+ℤ◌, unsigned_abs, List, [], ◌∷◌, refl, arith}
+use Rattle.std.proofs.lemmas.Int.{ints, clamps}
+use Rattle.std.specs.Int.{int_max, int_min}
+use Rattle.dp_spec.specs.declared.span.Span.{Span}
+use Rattle.dp_laws.proofs.AgreeingActions.{IsIn_filter}
+use Rattle.dp_laws.proofs.Best.{IsIn}
+use Rattle.dp_spec.specs.Arithmetic.{Arithmetic, span_add}
+use Rattle.dp_spec.specs.Bound.{agreeing_actions}
+use Rattle.dp_spec.specs.Calls.{size}
+use Rattle.dp_spec.specs.Front.{Front}
+use Rattle.dp_spec.specs.JointHistory.{IsJointHistory, nat_history_sum}
+use Rattle.dp_spec.specs.Model.{Model, joint_actions, joint_observations, obs_at, reward_at, trans_at}
+use Rattle.dp_spec.specs.Quantities.{action_look_ahead_in, earned_reward_in, look_ahead_in, history_weight_in, mdp_table_in, span_history_sum, span_sum, weighted_reward_in, weights_after_in, recursive_worth_in}
+use Rattle.dp_spec.specs.Sizes.{reward_size}
+use Rattle.dp_spec.specs.PolicyTree.{PolicyTree}
+use Rattle.dp_spec.specs.SizesOfEarnings.{earned_size, worth_size}
+use Rattle.dp_spec.specs.Value.{joint_root_action, trees_after}
+use Rattle.dp_spec.specs.SizesOfLookAhead.{next_look_size}
+use Rattle.dp_spec.specs.SizesOfTable.{table_later_size, table_reward_size}
+use Rattle.dp_spec.specs.Sums.{greatest, int_sum, nat_sum, numbers_below}
+
+-- ---- sums of naturals
+
+-- one of a sum
+pub nat_sum_at : (n : ℕ) (f : ℕ → ℕ) (i : ℕ) → i < n → f i ≤ nat_sum n f
+nat_sum_at zero f i h = absurd (omega arith)
+nat_sum_at (suc n) f i h = elim (cases i n h) [ inl e ↦ rw e (omega arith) | inr lt ↦ let rest = nat_sum_at n f i lt in omega arith ]
+  where
+    cases : (i n : ℕ) → i < suc n → (i ≡ n) ⊎ (i < n)
+    cases i n h = grind arith
+
+-- smaller numbers have a smaller sum
+pub nat_sum_le : (n : ℕ) (f g : ℕ → ℕ) → ((i : ℕ) → i < n → f i ≤ g i) → nat_sum n f ≤ nat_sum n g
+nat_sum_le zero f g h = omega arith
+nat_sum_le (suc n) f g h = let here = h n (omega arith) in let rest = nat_sum_le n f g (λ i p. h i (omega arith)) in omega arith
+
+-- n numbers of at most c
+pub nat_sum_most : (n c : ℕ) (f : ℕ → ℕ) → ((i : ℕ) → i < n → f i ≤ c) → nat_sum n f ≤ n * c
+nat_sum_most zero c f h = omega arith
+nat_sum_most (suc n) c f h = let here = h n (omega arith) in let rest = nat_sum_most n c f (λ i p. h i (omega arith)) in omega arith
+
+-- a part of a sum
+pub nat_sum_part : (k n : ℕ) (f : ℕ → ℕ) → k ≤ n → nat_sum k f ≤ nat_sum n f
+nat_sum_part k zero f h = let e : k ≡ 0 = omega arith in rw e (omega arith)
+nat_sum_part k (suc n) f h =
+    elim (cases k n h) [
+      | inl e ↦ rw e (omega arith)
+      | inr le ↦ let rest = nat_sum_part k n f le in omega arith
+    ]
+  where
+    cases : (k n : ℕ) → k ≤ suc n → (k ≡ suc n) ⊎ (k ≤ n)
+    cases k n h = grind arith
+
+-- the same over joint histories
+pub nat_history_sum_le : (n t : ℕ) (f g : List ℕ → ℕ) → ((H : List ℕ) → IsJointHistory n t H → f H ≤ g H) → nat_history_sum n t f ≤ nat_history_sum n t g
+nat_history_sum_le n zero f g h = h [] tt
+nat_history_sum_le n (suc t) f g h = nat_history_sum_le n t _ _ (λ H p. nat_sum_le n _ _ (λ o q. h (o ∷ H) (q, p)))
+
+-- ---- sums of whole numbers
+
+-- the magnitude of a sum of two
+pub abs_add : (a b : ℤ) → unsigned_abs (a +ℤ b) ≤ unsigned_abs a + unsigned_abs b
+abs_add a b = omega (arith, ints)
+
+-- the magnitude of a sum
+pub int_sum_abs : (n : ℕ) (f : ℕ → ℤ) → unsigned_abs (int_sum n f) ≤ nat_sum n (λ i. unsigned_abs (f i))
+int_sum_abs zero f = omega arith
+int_sum_abs (suc n) f = let rest = int_sum_abs n f in let both = abs_add (int_sum n f) (f n) in omega arith
+
+-- the greater of two
+abs_max : (a b : ℤ) (c : ℕ) → unsigned_abs a ≤ c → unsigned_abs b ≤ c → unsigned_abs (int_max a b) ≤ c
+abs_max a b c p q = omega (arith, ints, clamps)
+
+-- the smaller of two
+pub abs_min : (a b : ℤ) (c : ℕ) → unsigned_abs a ≤ c → unsigned_abs b ≤ c → unsigned_abs (int_min a b) ≤ c
+abs_min a b c p q = omega (arith, ints, clamps)
+
+-- the greatest of a list
+pub greatest_abs : (f : ℕ → ℤ) (c : ℕ) (xs : List ℕ) → ((a : ℕ) → IsIn a xs → unsigned_abs (f a) ≤ c) → unsigned_abs (greatest f xs) ≤ c
+greatest_abs f c [] h = omega arith
+greatest_abs f c (x ∷ []) h = h x (inl refl)
+greatest_abs f c (x ∷ (y ∷ ys)) h = abs_max (f x) (greatest f (y ∷ ys)) c (h x (inl refl)) (greatest_abs f c (y ∷ ys) (λ a p. h a (inr p)))
+
+-- what is among the numbers below n
+pub below_in : (n a : ℕ) → IsIn a (numbers_below n) → a < n
+below_in zero a h = absurd h
+below_in (suc n) a (inl e) = omega arith
+below_in (suc n) a (inr h) = let rest = below_in n a h in omega arith
+
+-- ---- sums of spans
+-- the magnitude of a sum of two spans
+size_add : (a b : Span) → size (span_add a b) ≤ size a + size b
+size_add a b = let low = abs_add a.low b.low in let high = abs_add a.high b.high in omega arith
+
+-- a sum of spans is no larger than its parts
+pub span_sum_size : (n : ℕ) (f : ℕ → Span) → size (span_sum n f) ≤ nat_sum n (λ i. size (f i))
+span_sum_size zero f = omega arith
+span_sum_size (suc n) f = let here = size_add (span_sum n f) (f n) in let rest = span_sum_size n f in omega arith
+
+-- the same over joint histories
+pub span_history_sum_size : (n t : ℕ) (v : List ℕ → Span) → size (span_history_sum n t v) ≤ nat_history_sum n t (λ H. size (v H))
+span_history_sum_size n zero v = omega arith
+span_history_sum_size n (suc t) v =
+    let outer = span_history_sum_size n t (λ H. span_sum n (λ o. v (o ∷ H))) in
+    let inner = nat_history_sum_le n t (λ H. size (span_sum n (λ o. v (o ∷ H)))) (λ H. nat_sum n (λ o. size (v (o ∷ H)))) (λ H p. span_sum_size n (λ o. v (o ∷ H))) in omega arith
+
+-- a reward is no larger than its parts
+pub reward_size_le : (A : Arithmetic) (m : Model) (r : ℕ) (ws : ℕ → Span) (a : ℕ) → size (weighted_reward_in A m r ws a) ≤ reward_size A m r ws a
+unfolding weighted_reward_in reward_size
+reward_size_le A m r ws a =
+    let S = m.states in
+    let O = joint_observations m in
+    let G = λ (s t o : ℕ). A.gain (A.chance (ws s) (trans_at m a s t) (obs_at m a t o)) (reward_at m a s t o) r in
+    let first = span_sum_size S (λ s. span_sum S (λ t. span_sum O (λ o. G s t o))) in
+    let second = nat_sum_le S (λ s. size (span_sum S (λ t. span_sum O (λ o. G s t o)))) (λ s. nat_sum S (λ t. size (span_sum O (λ o. G s t o)))) (λ s p. span_sum_size S (λ t. span_sum O (λ o. G s t o))) in
+    let third = nat_sum_le S (λ s. nat_sum S (λ t. size (span_sum O (λ o. G s t o)))) (λ s. nat_sum S (λ t. nat_sum O (λ o. size (G s t o)))) (λ s p. nat_sum_le S _ _ (λ t q. span_sum_size O (λ o. G s t o))) in
+    omega arith
+
+-- a next weight is no larger than its parts
+pub pushed_size_le : (A : Arithmetic) (m : Model) (ws : ℕ → Span) (a o t : ℕ) → size (weights_after_in A m ws a o t) ≤ nat_sum m.states (λ s. size (A.later (A.chance (ws s) (trans_at m a s t) (obs_at m a t o))))
+unfolding weights_after_in
+pushed_size_le A m ws a o t = span_sum_size m.states (λ s. A.later (A.chance (ws s) (trans_at m a s t) (obs_at m a t o)))
+
+-- what is earned is no larger than its parts
+pub earned_size_le : (A : Arithmetic) (m : Model) (act : List ℕ → ℕ) (h f : ℕ) → size (earned_reward_in A m act h f) ≤ earned_size A m act h f
+earned_size_le A m act h zero = omega arith
+earned_size_le A m act h (suc f) =
+    let O = joint_observations m in
+    let V = λ (H : List ℕ). weighted_reward_in A m (h - suc f) (history_weight_in A m act H) (act H) in
+    let before = earned_size_le A m act h f in
+    let now = span_history_sum_size O f V in
+    let parts = nat_history_sum_le O f (λ H. size (V H)) (λ H. reward_size A m (h - suc f) (history_weight_in A m act H) (act H)) (λ H p. reward_size_le A m (h - suc f) (history_weight_in A m act H) (act H)) in
+    let both = size_add (earned_reward_in A m act h f) (span_history_sum O f V) in omega arith
+
+-- look-ahead of a joint action is no larger than its parts
+pub action_look_le : (A : Arithmetic) (m : Model) (r : ℕ) (ws : ℕ → Span) (a k : ℕ) → unsigned_abs (action_look_ahead_in A m r ws a k) ≤ reward_size A m r ws a + next_look_size A m r ws a (k - 1)
+unfolding action_look_ahead_in next_look_size
+action_look_le A m r ws a k =
+    let V = λ (o : ℕ). look_ahead_in A m r (weights_after_in A m ws a o) (k - 1) in
+    let now = reward_size_le A m r ws a in
+    let after = int_sum_abs (joint_observations m) V in
+    let both = abs_add (weighted_reward_in A m r ws a).high (int_sum (joint_observations m) V) in omega arith
+
+-- a joint action that agrees with a joint class exists
+pub agreeing_below : (m : Model) (F : Front) (C a : ℕ) → IsIn a (agreeing_actions m F C) → a < joint_actions m
+unfolding agreeing_actions
+agreeing_below m F C a h = below_in (joint_actions m) a (IsIn_filter _ a (numbers_below (joint_actions m)) h).0
+
+-- a value of the table is no larger than its parts
+pub table_action_le : (A : Arithmetic) (m : Model) (r a s : ℕ) →
+    unsigned_abs ((span_sum m.states (λ t. span_sum (joint_observations m) (λ o. A.gain (A.chance A.one (trans_at m a s t) (obs_at m a t o)) (reward_at m a s t o) r))).high +ℤ int_sum m.states (λ t. A.carry (mdp_table_in A m r t) (trans_at m a s t)))
+    ≤ table_reward_size A m r a s + table_later_size A m r a s
+unfolding table_reward_size table_later_size
+table_action_le A m r a s =
+    let S = m.states in
+    let O = joint_observations m in
+    let G = λ (t o : ℕ). A.gain (A.chance A.one (trans_at m a s t) (obs_at m a t o)) (reward_at m a s t o) r in
+    let V = λ (t : ℕ). A.carry (mdp_table_in A m r t) (trans_at m a s t) in
+    let first = span_sum_size S (λ t. span_sum O (λ o. G t o)) in
+    let second = nat_sum_le S (λ t. size (span_sum O (λ o. G t o))) (λ t. nat_sum O (λ o. size (G t o))) (λ t p. span_sum_size O (λ o. G t o)) in
+    let third = int_sum_abs S V in
+    let both = abs_add (span_sum S (λ t. span_sum O (λ o. G t o))).high (int_sum S V) in
+    omega arith
+
+-- ---- partial sums, as loops form them
+
+-- a partial sum of spans
+pub span_sum_part : (k n : ℕ) (f : ℕ → Span) → k ≤ n → size (span_sum k f) ≤ nat_sum n (λ i. size (f i))
+span_sum_part k n f le = let part = span_sum_size k f in let more = nat_sum_part k n (λ i. size (f i)) le in omega arith
+
+-- a partial sum of numbers
+pub int_sum_part : (k n : ℕ) (f : ℕ → ℤ) → k ≤ n → unsigned_abs (int_sum k f) ≤ nat_sum n (λ i. unsigned_abs (f i))
+int_sum_part k n f le = let part = int_sum_abs k f in let more = nat_sum_part k n (λ i. unsigned_abs (f i)) le in omega arith
+
+-- the parts of a reward from one state, and those for one next state
+pub reward_state_le : (A : Arithmetic) (m : Model) (r : ℕ) (ws : ℕ → Span) (a s : ℕ) → s < m.states →
+    nat_sum m.states (λ t. nat_sum (joint_observations m) (λ o. size (A.gain (A.chance (ws s) (trans_at m a s t) (obs_at m a t o)) (reward_at m a s t o) r))) ≤ reward_size A m r ws a
+unfolding reward_size
+reward_state_le A m r ws a s p = nat_sum_at m.states (λ s. nat_sum m.states (λ t. nat_sum (joint_observations m) (λ o. size (A.gain (A.chance (ws s) (trans_at m a s t) (obs_at m a t o)) (reward_at m a s t o) r)))) s p
+
+-- those of one next state
+pub reward_next_le : (A : Arithmetic) (m : Model) (r : ℕ) (ws : ℕ → Span) (a s t : ℕ) → s < m.states → t < m.states →
+    nat_sum (joint_observations m) (λ o. size (A.gain (A.chance (ws s) (trans_at m a s t) (obs_at m a t o)) (reward_at m a s t o) r)) ≤ reward_size A m r ws a
+reward_next_le A m r ws a s t p q =
+    let state = reward_state_le A m r ws a s p in
+    let next = nat_sum_at m.states (λ t. nat_sum (joint_observations m) (λ o. size (A.gain (A.chance (ws s) (trans_at m a s t) (obs_at m a t o)) (reward_at m a s t o) r))) t q in omega arith
+
+-- the worth of a joint policy is no larger than its parts
+pub worth_size_le : (A : Arithmetic) (m : Model) (r : ℕ) (ws : ℕ → Span) (qs : List PolicyTree) → size (recursive_worth_in A m r ws qs) ≤ worth_size A m r ws qs
+worth_size_le A m zero ws qs = omega arith
+worth_size_le A m (suc r) ws qs =
+    let O = joint_observations m in
+    let a = joint_root_action m qs in
+    let V = λ (o : ℕ). recursive_worth_in A m r (weights_after_in A m ws a o) (trees_after m qs o) in
+    let now = reward_size_le A m r ws a in
+    let after = span_sum_size O V in
+    let parts = nat_sum_le O (λ o. size (V o)) (λ o. worth_size A m r (weights_after_in A m ws a o) (trees_after m qs o)) (λ o p. worth_size_le A m r (weights_after_in A m ws a o) (trees_after m qs o)) in
+    let both = size_add (weighted_reward_in A m r ws a) (span_sum O V) in omega arith

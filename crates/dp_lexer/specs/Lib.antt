@@ -1,0 +1,4 @@
+pub mod Bytes
+pub mod Comments
+pub mod Tokens
+pub mod TokenLaws

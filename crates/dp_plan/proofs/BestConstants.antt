@@ -1,0 +1,107 @@
+-- The certificate of the best constant policy is valid.
+use Rattle.std.proofs.Common.{◌≡◌, ◌⊎◌, ⊎_elim, true, false, ℕ, zero, suc, ◌<◌, ℤ, ◌≤ℤ◌, ◌<ℤ◌, refl, sym, ap, ◌∙◌, arith}
+use Rattle.std.proofs.lemmas.Int.{ints, clamps}
+use Rattle.std.specs.Int.Signed.{lt_z, lt_z_yes, lt_z_no}
+use Rattle.dp_laws.proofs.Best.{best_below}
+use Rattle.dp_laws.proofs.ConstantPolicies.{constant_policy_fits, root_bound_at_one}
+use Rattle.dp_laws.proofs.ExactArithmetic.{exact_sound}
+use Rattle.dp_laws.proofs.Order.{equal_of_le}
+use Rattle.dp_laws.proofs.ValidCertificates.{claims_hold}
+use Rattle.dp_laws.proofs.QuantityLaws.{exact_quantities, worth_enclosed}
+use Rattle.dp_spec.specs.declared.span.Span.{Span}
+use Rattle.dp_spec.specs.Arithmetic.{exact}
+use Rattle.dp_spec.specs.Certificate.{IsValid}
+use Rattle.dp_spec.specs.Claims.{ClaimsHold}
+use Rattle.dp_spec.specs.ConstantPolicy.{constant_policy}
+use Rattle.dp_spec.specs.Enclosure.{equality}
+use Rattle.dp_spec.specs.Fitting.{front_bound}
+use Rattle.dp_spec.specs.Mode.{is_exact_mode}
+use Rattle.dp_spec.specs.Model.{IsModel, Model, joint_actions}
+use Rattle.dp_spec.specs.Quantities.{forward_worth_in}
+use Rattle.dp_spec.specs.Steps.{root_front}
+use Rattle.dp_spec.specs.Sums.{greatest, numbers_below}
+use Rattle.dp_plan.specs.BestConstant.{IsBestConstant, IsFirstGreatest, constant_value}
+use Rattle.dp_plan.specs.ConstantCertificate.{constant_certificate}
+use Rattle.dp_plan.proofs.Modes.{within_one_step}
+
+-- ---- the first greatest, one number after the other
+
+-- what a comparison says
+pub less_where_true : (a b : ℤ) → lt_z a b ≡ true → a <ℤ b
+less_where_true a b e = lt_z_yes (rw e tt)
+
+pub at_most_where_false : (a b : ℤ) → lt_z a b ≡ false → b ≤ℤ a
+at_most_where_false a b e = lt_z_no (rw e tt)
+
+one_more : (k n : ℕ) → k < suc n → (k < n) ⊎ (k ≡ n)
+one_more k n h = grind arith
+
+-- of one number
+pub first_of_one : (f : ℕ → ℤ) → IsFirstGreatest f 1 0
+first_of_one f = record {
+  below = omega arith;
+  greatest = λ k p. let e : k ≡ 0 = omega arith in rw e (omega (arith, ints));
+  least = λ k p. absurd (omega arith);
+}
+
+-- the next number is greater than all before
+pub next_is_first : (f : ℕ → ℤ) (n first : ℕ) → IsFirstGreatest f n first → f first <ℤ f n → IsFirstGreatest f (suc n) n
+next_is_first f n first h more = record {
+  below = omega arith;
+  greatest = λ k p. ⊎_elim (λ lt. let le = h.greatest k lt in omega (arith, ints)) (λ is. rw is (omega (arith, ints))) (one_more k n p);
+  least = λ k p. let le = h.greatest k p in omega (arith, ints);
+}
+
+-- the next number is not greater
+pub next_is_no_first : (f : ℕ → ℤ) (n first : ℕ) → IsFirstGreatest f n first → f n ≤ℤ f first → IsFirstGreatest f (suc n) first
+next_is_no_first f n first h less = record {
+  below = let lt = h.below in omega arith;
+  greatest = λ k p. ⊎_elim (λ lt. h.greatest k lt) (λ is. rw is less) (one_more k n p);
+  least = h.least;
+}
+
+-- ---- the greatest value
+
+-- a number that is at least each value of a list is at least the greatest
+greatest_at_most : (f : ℕ → ℤ) (x : ℤ) (n : ℕ) → 0 < n → ((k : ℕ) → k < n → f k ≤ℤ x) → greatest f (numbers_below n) ≤ℤ x
+greatest_at_most f x zero some h = absurd (omega arith)
+greatest_at_most f x (suc zero) some h = h 0 (omega arith)
+greatest_at_most f x (suc (suc n)) some h =
+    let rest : greatest f (numbers_below (suc n)) ≤ℤ x = greatest_at_most f x (suc n) (omega arith) (λ k p. h k (omega arith)) in
+    let here : f (suc n) ≤ℤ x = h (suc n) (omega arith) in
+    omega (arith, ints, clamps)
+
+-- the first greatest has the greatest value
+greatest_is_first : (f : ℕ → ℤ) (n first : ℕ) → IsFirstGreatest f n first → greatest f (numbers_below n) ≡ f first
+greatest_is_first f n first h =
+    equal_of_le _ _ (greatest_at_most f (f first) n (let lt = h.below in omega arith) h.greatest) (best_below f n first h.below)
+
+-- ---- the certificate
+
+-- the bound of the root is the value of the best constant policy
+root_bound_is_best : (m : Model) (a : ℕ) → IsModel m → IsBestConstant m a → constant_value m a ≡ front_bound (exact m.scales) m 1 1 (root_front m)
+unfolding front_bound constant_value root_front
+root_bound_is_best m a ok best =
+    sym ((exact_quantities m ok).bounds 1 (root_front m) 1 ∙ root_bound_at_one m ok 1 ∙ greatest_is_first (constant_value m) (joint_actions m) a best)
+
+-- in exact arithmetic the worth of a constant policy is its value
+lower_is_value : (m : Model) (a : ℕ) → constant_value m a ≡ (forward_worth_in (exact m.scales) m 1 (constant_policy m 1 a)).low
+unfolding constant_value
+lower_is_value m a = sym (ap (λ (s : Span). s.low) (worth_enclosed m (exact m.scales) equality (exact_sound m) 1 (constant_policy m 1 a)))
+
+-- in exact mode the certificate of the best constant policy is valid
+pub best_constant_is_valid : (m : Model) (a : ℕ) → IsModel m → is_exact_mode m 1 ≡ true → IsBestConstant m a → IsValid m (constant_certificate m a)
+best_constant_is_valid m a ok exact_mode best = record {
+  within = within_one_step m ok;
+  mode = sym exact_mode;
+  unit = refl;
+  policy = constant_policy_fits m ok 1 a best.below;
+  lower = lower_is_value m a;
+  tree = root_bound_is_best m a ok best;
+  inner = refl;
+  upper = refl;
+}
+
+-- and what it claims is so
+pub best_constant_claims_hold : (m : Model) (a : ℕ) → IsModel m → is_exact_mode m 1 ≡ true → IsBestConstant m a → ClaimsHold m (constant_certificate m a)
+best_constant_claims_hold m a ok exact_mode best = claims_hold m (constant_certificate m a) ok (best_constant_is_valid m a ok exact_mode best)

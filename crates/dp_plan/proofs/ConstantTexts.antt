@@ -1,0 +1,118 @@
+-- The text of the certificate of a constant policy over one step, part by part.
+use Rattle.std.proofs.Common.{◌≡◌, true, ℕ, suc, ◌+◌, ◌<◌, ℤ, pos, List, [], ◌∷◌, ◌++◌, codes, length, drop, get_or, refl, sym, ap, ◌∙◌, append_assoc, append-nil, add-one, arith}
+use Rattle.std.proofs.Math.Nat.{pow-zero}
+use Rattle.std.proofs.Math.Seq.{drop-cons, drop-length}
+use Rattle.std.proofs.lemmas.Fmt.{decimal_digit}
+use Rattle.std.specs.Fmt.{decimal, signed_decimal}
+use Rattle.dp_spec.proofs.TextLemmas.{text_of_lines-append}
+use Rattle.dp_spec.specs.BoundTree.{leaf}
+use Rattle.dp_spec.specs.CertificateText.{certificate_text, head_lines, node_lines}
+use Rattle.dp_spec.specs.ConstantPolicy.{constant_policy, constant_trees}
+use Rattle.dp_spec.specs.JointNumbers.{parts_of}
+use Rattle.dp_spec.specs.Mode.{is_exact_mode, unit_of}
+use Rattle.dp_spec.specs.Model.{IsModel, Model, value_scale}
+use Rattle.dp_spec.specs.PolicyText.{agent_lines, end_form, policy_rows}
+use Rattle.dp_spec.specs.TextLines.{Line, fixed, fixed_line, text_of_lines}
+use Rattle.dp_plan.specs.BestConstant.{constant_value}
+use Rattle.dp_plan.specs.ConstantCertificate.{constant_certificate}
+use Rattle.dp_plan.specs.ConstantPolicyText.{agent_text, agents_text, head_text, tree_text}
+
+-- one part for each agent
+pub length-parts_of : (ns : List ℕ) (x : ℕ) → length (parts_of ns x) ≡ length ns
+length-parts_of [] x = refl
+length-parts_of (n ∷ ns) x = ap suc (length-parts_of ns _)
+
+-- ---- one agent after the other
+
+-- an agent's lines and what follows
+agent_text_then : (k p : ℕ) (rest : List ℕ) → agent_text k p ++ rest ≡ codes "agent " ++ (decimal k ++ 10 ∷ (decimal p ++ 10 ∷ rest))
+agent_text_then k p rest =
+    ap (λ (l : List ℕ). codes "agent " ++ l)
+    (append_assoc (decimal k) (10 ∷ (decimal p ++ 10 ∷ [])) rest ∙ ap (λ (l : List ℕ). decimal k ++ 10 ∷ l) (append_assoc (decimal p) (10 ∷ []) rest))
+
+-- the lines of the agents are those of their constant trees
+pub agents_text_is : (k : ℕ) (bs ns ps : List ℕ) → length ns ≡ length bs → length ps ≡ length bs → text_of_lines (agent_lines k (policy_rows bs ns 1 (constant_trees ns 1 ps))) ≡ agents_text k ps
+agents_text_is k [] [] [] e f = refl
+agents_text_is k [] [] (p ∷ ps) e f = absurd (omega arith)
+agents_text_is k [] (n ∷ ns) ps e f = absurd (omega arith)
+agents_text_is k (b ∷ bs) [] ps e f = absurd (omega arith)
+agents_text_is k (b ∷ bs) (n ∷ ns) [] e f = absurd (omega arith)
+agents_text_is k (b ∷ bs) (n ∷ ns) (p ∷ ps) e f =
+    let rest : text_of_lines (agent_lines (k + 1) (policy_rows bs ns 1 (constant_trees ns 1 ps))) ≡ agents_text (k + 1) ps = agents_text_is (k + 1) bs ns ps (omega arith) (omega arith) in
+    rw (pow-zero n, rest) (sym (agent_text_then k p (agents_text (k + 1) ps)))
+
+-- the next agent's lines are appended
+pub next_agent : (text parts : List ℕ) (i : ℕ) → i < length parts → (text ++ agent_text i (get_or parts i 0)) ++ agents_text (i + 1) (drop (i + 1) parts) ≡ text ++ agents_text i (drop i parts)
+next_agent text parts i lt =
+    append_assoc text (agent_text i (get_or parts i 0)) (agents_text (i + 1) (drop (i + 1) parts))
+    ∙ ap (λ (l : List ℕ). text ++ l) (rw (drop-cons parts i 0 lt, add-one) refl)
+
+-- no agent is left
+pub no_agent_left : (text parts : List ℕ) (i : ℕ) → i ≡ length parts → text ++ agents_text i (drop i parts) ≡ text
+no_agent_left text parts i e = rw (e, drop-length parts) (append-nil text)
+
+-- ---- the whole text
+
+-- seven lists and what follows
+seven_then : (a b c d e f g rest : List ℕ) → (a ++ (b ++ (c ++ (d ++ (e ++ (f ++ g)))))) ++ rest ≡ a ++ (b ++ (c ++ (d ++ (e ++ (f ++ (g ++ rest))))))
+seven_then a b c d e f g rest = simp append_assoc refl
+
+-- the lines of the tree and the last line
+tree_lines : ℤ → List Line
+tree_lines value = fixed_line (fixed (codes "tree") ∷ []) ∷ (node_lines (leaf value) ++ fixed_line end_form ∷ [])
+
+tree_text_is : (value : ℤ) → text_of_lines (tree_lines value) ≡ tree_text value
+unfolding tree_lines
+tree_text_is value = refl
+
+-- the agents' lines, and those of the tree
+after_head : (m : Model) (a : ℕ) → IsModel m → (value : ℤ) →
+    text_of_lines (agent_lines 0 (policy_rows m.actions m.observations 1 (constant_policy m 1 a)) ++ tree_lines value) ≡ agents_text 0 (parts_of m.actions a) ++ tree_text value
+unfolding constant_policy tree_lines
+after_head m a ok value =
+    text_of_lines-append (agent_lines 0 (policy_rows m.actions m.observations 1 (constant_policy m 1 a))) (tree_lines value)
+    ∙ ap (λ (l : List ℕ). l ++ tree_text value) (agents_text_is 0 m.actions m.observations (parts_of m.actions a) ok.sizes.alike (length-parts_of m.actions a))
+
+-- the unit of exact mode
+exact_unit : (m : Model) → is_exact_mode m 1 ≡ true → unit_of m 1 ≡ value_scale m 1
+unfolding unit_of
+exact_unit m e = rw e refl
+
+-- what the lines of a certificate give before those of its agents
+head_lines_are : (m : Model) (a unit : ℕ) (value : ℤ) (agents : List Line) →
+    text_of_lines (head_lines (record { horizon = 1; look = 1; is_exact = true; unit = pos unit; lower = value; upper = value; inner = 0; policy = constant_policy m 1 a; tree = leaf value }) ++ fixed_line (fixed (codes "policy") ∷ []) ∷ agents)
+    ≡ head_text unit value ++ text_of_lines agents
+head_lines_are m a unit value agents = rw (decimal_digit 0 (omega arith), decimal_digit 1 (omega arith)) (sym (seven_then (codes "decplan certificate 1\nhorizon 1\nlook 1\nmode exact\nunit ") (decimal unit) (codes "\nlower ") (signed_decimal value) (codes "\nupper ") (signed_decimal value) (codes "\ninner 0\npolicy\n") (text_of_lines agents)))
+
+-- the text of the certificate of a constant policy
+pub constant_text : (m : Model) (a : ℕ) → IsModel m → is_exact_mode m 1 ≡ true →
+    certificate_text m.actions m.observations (constant_certificate m a)
+    ≡ head_text (value_scale m 1) (constant_value m a) ++ (agents_text 0 (parts_of m.actions a) ++ tree_text (constant_value m a))
+unfolding certificate_text tree_lines
+constant_text m a ok exact_mode =
+    head_lines_are m a (unit_of m 1) (constant_value m a) (agent_lines 0 (policy_rows m.actions m.observations 1 (constant_policy m 1 a)) ++ tree_lines (constant_value m a))
+    ∙ ap (λ (unit : ℕ). head_text unit (constant_value m a) ++ text_of_lines (agent_lines 0 (policy_rows m.actions m.observations 1 (constant_policy m 1 a)) ++ tree_lines (constant_value m a))) (exact_unit m exact_mode)
+    ∙ ap (λ (l : List ℕ). head_text (value_scale m 1) (constant_value m a) ++ l) (after_head m a ok (constant_value m a))
+
+-- ---- as it is pushed
+
+-- the pieces of the head, appended one after the other
+head_pieces : (t a b d n l s u i : List ℕ) → (((t ++ a) ++ (b ++ (d ++ n))) ++ (l ++ (s ++ (u ++ (s ++ n))))) ++ i ≡ t ++ (a ++ (b ++ (d ++ (n ++ (l ++ (s ++ (u ++ (s ++ (n ++ i)))))))))
+head_pieces t a b d n l s u i = simp append_assoc refl
+
+pub head_pushed : (t t1 t2 t3 t4 : List ℕ) (unit : ℕ) (value : ℤ) → t1 ≡ t ++ codes "decplan certificate 1\nhorizon 1\nlook 1\nmode exact\n" → t2 ≡ t1 ++ (codes "unit " ++ (decimal unit ++ 10 ∷ []))
+    → t3 ≡ t2 ++ (codes "lower " ++ (signed_decimal value ++ (codes "\nupper " ++ (signed_decimal value ++ 10 ∷ [])))) → t4 ≡ t3 ++ codes "inner 0\npolicy\n" → t4 ≡ t ++ head_text unit value
+head_pushed t t1 t2 t3 t4 unit value first second third fourth =
+    fourth
+    ∙ ap (λ (x : List ℕ). x ++ codes "inner 0\npolicy\n")
+    (third
+    ∙ ap (λ (x : List ℕ). x ++ (codes "lower " ++ (signed_decimal value ++ (codes "\nupper " ++ (signed_decimal value ++ 10 ∷ [])))))
+    (second ∙ ap (λ (x : List ℕ). x ++ (codes "unit " ++ (decimal unit ++ 10 ∷ []))) first))
+    ∙ head_pieces t (codes "decplan certificate 1\nhorizon 1\nlook 1\nmode exact\n") (codes "unit ") (decimal unit) (10 ∷ []) (codes "lower ") (signed_decimal value) (codes "\nupper ") (codes "inner 0\npolicy\n")
+
+-- three parts, appended one after the other
+pub three_pushed : (t t1 t2 t3 a b c : List ℕ) → t ≡ [] → t1 ≡ t ++ a → t2 ≡ t1 ++ b → t3 ≡ t2 ++ c → t3 ≡ a ++ (b ++ c)
+three_pushed t t1 t2 t3 a b c none first second third =
+    third
+    ∙ ap (λ (x : List ℕ). x ++ c) (second ∙ ap (λ (x : List ℕ). x ++ b) (first ∙ ap (λ (x : List ℕ). x ++ a) none))
+    ∙ append_assoc a b c
