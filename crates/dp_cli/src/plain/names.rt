@@ -156,7 +156,7 @@ pub fn count(words: &[&[u8]]) -> usize
     words.len()
 }
 
-// The same, within the limit on reward lines.
+// The lines of names, within the limit on reward lines, and the bytes after them.
 #[tactic(auto, unfolding(crate::specs::PlainNames::limited_header_at))]
 pub fn limited_header<'a>(
     alloc: Global,
@@ -185,6 +185,7 @@ pub fn reward_lines(words: &Words) -> usize
     )
 }
 
+// The product of four sizes within their limits.
 fn four_fold(a: usize, b: usize, c: usize, d: usize) -> usize
     requires a { a ≤ 256 }
     requires b { b ≤ 256 }
