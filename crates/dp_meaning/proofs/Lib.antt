@@ -1,0 +1,3 @@
+pub mod ModelRows
+pub mod FaultRows
+pub mod LimitRows
