@@ -1,3 +1,9 @@
 pub mod ModelRows
 pub mod FaultRows
 pub mod LimitRows
+pub mod FaultSteps
+pub mod Lists
+pub mod CellNumbers
+pub mod Repairs
+pub mod TableRows
+pub mod Meant

@@ -11,3 +11,4 @@ pub mod Scales
 pub mod Rows
 pub mod Limits
 pub mod Meaning
+pub mod MeaningLaws

@@ -22,14 +22,14 @@ abbrev pub product_past : ℕ → ℕ → List ℕ → ℕ
 product_past most so_far [] = so_far
 product_past most so_far (n ∷ ns) = if nat_lt most so_far then so_far else product_past most (so_far * n) ns
 
-unfoldable pub passed_limit : Text → Option TooLarge
-passed_limit text =
+-- the limits in order
+abbrev pub tried_limits : Text → List (Option TooLarge)
+tried_limits text =
     let header = text.header in
     let s = states_in text in
     let a = joint_actions_in text in
     let o = joint_observations_in text in
     let scales = scales_of text in
-    first_passed (
     at_most limits.Agents (size_of header.agents) 6
     ∷ at_most limits.States s 256
     ∷ at_most limits.JointActions (product_past 256 1 (map size_of header.actions)) 256
@@ -41,4 +41,7 @@ passed_limit text =
     ∷ at_most limits.Scale scales.start (2 ^ 62)
     ∷ at_most limits.Scale scales.trans (2 ^ 62)
     ∷ at_most limits.Scale scales.obs (2 ^ 62)
-    ∷ [])
+    ∷ []
+
+unfoldable pub passed_limit : Text → Option TooLarge
+passed_limit text = first_passed (tried_limits text)

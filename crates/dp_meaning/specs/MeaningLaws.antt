@@ -1,0 +1,121 @@
+-- What holds of the meaning of a model file, in words that do not follow its reading.
+use Rattle.std.specs.Prelude.{◌≡◌, ℕ, ◌<◌, Bool, true, false, not, ◌==◌, ℤ, pos, List, [], ◌∷◌, ◌++◌, length, map, sum, count_by, Result, Ok}
+use Rattle.std.specs.List.{list_any}
+use Rattle.dp_spec.specs.Model.{Model, joint_actions, joint_observations, trans_at, obs_at, reward_at, AreRows, IsModel}
+use Rattle.dp_meaning.specs.Header.{Table, Trans, Obs, Reward}
+use Rattle.dp_meaning.specs.Fields.{Axis}
+use Rattle.dp_meaning.specs.Statements.{axes_of, axis_size, Statement}
+use Rattle.dp_meaning.specs.Cells.{Cell, covers, statements_for, given_chance, given_reward, chance_of_cell, reward_of_cell}
+use Rattle.dp_meaning.specs.Scales.{Text, states_in, joint_observations_in, scales_of}
+use Rattle.dp_meaning.specs.Rows.{Row, row_cells, start_row, trans_rows, obs_rows}
+use Rattle.dp_meaning.specs.Meaning.{text_of, ReadModel, Means, meaning}
+
+-- these bytes say this text and mean this model
+pub record IsMeant (bytes : List ℕ) (text : Text) (r : ReadModel) : Type 0 where
+  pub says : text_of bytes ≡ Ok text
+  pub means : meaning bytes ≡ Means r
+
+-- ---- cells
+
+-- one of these statements covers the cell
+abbrev pub some_covers : List Axis → List Statement → Cell → Bool
+some_covers axes statements cell = list_any (λ s. covers axes s.fields cell) statements
+
+-- no statement of the table covers the cell
+abbrev pub IsUncovered : Text → Table → Cell → Type 0
+IsUncovered text table cell = some_covers (axes_of text.header table) (statements_for table text.statements) cell ≡ false
+
+-- Cells that no statement covers are 0, also in rows that were repaired.
+abbrev pub UncoveredTransitionsAreZero : Type 0
+UncoveredTransitionsAreZero =
+    (bytes : List ℕ) (text : Text) (r : ReadModel) → IsMeant bytes text r →
+    (a s t : ℕ) → a < joint_actions r.model → s < r.model.states → t < r.model.states →
+    IsUncovered text Trans (a ∷ s ∷ t ∷ []) → trans_at r.model a s t ≡ 0
+
+abbrev pub UncoveredObservationsAreZero : Type 0
+UncoveredObservationsAreZero =
+    (bytes : List ℕ) (text : Text) (r : ReadModel) → IsMeant bytes text r →
+    (a t o : ℕ) → a < joint_actions r.model → t < r.model.states → o < joint_observations r.model →
+    IsUncovered text Obs (a ∷ t ∷ o ∷ []) → obs_at r.model a t o ≡ 0
+
+abbrev pub UncoveredRewardsAreZero : Type 0
+UncoveredRewardsAreZero =
+    (bytes : List ℕ) (text : Text) (r : ReadModel) → IsMeant bytes text r →
+    (a s t o : ℕ) → a < joint_actions r.model → s < r.model.states → t < r.model.states → o < joint_observations r.model →
+    IsUncovered text Reward (a ∷ s ∷ t ∷ o ∷ []) → reward_at r.model a s t o ≡ pos 0
+
+-- A statement that covers a cell gives its value, whatever stands before it, where no later one covers the cell.
+abbrev pub LastCoveringChanceWins : Type 0
+LastCoveringChanceWins =
+    (scale : ℕ) (axes : List Axis) (before : List Statement) (s : Statement) (after : List Statement) (cell : Cell) →
+    covers axes s.fields cell ≡ true → some_covers axes after cell ≡ false →
+    chance_of_cell scale axes (before ++ s ∷ after) cell ≡ given_chance scale (map axis_size axes) (length s.fields) cell s.value
+
+abbrev pub LastCoveringRewardWins : Type 0
+LastCoveringRewardWins =
+    (cost : Bool) (scale : ℕ) (axes : List Axis) (before : List Statement) (s : Statement) (after : List Statement) (cell : Cell) →
+    covers axes s.fields cell ≡ true → some_covers axes after cell ≡ false →
+    reward_of_cell cost scale axes (before ++ s ∷ after) cell ≡ given_reward cost scale (map axis_size axes) (length s.fields) cell s.value
+
+-- A statement that does not cover a cell changes nothing of it, wherever it stands.
+abbrev pub OtherCellsAreKept : Type 0
+OtherCellsAreKept =
+    (scale : ℕ) (axes : List Axis) (before : List Statement) (s : Statement) (after : List Statement) (cell : Cell) →
+    covers axes s.fields cell ≡ false →
+    chance_of_cell scale axes (before ++ s ∷ after) cell ≡ chance_of_cell scale axes (before ++ after) cell
+
+abbrev pub OtherRewardsAreKept : Type 0
+OtherRewardsAreKept =
+    (cost : Bool) (scale : ℕ) (axes : List Axis) (before : List Statement) (s : Statement) (after : List Statement) (cell : Cell) →
+    covers axes s.fields cell ≡ false →
+    reward_of_cell cost scale axes (before ++ s ∷ after) cell ≡ reward_of_cell cost scale axes (before ++ after) cell
+
+-- ---- the tables of the model
+
+-- the chance of a cell, and its reward, as the statements of a text give it
+abbrev pub given_trans : Text → Cell → ℕ
+given_trans text cell = chance_of_cell (scales_of text).trans (axes_of text.header Trans) (statements_for Trans text.statements) cell
+
+abbrev pub given_obs : Text → Cell → ℕ
+given_obs text cell = chance_of_cell (scales_of text).obs (axes_of text.header Obs) (statements_for Obs text.statements) cell
+
+abbrev pub given_rewards : Text → Cell → ℤ
+given_rewards text cell = reward_of_cell text.header.cost (scales_of text).reward (axes_of text.header Reward) (statements_for Reward text.statements) cell
+
+-- A row whose chances sum to their scale stands in the model as it is given.
+abbrev pub RightTransitionsAreKept : Type 0
+RightTransitionsAreKept =
+    (bytes : List ℕ) (text : Text) (r : ReadModel) → IsMeant bytes text r →
+    (a s t : ℕ) → a < joint_actions r.model → s < r.model.states → t < r.model.states →
+    sum (map (given_trans text) (row_cells (a ∷ s ∷ []) r.model.states)) ≡ r.model.scales.trans →
+    trans_at r.model a s t ≡ given_trans text (a ∷ s ∷ t ∷ [])
+
+abbrev pub RightObservationsAreKept : Type 0
+RightObservationsAreKept =
+    (bytes : List ℕ) (text : Text) (r : ReadModel) → IsMeant bytes text r →
+    (a t o : ℕ) → a < joint_actions r.model → t < r.model.states → o < joint_observations r.model →
+    sum (map (given_obs text) (row_cells (a ∷ t ∷ []) (joint_observations r.model))) ≡ r.model.scales.obs →
+    obs_at r.model a t o ≡ given_obs text (a ∷ t ∷ o ∷ [])
+
+-- The rewards are as they are given.
+abbrev pub RewardsAreAsGiven : Type 0
+RewardsAreAsGiven =
+    (bytes : List ℕ) (text : Text) (r : ReadModel) → IsMeant bytes text r →
+    (a s t o : ℕ) → a < joint_actions r.model → s < r.model.states → t < r.model.states → o < joint_observations r.model →
+    reward_at r.model a s t o ≡ given_rewards text (a ∷ s ∷ t ∷ o ∷ [])
+
+-- ---- rows
+
+-- Every row of chances sums to its scale.
+abbrev pub RowsSumToTheirScales : Type 0
+RowsSumToTheirScales = (bytes : List ℕ) (r : ReadModel) → meaning bytes ≡ Means r → AreRows r.model
+
+-- the rows of the start, the transitions and the observations as the text gives them
+abbrev pub given_rows : Text → List Row
+given_rows text = start_row text ∷ trans_rows text ++ obs_rows text
+
+-- As many rows were repaired as are given with a sum that is not their scale.
+abbrev pub RepairedRowsAreCounted : Type 0
+RepairedRowsAreCounted =
+    (bytes : List ℕ) (text : Text) (r : ReadModel) → IsMeant bytes text r →
+    r.repaired ≡ count_by (λ row. not (sum row.cells == row.scale)) (given_rows text)
