@@ -7,3 +7,6 @@ pub mod CellNumbers
 pub mod Repairs
 pub mod TableRows
 pub mod Meant
+pub mod CellLaws
+pub mod RowLaws
+pub mod ReadValues

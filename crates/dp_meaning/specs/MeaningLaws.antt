@@ -58,8 +58,8 @@ LastCoveringRewardWins =
     reward_of_cell cost scale axes (before ++ s ∷ after) cell ≡ given_reward cost scale (map axis_size axes) (length s.fields) cell s.value
 
 -- A statement that does not cover a cell changes nothing of it, wherever it stands.
-abbrev pub OtherCellsAreKept : Type 0
-OtherCellsAreKept =
+abbrev pub OtherChancesAreKept : Type 0
+OtherChancesAreKept =
     (scale : ℕ) (axes : List Axis) (before : List Statement) (s : Statement) (after : List Statement) (cell : Cell) →
     covers axes s.fields cell ≡ false →
     chance_of_cell scale axes (before ++ s ∷ after) cell ≡ chance_of_cell scale axes (before ++ after) cell

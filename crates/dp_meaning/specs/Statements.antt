@@ -8,7 +8,7 @@ use Rattle.dp_meaning.specs.Faults.{◌>>=◌, Fault, fault}
 use Rattle.dp_meaning.specs.Items.{Piece, Item, item_at, after_colon, pieces_of}
 use Rattle.dp_meaning.specs.Numbers.{is_chance, is_reward, numbers, ended}
 use Rattle.dp_meaning.specs.NameLists.{size_of, says}
-use Rattle.dp_meaning.specs.Header.{Table, Trans, Obs, Reward, HeaderEntry, StatementOf, NoItem, kind_of, Header}
+use Rattle.dp_meaning.specs.Header.{Table, Trans, Obs, Reward, ItemKind, HeaderEntry, StatementOf, NoItem, kind_of, Header}
 use Rattle.dp_meaning.specs.Fields.{Axis, Part, fields_of, all_parts}
 
 -- ---- the tables
@@ -84,13 +84,14 @@ statement header table item = do
   Ok (record { at = item_at item; table = table; fields = fields; value = value })
 
 -- behind the header there are only statements
+abbrev pub statement_of_kind : Header → Item → ItemKind → Result Statement Fault
+statement_of_kind header item (HeaderEntry e) = fault why.Header (item_at item)
+statement_of_kind header item (StatementOf table) = statement header table item
+statement_of_kind header item NoItem = fault why.Expected (item_at item)
+
 unfoldable pub statements_of : Header → List Item → Result (List Statement) Fault
 statements_of header [] = Ok []
 statements_of header (item ∷ items) = do
-  first ← elim (kind_of item) [
-    | HeaderEntry e ↦ fault why.Header (item_at item)
-    | StatementOf table ↦ statement header table item
-    | NoItem ↦ fault why.Expected (item_at item)
-  ]
+  first ← statement_of_kind header item (kind_of item)
   others ← statements_of header items
   Ok (first ∷ others)

@@ -3,6 +3,15 @@
 //! The meaning is a definition in `specs/`, and what is proved of it is the clause of a public function.
 #![tactic(auto)]
 
+mod cells;
+mod rows;
 mod why;
 
+pub use cells::{
+    last_covering_chance_wins, last_covering_reward_wins, other_chances_are_kept,
+    other_rewards_are_kept, rewards_are_as_given, right_observations_are_kept,
+    right_transitions_are_kept, uncovered_observations_are_zero, uncovered_rewards_are_zero,
+    uncovered_transitions_are_zero,
+};
+pub use rows::{repaired_rows_are_counted, rows_sum_to_their_scales};
 pub use why::Why;
