@@ -10,3 +10,5 @@ pub mod Meant
 pub mod CellLaws
 pub mod RowLaws
 pub mod ReadValues
+pub mod ReadHeader
+pub mod ReadStatements
