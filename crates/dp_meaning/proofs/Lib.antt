@@ -12,3 +12,4 @@ pub mod RowLaws
 pub mod ReadValues
 pub mod ReadHeader
 pub mod ReadStatements
+pub mod ReadScales
