@@ -9,8 +9,10 @@ use Rattle.dp_meaning.specs.Scales.{Text, states_in, joint_actions_in, joint_obs
 use Rattle.dp_meaning.specs.Rows.{row_cells, table_row}
 use Rattle.dp_meaning.specs.Meaning.{ReadModel}
 use Rattle.dp_meaning.specs.MeaningLaws.{IsMeant, IsUncovered, given_trans, given_obs, given_rewards}
-use Rattle.dp_meaning.proofs.TableRows.{given_row, uncovered_of_table, kept_of_table, reward_uncovered}
-use Rattle.dp_meaning.proofs.Meant.{built, meant_text, built_of, trans_table, obs_table, reward_of_place}
+use Rattle.dp_meaning.proofs.TableRows.{given_row, uncovered_of_table, kept_of_table}
+use Rattle.dp_meaning.proofs.CellValues.{reward_uncovered}
+use Rattle.dp_meaning.proofs.Meant.{meant_text}
+use Rattle.dp_meaning.proofs.BuiltModel.{built, built_of, trans_table, obs_table, reward_of_place}
 
 given_trans_row : (text : Text) (a s : ℕ) → (given_row text Trans (scales_of text).trans (states_in text) a s).cells ≡ map (given_trans text) (row_cells (a ∷ s ∷ []) (states_in text))
 unfolding table_row

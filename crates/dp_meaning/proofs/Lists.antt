@@ -8,6 +8,7 @@ use Rattle.std.proofs.lemmas.List.{reverse-append, take_all}
 use Rattle.std.proofs.lemmas.List.Folds.{find-append}
 use Rattle.std.proofs.lemmas.List.Sums.{sum_by-le, sum_by_more, fails_before_first}
 use Rattle.dp_spec.specs.Sums.{nat_sum}
+use Rattle.dp_meaning.proofs.Each.{Each, all_from_each}
 
 -- ---- sums over the numbers below n
 
@@ -31,14 +32,20 @@ sum_of_places xs n e = sum_of_front xs n (omega arith) ∙ ap (λ k. sum (take k
 
 -- ---- the greatest
 
-max_from : (acc : ℕ) (xs : List ℕ) → acc ≤ fold max acc xs
-max_from acc [] = omega arith
-max_from acc (x ∷ xs) = let h = max_from (max acc x) xs in omega arith
+pub most_above : {X : Type 0} (f : X → ℕ) (acc : ℕ) (xs : List X) → acc ≤ fold (λ m x. max m (f x)) acc xs
+most_above f acc [] = omega arith
+most_above f acc (x ∷ xs) = let h = most_above f (max acc (f x)) xs in omega arith
 
-pub below_greatest : (acc : ℕ) (xs : List ℕ) → All (λ x. x ≤ fold max acc xs) xs
-below_greatest acc [] k d h = absurd (omega arith)
-below_greatest acc (x ∷ xs) zero d h = let above = max_from (max acc x) xs in omega arith
-below_greatest acc (x ∷ xs) (suc k) d h = below_greatest (max acc x) xs k d (omega arith)
+pub each_below_most : {X : Type 0} (f : X → ℕ) (acc : ℕ) (xs : List X) → Each (λ x. f x ≤ fold (λ m y. max m (f y)) acc xs) xs
+each_below_most f acc [] = tt
+each_below_most f acc (x ∷ xs) = ((let h = most_above f (max acc (f x)) xs in omega arith), each_below_most f (max acc (f x)) xs)
+
+pub most_below : {X : Type 0} (f : X → ℕ) (n acc : ℕ) (xs : List X) → acc ≤ n → Each (λ x. f x ≤ n) xs → fold (λ m x. max m (f x)) acc xs ≤ n
+most_below f n acc [] h each = h
+most_below f n acc (x ∷ xs) h each = most_below f n (max acc (f x)) xs (let k = each.0 in omega arith) each.1
+
+pub below_greatest : (xs : List ℕ) → All (λ x. x ≤ fold max 0 xs) xs
+below_greatest xs = all_from_each (λ x. x ≤ fold max 0 xs) xs (each_below_most (λ x. x) 0 xs)
 
 dec_le : (a b : ℕ) → (a ≤ b) ⊎ (b < a)
 dec_le a b = grind arith
@@ -66,7 +73,7 @@ pub first_greatest : (xs : List ℕ) → 0 < length xs → position_or_len (λ n
 first_greatest [] h = absurd (omega arith)
 first_greatest (x ∷ xs) h = elim (greatest_at 0 (x ∷ xs)) [
   | inl e ↦
-      let here = below_greatest 0 (x ∷ xs) 0 0 h in
+      let here = below_greatest (x ∷ xs) 0 0 h in
       let same : x ≡ fold max 0 (x ∷ xs) = omega arith in
       let first = first_no_later (λ n. n == fold max 0 (x ∷ xs)) (x ∷ xs) 0 0 (equal x _ same) in omega arith
   | inr w ↦

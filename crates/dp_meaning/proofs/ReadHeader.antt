@@ -10,7 +10,8 @@ use Rattle.dp_meaning.specs.NameLists.{NameList, size_of, name_list, name_lists}
 use Rattle.dp_meaning.specs.Entries.{Start, discount_of, is_cost, agent_lines, start_of}
 use Rattle.dp_meaning.specs.Header.{Entry, Agents, Discount, Values, States, StartEntry, Actions, Observations, ItemKind, HeaderEntry, StatementOf, NoItem, kind_of, Entries, Header, no_entries, unless_come, entry, with_entry, header_with, header_of}
 use Rattle.dp_meaning.proofs.FaultSteps.{done, failed, ok_same, err_not_ok, bind_ok}
-use Rattle.dp_meaning.proofs.ReadValues.{Each, number_fits, ended_same, list_not_empty, lists_not_empty}
+use Rattle.dp_meaning.proofs.Each.{Each}
+use Rattle.dp_meaning.proofs.ReadValues.{number_fits, ended_same, list_not_empty, lists_not_empty}
 
 -- lists for the agents: one for each, none of them empty
 pub record AreLists (agents : NameList) (lists : List NameList) : Type 0 where

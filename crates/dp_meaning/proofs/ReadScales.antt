@@ -19,7 +19,8 @@ use Rattle.dp_meaning.specs.Fields.{Axis}
 use Rattle.dp_meaning.specs.Statements.{axis_size, is_number_of, Value, Uniform, Identity, Numbers, Statement}
 use Rattle.dp_meaning.specs.Cells.{Cell, covers, is_same_table, statements_for, last_covering, no_number, number_at, reward_over, given_reward, reward_by, reward_of_cell}
 use Rattle.dp_meaning.specs.Scales.{most_digits, digits_of_value, digits_of_statements, scale_of, start_scale}
-use Rattle.dp_meaning.proofs.ReadValues.{Each, each_at}
+use Rattle.dp_meaning.proofs.Each.{Each, each_at, each_with, each_from, each_reverse}
+use Rattle.dp_meaning.proofs.Lists.{each_below_most, most_below}
 use Rattle.dp_meaning.proofs.ReadStatements.{numbers_in, IsStatement}
 
 -- ---- scales are not 0
@@ -40,42 +41,6 @@ pub some_start_scale : (start : Start) (states : ℕ) → 0 < states → 0 < sta
 some_start_scale AnyState states h = some_scale 0 true states h
 some_start_scale (OneState s) states h = some_scale 0 false states h
 some_start_scale (StartRow at ns) states h = some_scale (most_digits ns) false states h
-
--- ---- the greatest of a list
-
-most_above : {X : Type 0} (f : X → ℕ) (acc : ℕ) (xs : List X) → acc ≤ fold (λ m x. max m (f x)) acc xs
-most_above f acc [] = omega arith
-most_above f acc (x ∷ xs) = let h = most_above f (max acc (f x)) xs in omega arith
-
-each_below_most : {X : Type 0} (f : X → ℕ) (acc : ℕ) (xs : List X) → Each (λ x. f x ≤ fold (λ m y. max m (f y)) acc xs) xs
-each_below_most f acc [] = tt
-each_below_most f acc (x ∷ xs) = ((let h = most_above f (max acc (f x)) xs in omega arith), each_below_most f (max acc (f x)) xs)
-
-most_below : {X : Type 0} (f : X → ℕ) (n acc : ℕ) (xs : List X) → acc ≤ n → Each (λ x. f x ≤ n) xs → fold (λ m x. max m (f x)) acc xs ≤ n
-most_below f n acc [] h each = h
-most_below f n acc (x ∷ xs) h each = most_below f n (max acc (f x)) xs (let k = each.0 in omega arith) each.1
-
--- ---- what each element has
-
-each_with : {X : Type 0} (P Q : X → Type 0) (xs : List X) → Each P xs → Each Q xs → Each (λ x. P x × Q x) xs
-each_with P Q [] p q = tt
-each_with P Q (x ∷ xs) p q = ((p.0, q.0), each_with P Q xs p.1 q.1)
-
-each_from : {X : Type 0} (P Q : X → Type 0) → ((x : X) → P x → Q x) → (xs : List X) → Each P xs → Each Q xs
-each_from P Q h [] p = tt
-each_from P Q h (x ∷ xs) p = (h x p.0, each_from P Q h xs p.1)
-
-each_append : {X : Type 0} (P : X → Type 0) (xs ys : List X) → Each P xs → Each P ys → Each P (xs ++ ys)
-each_append P [] ys p q = q
-each_append P (x ∷ xs) ys p q = (p.0, each_append P xs ys p.1 q)
-
-each_reverse : {X : Type 0} (P : X → Type 0) (xs : List X) → Each P xs → Each P (reverse xs)
-each_reverse P [] p = tt
-each_reverse P (x ∷ xs) p = subst (Each P) (sym (reverse-append (x ∷ []) xs)) (each_append P (reverse xs) (x ∷ []) (each_reverse P xs p.1) (p.0, tt))
-
-pub each_of_range : {X : Type 0} (P : X → Type 0) (f : ℕ → X) (a n : ℕ) → ((k : ℕ) → P (f k)) → Each P (map f (range_with_len a n))
-each_of_range P f a zero h = tt
-each_of_range P f a (suc n) h = (h a, each_of_range P f (a + 1) n h)
 
 -- ---- rewards
 

@@ -12,7 +12,8 @@ use Rattle.dp_meaning.specs.Header.{Table, ItemKind, HeaderEntry, StatementOf, N
 use Rattle.dp_meaning.specs.Fields.{Axis, fields_of, all_parts}
 use Rattle.dp_meaning.specs.Statements.{axes_of, axis_size, least_fields, Value, Uniform, Identity, Numbers, allows_uniform, allows_identity, is_number_of, value_of, Statement, unless_too_few, statement, statement_of_kind, statements_of}
 use Rattle.dp_meaning.proofs.FaultSteps.{done, ok_same, err_not_ok, bind_ok}
-use Rattle.dp_meaning.proofs.ReadValues.{Each, ended_same, numbers_fit}
+use Rattle.dp_meaning.proofs.Each.{Each}
+use Rattle.dp_meaning.proofs.ReadValues.{ended_same, numbers_fit}
 
 -- the Numbers of a value
 abbrev pub numbers_in : Value → List Decimal

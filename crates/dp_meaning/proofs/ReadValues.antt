@@ -15,18 +15,8 @@ use Rattle.dp_meaning.specs.Faults.{◌>>=◌, Fault, fault}
 use Rattle.dp_meaning.specs.Items.{Piece}
 use Rattle.dp_meaning.specs.Numbers.{number_in, number, ended, numbers}
 use Rattle.dp_meaning.specs.NameLists.{NameList, Counted, Named, size_of, index, names_after, count, name_list, name_lists}
+use Rattle.dp_meaning.proofs.Each.{Each}
 use Rattle.dp_meaning.proofs.FaultSteps.{done, failed, ok_same, err_not_ok, bind_ok}
-
--- each element has the property
-abbrev pub Each : {X : Type 0} → (X → Type 0) → List X → Type 0
-Each P [] = Unit {0}
-Each P (x ∷ xs) = P x × Each P xs
-
--- so has the one at a place, where the default has it
-pub each_at : {X : Type 0} (P : X → Type 0) (xs : List X) (k : ℕ) (d : X) → Each P xs → P d → P (get_or xs k d)
-each_at P [] k d each h = h
-each_at P (x ∷ xs) zero d each h = each.0
-each_at P (x ∷ xs) (suc k) d each h = each_at P xs k d each.1 h
 
 -- ---- numbers
 

@@ -27,7 +27,7 @@ sum_of_repaired scale (x ∷ xs) short near =
     let at : get_or (x ∷ xs) (position_or_len (λ n. n == greatest_cell (x ∷ xs)) (x ∷ xs)) 0 ≡ greatest_cell (x ∷ xs) =
         equal _ _ (passes_at_first (λ n. n == greatest_cell (x ∷ xs)) (x ∷ xs) 0 first) in
     let written = sum_by-set (λ n. n) (x ∷ xs) (position_or_len (λ n. n == greatest_cell (x ∷ xs)) (x ∷ xs)) (greatest_cell (x ∷ xs) + scale - sum (x ∷ xs)) 0 first in
-    let most = sum_by-le (λ n. n) (greatest_cell (x ∷ xs)) (x ∷ xs) (below_greatest 0 (x ∷ xs)) in
+    let most = sum_by-le (λ n. n) (greatest_cell (x ∷ xs)) (x ∷ xs) (below_greatest (x ∷ xs)) in
     enough (length (x ∷ xs)) (greatest_cell (x ∷ xs)) scale (sum (x ∷ xs)) _ _ short most (near_parts scale (sum (x ∷ xs)) near) at written
   where
     equal : (a b : ℕ) → (a == b) ≡ true → a ≡ b
@@ -45,7 +45,7 @@ unfolding repaired_cells
 zero_of_repaired scale cells i h near none = elim (dec_eq i place) [
   | inl e ↦
       let at = passes_at_first (λ n. n == greatest_cell cells) cells 0 (subst (λ k. k < length cells) e h) in
-      let most = sum_by-le (λ n. n) (greatest_cell cells) cells (below_greatest 0 cells) in
+      let most = sum_by-le (λ n. n) (greatest_cell cells) cells (below_greatest cells) in
       let greatest : greatest_cell cells ≡ 0 = sym (equal _ _ at) ∙ ap (λ k. get_or cells k 0) (sym e) ∙ none in
       ap (λ k. get_or (set cells place new) k 0) e ∙ get_or-set_same cells place new 0 (subst (λ k. k < length cells) e h)
       ∙ nothing (length cells) (greatest_cell cells) scale (sum cells) greatest most (near_parts scale (sum cells) near)

@@ -10,9 +10,11 @@ use Rattle.dp_meaning.specs.Meaning.{ReadModel, Means, meaning}
 use Rattle.dp_meaning.specs.MeaningLaws.{IsMeant, given_rows}
 use Rattle.dp_meaning.proofs.Repairs.{repaired_count}
 use Rattle.dp_meaning.proofs.TableRows.{sum_of_table_row}
-use Rattle.dp_meaning.proofs.Meant.{IsWithin, meant, meant_text, IsSmall, small, built, IsBuilt, built_of, trans_table, obs_table, sum_of_start}
+use Rattle.dp_meaning.proofs.Meant.{IsWithin, meant, meant_text}
+use Rattle.dp_meaning.proofs.TextLimits.{IsSmall, small}
+use Rattle.dp_meaning.proofs.BuiltModel.{built, IsBuilt, built_of, trans_table, obs_table, sum_of_start}
 
-built_rows : (end : ℕ) (text : Text) (r : ReadModel) (w : IsBuilt end text r) → IsSmall text → AreRows (built text w.start.cells w.trans.cells w.obs.cells)
+pub built_rows : (end : ℕ) (text : Text) (r : ReadModel) (w : IsBuilt end text r) → IsSmall text → AreRows (built text w.start.cells w.trans.cells w.obs.cells)
 unfolding joint_actions joint_observations start_at trans_at obs_at
 built_rows end text r w is = record {
   start = (sum_of_start end text w.start (let h = is.states in omega arith) w.start_is).1;

@@ -1,14 +1,16 @@
 -- What holds of the meaning of a model file, in words that do not follow its reading.
-use Rattle.std.specs.Prelude.{◌≡◌, ℕ, ◌<◌, Bool, true, false, not, ◌==◌, ℤ, pos, List, [], ◌∷◌, ◌++◌, length, map, sum, count_by, Result, Ok}
+use Rattle.std.specs.Prelude.{◌≡◌, ℕ, ◌<◌, Bool, true, false, not, ◌==◌, ℤ, pos, List, [], ◌∷◌, ◌++◌, length, map, sum, count_by, Some, Result, Ok}
 use Rattle.std.specs.List.{list_any}
+use Rattle.dp_lexer.specs.Comments.{first_bad}
 use Rattle.dp_spec.specs.Model.{Model, joint_actions, joint_observations, trans_at, obs_at, reward_at, AreRows, IsModel}
+use Rattle.dp_meaning.specs.declared.why.Why.TheVariants.{BadByte}
 use Rattle.dp_meaning.specs.Header.{Table, Trans, Obs, Reward}
 use Rattle.dp_meaning.specs.Fields.{Axis}
 use Rattle.dp_meaning.specs.Statements.{axes_of, axis_size, Statement}
 use Rattle.dp_meaning.specs.Cells.{Cell, covers, statements_for, given_chance, given_reward, chance_of_cell, reward_of_cell}
 use Rattle.dp_meaning.specs.Scales.{Text, states_in, joint_observations_in, scales_of}
 use Rattle.dp_meaning.specs.Rows.{Row, row_cells, start_row, trans_rows, obs_rows}
-use Rattle.dp_meaning.specs.Meaning.{text_of, ReadModel, Means, meaning}
+use Rattle.dp_meaning.specs.Meaning.{text_of, ReadModel, Means, FaultAt, place_of, meaning}
 
 -- these bytes say this text and mean this model
 pub record IsMeant (bytes : List ℕ) (text : Text) (r : ReadModel) : Type 0 where
@@ -119,3 +121,16 @@ abbrev pub RepairedRowsAreCounted : Type 0
 RepairedRowsAreCounted =
     (bytes : List ℕ) (text : Text) (r : ReadModel) → IsMeant bytes text r →
     r.repaired ≡ count_by (λ row. not (sum row.cells == row.scale)) (given_rows text)
+
+-- ---- the model
+
+-- What a file means is a model.
+abbrev pub MeaningsAreModels : Type 0
+MeaningsAreModels = (bytes : List ℕ) (r : ReadModel) → meaning bytes ≡ Means r → IsModel r.model
+
+-- ---- faults
+
+-- The first bad byte is what is wrong with a text that has one.
+abbrev pub BadBytesComeFirst : Type 0
+BadBytesComeFirst =
+    (bytes : List ℕ) (at : ℕ) → first_bad bytes ≡ Some at → meaning bytes ≡ FaultAt (place_of bytes at) BadByte

@@ -30,25 +30,25 @@ pub fn uncovered_rewards_are_zero()
 {}
 
 /// The last statement that covers a chance gives it.
-#[tactic(auto, using(crate::proofs::TableRows::chance_of_last))]
+#[tactic(auto, using(crate::proofs::CellValues::chance_of_last))]
 pub fn last_covering_chance_wins()
     ensures { LastCoveringChanceWins }
 {}
 
 /// The last statement that covers a reward gives it.
-#[tactic(auto, using(crate::proofs::TableRows::reward_of_last))]
+#[tactic(auto, using(crate::proofs::CellValues::reward_of_last))]
 pub fn last_covering_reward_wins()
     ensures { LastCoveringRewardWins }
 {}
 
 /// A statement changes no chance that it does not cover.
-#[tactic(auto, using(crate::proofs::TableRows::chance_of_others))]
+#[tactic(auto, using(crate::proofs::CellValues::chance_of_others))]
 pub fn other_chances_are_kept()
     ensures { OtherChancesAreKept }
 {}
 
 /// A statement changes no reward that it does not cover.
-#[tactic(auto, using(crate::proofs::TableRows::reward_of_others))]
+#[tactic(auto, using(crate::proofs::CellValues::reward_of_others))]
 pub fn other_rewards_are_kept()
     ensures { OtherRewardsAreKept }
 {}

@@ -4,6 +4,8 @@
 #![tactic(auto)]
 
 mod cells;
+mod faults;
+mod models;
 mod rows;
 mod why;
 
@@ -13,5 +15,7 @@ pub use cells::{
     right_transitions_are_kept, uncovered_observations_are_zero, uncovered_rewards_are_zero,
     uncovered_transitions_are_zero,
 };
+pub use faults::bad_bytes_come_first;
+pub use models::meanings_are_models;
 pub use rows::{repaired_rows_are_counted, rows_sum_to_their_scales};
 pub use why::Why;

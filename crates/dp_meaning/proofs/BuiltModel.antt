@@ -1,0 +1,117 @@
+-- The model of a text, table by table.
+use Rattle.std.proofs.Common.{◌≡◌, ℕ, zero, suc, ◌+◌, ◌*◌, ◌<◌, ◌≤◌, Bool, true, false, List, [], ◌∷◌, ◌++◌, length, get_or, map, refl, sym, ap, subst, ◌∙◌, arith, pos, cond, ◌^◌}
+use Rattle.std.specs.Prelude.{ℤ, not, ◌==◌, nat_lt, sum, count_by, Option, Some, None, Result, Ok, Err}
+use Rattle.std.specs.List.{range_with_len, list_any}
+use Rattle.std.proofs.lemmas.Bool.Decides.{nat_tests}
+use Rattle.std.proofs.lemmas.List.{append-nil}
+use Rattle.std.proofs.lemmas.List.FromFn.{length-map-range_with_len, get_or-map-range_with_len}
+use Rattle.std.proofs.lemmas.List.Sums.{sum_by-append, sum_by-cons}
+use Rattle.dp_model.specs.declared.limit.Limit.{Limit}
+use Rattle.dp_model.specs.declared.limit.TooLarge.{TooLarge}
+use Rattle.dp_spec.specs.JointNumbers.{product, parts_of}
+use Rattle.dp_spec.specs.Sums.{nat_sum}
+use Rattle.dp_spec.specs.Model.{Model, joint_actions, joint_observations, start_at, trans_at, obs_at, reward_at, AreRows}
+use Rattle.dp_meaning.specs.Faults.{◌>>=◌, Fault}
+use Rattle.dp_meaning.specs.NameLists.{size_of}
+use Rattle.dp_meaning.specs.Header.{Table, Trans, Obs, Reward}
+use Rattle.dp_meaning.specs.Statements.{axes_of}
+use Rattle.dp_meaning.specs.Cells.{covers, statements_for, chance_of_cell, reward_of_cell}
+use Rattle.dp_meaning.specs.Scales.{Text, states_in, joint_actions_in, joint_observations_in, scales_of}
+use Rattle.dp_meaning.specs.Rows.{Row, Repaired, start_chance, row_cells, start_row, table_row, trans_rows, obs_rows, repair, repair_all}
+use Rattle.dp_meaning.specs.Limits.{at_most, first_passed, product_past, tried_limits, passed_limit}
+use Rattle.dp_meaning.specs.Meaning.{text_of, ReadModel, names_of, rewards_of, model_of, Meaning, Means, place_of, meaning_of_model, meaning_within, meaning_of_text, meaning}
+use Rattle.dp_meaning.specs.MeaningLaws.{IsMeant}
+use Rattle.dp_meaning.proofs.CellNumbers.{parts_of_cell, cell_below}
+use Rattle.dp_meaning.proofs.FaultSteps.{done, ok_same, bind_ok}
+use Rattle.dp_meaning.proofs.Repairs.{IsRepair, repair_ok, repair_all_ok}
+use Rattle.dp_meaning.proofs.Lists.{sum_of_places}
+use Rattle.dp_meaning.proofs.TableRows.{IsTable, table_is, sum_of_table_row, uncovered_of_table, kept_of_table}
+
+-- the model of a text whose tables have these cells
+abbrev pub built : Text → List ℕ → List ℕ → List ℕ → Model
+built text start trans obs = record {
+  states = states_in text;
+  actions = map size_of text.header.actions;
+  observations = map size_of text.header.observations;
+  scales = scales_of text;
+  start = start;
+  trans = trans;
+  obs = obs;
+  reward = rewards_of text;
+}
+
+-- the tables that are read, and how many rows of each were repaired
+pub record IsBuilt (end : ℕ) (text : Text) (r : ReadModel) : Type 0 where
+  pub start : Repaired
+  pub trans : Repaired
+  pub obs : Repaired
+  pub start_is : repair_all end (start_row text ∷ []) ≡ done start
+  pub trans_is : repair_all end (trans_rows text) ≡ done trans
+  pub obs_is : repair_all end (obs_rows text) ≡ done obs
+  pub model : r.model ≡ built text start.cells trans.cells obs.cells
+  pub repaired : r.repaired ≡ start.repaired + trans.repaired + obs.repaired
+
+pub built_of : (end : ℕ) (text : Text) (r : ReadModel) → model_of end text ≡ done r → IsBuilt end text r
+unfolding model_of
+built_of end text r e =
+    let start = bind_ok (repair_all end (start_row text ∷ [])) _ r e in
+    let trans = bind_ok (repair_all end (trans_rows text)) _ r start.2 in
+    let obs = bind_ok (repair_all end (obs_rows text)) _ r trans.2 in
+    let same = sym (ok_same _ r obs.2) in
+    record {
+      start = start.0; trans = trans.0; obs = obs.0;
+      start_is = start.1; trans_is = trans.1; obs_is = obs.1;
+      model = ap (λ x. x.model) same;
+      repaired = ap (λ x. x.repaired) same;
+    }
+
+pub trans_table : (end : ℕ) (text : Text) (x : Repaired) → repair_all end (trans_rows text) ≡ done x
+    → IsTable text Trans (scales_of text).trans (states_in text) x.cells
+unfolding trans_rows
+trans_table end text x e = table_is end text Trans (scales_of text).trans (states_in text) x e
+
+pub obs_table : (end : ℕ) (text : Text) (x : Repaired) → repair_all end (obs_rows text) ≡ done x
+    → IsTable text Obs (scales_of text).obs (joint_observations_in text) x.cells
+unfolding obs_rows
+obs_table end text x e = table_is end text Obs (scales_of text).obs (joint_observations_in text) x e
+
+length_of_start : (text : Text) → length (start_row text).cells ≡ states_in text
+unfolding start_row
+length_of_start text = length-map-range_with_len (start_chance (scales_of text).start (states_in text) text.header.start) 0 (states_in text)
+
+scale_of_start : (text : Text) → (start_row text).scale ≡ (scales_of text).start
+unfolding start_row
+scale_of_start text = refl
+
+no_rows : (end : ℕ) (y : Repaired) → repair_all end [] ≡ done y → y.cells ≡ []
+unfolding repair_all
+no_rows end y f = ap (λ z. z.cells) (sym (ok_same _ y f))
+
+-- the row of the start sums to its scale
+pub sum_of_start : (end : ℕ) (text : Text) (x : Repaired) → states_in text < 1000 → repair_all end (start_row text ∷ []) ≡ done x
+    → (length x.cells ≡ states_in text) × (nat_sum (states_in text) (λ s. get_or x.cells s 0) ≡ (scales_of text).start)
+sum_of_start end text x short e =
+    let w = repair_all_ok end (start_row text) [] x e in
+    let is = repair_ok end (start_row text) w.0 w.2 in
+    let none = no_rows end w.1 w.3 in
+    let cells : x.cells ≡ w.0.cells = ap (λ y. y.cells) (sym w.4) ∙ ap (λ c. w.0.cells ++ c) none ∙ append-nil w.0.cells in
+    let long = is.len ∙ length_of_start text in
+    (ap length cells ∙ long,
+      ap (λ c. nat_sum (states_in text) (λ s. get_or c s 0)) cells ∙ sum_of_places w.0.cells (states_in text) long
+      ∙ is.sums (subst (λ n. n < 1000) (sym (length_of_start text)) short) ∙ scale_of_start text)
+
+-- ---- rewards
+
+pub length_of_rewards : (text : Text) → length (rewards_of text) ≡ joint_actions_in text * states_in text * states_in text * joint_observations_in text
+unfolding rewards_of
+length_of_rewards text = length-map-range_with_len _ 0 _
+
+pub reward_of_place : (text : Text) (a s t o : ℕ) → a < joint_actions_in text → s < states_in text → t < states_in text → o < joint_observations_in text
+    → get_or (rewards_of text) (((a * states_in text + s) * states_in text + t) * joint_observations_in text + o) (pos 0)
+      ≡ reward_of_cell text.header.cost (scales_of text).reward (axes_of text.header Reward) (statements_for Reward text.statements) (a ∷ s ∷ t ∷ o ∷ [])
+unfolding rewards_of
+reward_of_place text a s t o ha hs ht ho =
+    let at = ((a * states_in text + s) * states_in text + t) * joint_observations_in text + o in
+    get_or-map-range_with_len _ 0 _ at at (pos 0) (cell_below (joint_actions_in text) (states_in text) (states_in text) (joint_observations_in text) a s t o ha hs ht ho) (omega arith)
+    ∙ ap (reward_of_cell text.header.cost (scales_of text).reward (axes_of text.header Reward) (statements_for Reward text.statements))
+      (parts_of_cell (joint_actions_in text) (states_in text) (states_in text) (joint_observations_in text) a s t o ha hs ht ho)
