@@ -1,31 +1,21 @@
 -- The model of a text, table by table.
-use Rattle.std.proofs.Common.{◌≡◌, ℕ, zero, suc, ◌+◌, ◌*◌, ◌<◌, ◌≤◌, Bool, true, false, List, [], ◌∷◌, ◌++◌, length, get_or, map, refl, sym, ap, subst, ◌∙◌, arith, pos, cond, ◌^◌}
-use Rattle.std.specs.Prelude.{ℤ, not, ◌==◌, nat_lt, sum, count_by, Option, Some, None, Result, Ok, Err}
-use Rattle.std.specs.List.{range_with_len, list_any}
-use Rattle.std.proofs.lemmas.Bool.Decides.{nat_tests}
+use Rattle.std.proofs.Common.{◌≡◌, ℕ, ◌+◌, ◌*◌, ◌<◌, List, [], ◌∷◌, ◌++◌, length, get_or, map, refl, sym, ap, subst, ◌∙◌, arith, pos}
 use Rattle.std.proofs.lemmas.List.{append-nil}
 use Rattle.std.proofs.lemmas.List.FromFn.{length-map-range_with_len, get_or-map-range_with_len}
-use Rattle.std.proofs.lemmas.List.Sums.{sum_by-append, sum_by-cons}
-use Rattle.dp_model.specs.declared.limit.Limit.{Limit}
-use Rattle.dp_model.specs.declared.limit.TooLarge.{TooLarge}
-use Rattle.dp_spec.specs.JointNumbers.{product, parts_of}
 use Rattle.dp_spec.specs.Sums.{nat_sum}
-use Rattle.dp_spec.specs.Model.{Model, joint_actions, joint_observations, start_at, trans_at, obs_at, reward_at, AreRows}
-use Rattle.dp_meaning.specs.Faults.{◌>>=◌, Fault}
+use Rattle.dp_spec.specs.Model.{Model}
 use Rattle.dp_meaning.specs.NameLists.{size_of}
-use Rattle.dp_meaning.specs.Header.{Table, Trans, Obs, Reward}
+use Rattle.dp_meaning.specs.Header.{Trans, Obs, Reward}
 use Rattle.dp_meaning.specs.Statements.{axes_of}
-use Rattle.dp_meaning.specs.Cells.{covers, statements_for, chance_of_cell, reward_of_cell}
+use Rattle.dp_meaning.specs.Cells.{statements_for, reward_of_cell}
 use Rattle.dp_meaning.specs.Scales.{Text, states_in, joint_actions_in, joint_observations_in, scales_of}
-use Rattle.dp_meaning.specs.Rows.{Row, Repaired, start_chance, row_cells, start_row, table_row, trans_rows, obs_rows, repair, repair_all}
-use Rattle.dp_meaning.specs.Limits.{at_most, first_passed, product_past, tried_limits, passed_limit}
-use Rattle.dp_meaning.specs.Meaning.{text_of, ReadModel, names_of, rewards_of, model_of, Meaning, Means, place_of, meaning_of_model, meaning_within, meaning_of_text, meaning}
-use Rattle.dp_meaning.specs.MeaningLaws.{IsMeant}
+use Rattle.dp_meaning.specs.Rows.{Repaired, start_chance, start_row, trans_rows, obs_rows, repair_all}
+use Rattle.dp_meaning.specs.Meaning.{ReadModel, rewards_of, model_of}
 use Rattle.dp_meaning.proofs.CellNumbers.{parts_of_cell, cell_below}
 use Rattle.dp_meaning.proofs.FaultSteps.{done, ok_same, bind_ok}
-use Rattle.dp_meaning.proofs.Repairs.{IsRepair, repair_ok, repair_all_ok}
+use Rattle.dp_meaning.proofs.Repairs.{repair_ok, repair_all_ok}
 use Rattle.dp_meaning.proofs.Lists.{sum_of_places}
-use Rattle.dp_meaning.proofs.TableRows.{IsTable, table_is, sum_of_table_row, uncovered_of_table, kept_of_table}
+use Rattle.dp_meaning.proofs.TableRows.{IsTable, table_is}
 
 -- the model of a text whose tables have these cells
 abbrev pub built : Text → List ℕ → List ℕ → List ℕ → Model
@@ -59,8 +49,12 @@ built_of end text r e =
     let obs = bind_ok (repair_all end (obs_rows text)) _ r trans.2 in
     let same = sym (ok_same _ r obs.2) in
     record {
-      start = start.0; trans = trans.0; obs = obs.0;
-      start_is = start.1; trans_is = trans.1; obs_is = obs.1;
+      start = start.0;
+      trans = trans.0;
+      obs = obs.0;
+      start_is = start.1;
+      trans_is = trans.1;
+      obs_is = obs.1;
       model = ap (λ x. x.model) same;
       repaired = ap (λ x. x.repaired) same;
     }
@@ -95,10 +89,11 @@ sum_of_start end text x short e =
     let is = repair_ok end (start_row text) w.0 w.2 in
     let none = no_rows end w.1 w.3 in
     let cells : x.cells ≡ w.0.cells = ap (λ y. y.cells) (sym w.4) ∙ ap (λ c. w.0.cells ++ c) none ∙ append-nil w.0.cells in
-    let long = is.len ∙ length_of_start text in
-    (ap length cells ∙ long,
+    let long = is.len ∙ length_of_start text in (
+      ap length cells ∙ long,
       ap (λ c. nat_sum (states_in text) (λ s. get_or c s 0)) cells ∙ sum_of_places w.0.cells (states_in text) long
-      ∙ is.sums (subst (λ n. n < 1000) (sym (length_of_start text)) short) ∙ scale_of_start text)
+          ∙ is.sums (subst (λ n. n < 1000) (sym (length_of_start text)) short) ∙ scale_of_start text,
+    )
 
 -- ---- rewards
 
@@ -108,10 +103,10 @@ length_of_rewards text = length-map-range_with_len _ 0 _
 
 pub reward_of_place : (text : Text) (a s t o : ℕ) → a < joint_actions_in text → s < states_in text → t < states_in text → o < joint_observations_in text
     → get_or (rewards_of text) (((a * states_in text + s) * states_in text + t) * joint_observations_in text + o) (pos 0)
-      ≡ reward_of_cell text.header.cost (scales_of text).reward (axes_of text.header Reward) (statements_for Reward text.statements) (a ∷ s ∷ t ∷ o ∷ [])
+    ≡ reward_of_cell text.header.cost (scales_of text).reward (axes_of text.header Reward) (statements_for Reward text.statements) (a ∷ s ∷ t ∷ o ∷ [])
 unfolding rewards_of
 reward_of_place text a s t o ha hs ht ho =
     let at = ((a * states_in text + s) * states_in text + t) * joint_observations_in text + o in
     get_or-map-range_with_len _ 0 _ at at (pos 0) (cell_below (joint_actions_in text) (states_in text) (states_in text) (joint_observations_in text) a s t o ha hs ht ho) (omega arith)
     ∙ ap (reward_of_cell text.header.cost (scales_of text).reward (axes_of text.header Reward) (statements_for Reward text.statements))
-      (parts_of_cell (joint_actions_in text) (states_in text) (states_in text) (joint_observations_in text) a s t o ha hs ht ho)
+    (parts_of_cell (joint_actions_in text) (states_in text) (states_in text) (joint_observations_in text) a s t o ha hs ht ho)

@@ -1,18 +1,18 @@
 -- The cells of the model that a text means.
-use Rattle.std.proofs.Common.{◌≡◌, ℕ, ◌+◌, ◌*◌, ◌<◌, List, [], ◌∷◌, length, get_or, map, refl, sym, ap, subst, ◌∙◌, pos}
+use Rattle.std.proofs.Common.{◌≡◌, ℕ, ◌<◌, List, [], ◌∷◌, length, map, refl, sym, ap, subst, ◌∙◌, pos}
 use Rattle.std.specs.Prelude.{sum}
-use Rattle.dp_spec.specs.Model.{Model, joint_actions, joint_observations, trans_at, obs_at, reward_at}
+use Rattle.dp_spec.specs.Model.{joint_actions, joint_observations, trans_at, obs_at, reward_at}
 use Rattle.dp_meaning.specs.Header.{Trans, Obs, Reward}
 use Rattle.dp_meaning.specs.Statements.{axes_of}
 use Rattle.dp_meaning.specs.Cells.{statements_for}
-use Rattle.dp_meaning.specs.Scales.{Text, states_in, joint_actions_in, joint_observations_in, scales_of}
+use Rattle.dp_meaning.specs.Scales.{Text, states_in, joint_observations_in, scales_of}
 use Rattle.dp_meaning.specs.Rows.{row_cells, table_row}
 use Rattle.dp_meaning.specs.Meaning.{ReadModel}
 use Rattle.dp_meaning.specs.MeaningLaws.{IsMeant, IsUncovered, given_trans, given_obs, given_rewards}
 use Rattle.dp_meaning.proofs.TableRows.{given_row, uncovered_of_table, kept_of_table}
 use Rattle.dp_meaning.proofs.CellValues.{reward_uncovered}
 use Rattle.dp_meaning.proofs.Meant.{meant_text}
-use Rattle.dp_meaning.proofs.BuiltModel.{built, built_of, trans_table, obs_table, reward_of_place}
+use Rattle.dp_meaning.proofs.BuiltModel.{built_of, trans_table, obs_table, reward_of_place}
 
 given_trans_row : (text : Text) (a s : ℕ) → (given_row text Trans (scales_of text).trans (states_in text) a s).cells ≡ map (given_trans text) (row_cells (a ∷ s ∷ []) (states_in text))
 unfolding table_row
@@ -29,7 +29,7 @@ unfolding joint_actions trans_at
 uncovered_transition bytes text r h a s t =
     let w = built_of (length bytes) text r (meant_text bytes text r h).model in
     subst (λ m. a < joint_actions m → s < m.states → t < m.states → IsUncovered text Trans (a ∷ s ∷ t ∷ []) → trans_at m a s t ≡ 0) (sym w.model)
-      (uncovered_of_table text Trans (scales_of text).trans (states_in text) w.trans.cells (trans_table (length bytes) text w.trans w.trans_is) a s t)
+    (uncovered_of_table text Trans (scales_of text).trans (states_in text) w.trans.cells (trans_table (length bytes) text w.trans w.trans_is) a s t)
 
 pub uncovered_observation : (bytes : List ℕ) (text : Text) (r : ReadModel) → IsMeant bytes text r
     → (a t o : ℕ) → a < joint_actions r.model → t < r.model.states → o < joint_observations r.model
@@ -38,7 +38,7 @@ unfolding joint_actions joint_observations obs_at
 uncovered_observation bytes text r h a t o =
     let w = built_of (length bytes) text r (meant_text bytes text r h).model in
     subst (λ m. a < joint_actions m → t < m.states → o < joint_observations m → IsUncovered text Obs (a ∷ t ∷ o ∷ []) → obs_at m a t o ≡ 0) (sym w.model)
-      (uncovered_of_table text Obs (scales_of text).obs (joint_observations_in text) w.obs.cells (obs_table (length bytes) text w.obs w.obs_is) a t o)
+    (uncovered_of_table text Obs (scales_of text).obs (joint_observations_in text) w.obs.cells (obs_table (length bytes) text w.obs w.obs_is) a t o)
 
 pub right_transition : (bytes : List ℕ) (text : Text) (r : ReadModel) → IsMeant bytes text r
     → (a s t : ℕ) → a < joint_actions r.model → s < r.model.states → t < r.model.states
@@ -48,9 +48,9 @@ unfolding joint_actions trans_at
 right_transition bytes text r h a s t =
     let w = built_of (length bytes) text r (meant_text bytes text r h).model in
     subst (λ m. a < joint_actions m → s < m.states → t < m.states → sum (map (given_trans text) (row_cells (a ∷ s ∷ []) m.states)) ≡ m.scales.trans
-        → trans_at m a s t ≡ given_trans text (a ∷ s ∷ t ∷ [])) (sym w.model)
-      (λ ha hs ht e. kept_of_table text Trans (scales_of text).trans (states_in text) w.trans.cells (trans_table (length bytes) text w.trans w.trans_is) a s t ha hs ht
-        (ap sum (given_trans_row text a s) ∙ e))
+    → trans_at m a s t ≡ given_trans text (a ∷ s ∷ t ∷ [])) (sym w.model)
+    (λ ha hs ht e. kept_of_table text Trans (scales_of text).trans (states_in text) w.trans.cells (trans_table (length bytes) text w.trans w.trans_is) a s t ha hs ht
+    (ap sum (given_trans_row text a s) ∙ e))
 
 pub right_observation : (bytes : List ℕ) (text : Text) (r : ReadModel) → IsMeant bytes text r
     → (a t o : ℕ) → a < joint_actions r.model → t < r.model.states → o < joint_observations r.model
@@ -60,9 +60,9 @@ unfolding joint_actions joint_observations obs_at
 right_observation bytes text r h a t o =
     let w = built_of (length bytes) text r (meant_text bytes text r h).model in
     subst (λ m. a < joint_actions m → t < m.states → o < joint_observations m → sum (map (given_obs text) (row_cells (a ∷ t ∷ []) (joint_observations m))) ≡ m.scales.obs
-        → obs_at m a t o ≡ given_obs text (a ∷ t ∷ o ∷ [])) (sym w.model)
-      (λ ha ht ho e. kept_of_table text Obs (scales_of text).obs (joint_observations_in text) w.obs.cells (obs_table (length bytes) text w.obs w.obs_is) a t o ha ht ho
-        (ap sum (given_obs_row text a t) ∙ e))
+    → obs_at m a t o ≡ given_obs text (a ∷ t ∷ o ∷ [])) (sym w.model)
+    (λ ha ht ho e. kept_of_table text Obs (scales_of text).obs (joint_observations_in text) w.obs.cells (obs_table (length bytes) text w.obs w.obs_is) a t o ha ht ho
+    (ap sum (given_obs_row text a t) ∙ e))
 
 pub reward_as_given : (bytes : List ℕ) (text : Text) (r : ReadModel) → IsMeant bytes text r
     → (a s t o : ℕ) → a < joint_actions r.model → s < r.model.states → t < r.model.states → o < joint_observations r.model
@@ -71,7 +71,7 @@ unfolding joint_actions joint_observations reward_at
 reward_as_given bytes text r h a s t o =
     let w = built_of (length bytes) text r (meant_text bytes text r h).model in
     subst (λ m. a < joint_actions m → s < m.states → t < m.states → o < joint_observations m → reward_at m a s t o ≡ given_rewards text (a ∷ s ∷ t ∷ o ∷ [])) (sym w.model)
-      (reward_of_place text a s t o)
+    (reward_of_place text a s t o)
 
 pub uncovered_reward : (bytes : List ℕ) (text : Text) (r : ReadModel) → IsMeant bytes text r
     → (a s t o : ℕ) → a < joint_actions r.model → s < r.model.states → t < r.model.states → o < joint_observations r.model

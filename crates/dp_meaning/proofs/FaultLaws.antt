@@ -1,14 +1,13 @@
 -- Bad bytes, before anything else.
-use Rattle.std.proofs.Common.{◌≡◌, ℕ, List, refl, sym, ap, ◌∙◌}
-use Rattle.std.specs.Prelude.{Option, Some, None, Result, Ok, Err}
+use Rattle.std.proofs.Common.{◌≡◌, ℕ, List, ap, ◌∙◌}
+use Rattle.std.specs.Prelude.{Some, Result, Ok, Err}
 use Rattle.std.specs.Result.{result_err}
 use Rattle.dp_lexer.specs.declared.Token.{Token}
 use Rattle.dp_lexer.specs.Comments.{first_bad}
 use Rattle.dp_lexer.specs.Tokens.{tokens_of}
 use Rattle.dp_lexer.proofs.WholeText.{first_bad_byte_is_named}
 use Rattle.dp_meaning.specs.declared.why.Why.TheVariants.{BadByte}
-use Rattle.dp_meaning.specs.Faults.{◌>>=◌, Fault, fault}
-use Rattle.dp_meaning.specs.Meaning.{text_of, FaultAt, place_of, meaning_of_text, meaning}
+use Rattle.dp_meaning.specs.Meaning.{text_of, FaultAt, place_of, meaning}
 
 error_is : (t : Result (List Token) ℕ) (at : ℕ) → result_err t ≡ Some at → t ≡ Err at
 error_is (Ok tokens) at e = cc

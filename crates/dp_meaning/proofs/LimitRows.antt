@@ -1,6 +1,6 @@
 -- Worked rows, computed: limits that a text passes, and counts.
-use Rattle.std.proofs.Common.{◌≡◌, ℕ, List, [], ◌∷◌, ◌++◌, refl}
-use Rattle.std.specs.Prelude.{codes, map, length, replicate}
+use Rattle.std.proofs.Common.{◌≡◌, ℕ, List, [], ◌∷◌, refl}
+use Rattle.std.specs.Prelude.{codes, map}
 use Rattle.dp_num.specs.DecimalShape.{is_decimal, is_index}
 use Rattle.dp_num.specs.Decimals.{significand, raised, lowered, decimal_of}
 use Rattle.dp_num.specs.Divisors.{gcd_of, lcm_of}

@@ -1,12 +1,12 @@
 -- Sums, first places and last elements of lists.
-use Rattle.std.proofs.Common.{◌≡◌, ◌⊎◌, inl, inr, ℕ, zero, suc, ◌+◌, ◌*◌, ◌<◌, ◌≤◌, Bool, true, false, cond, List, [], ◌∷◌, ◌++◌, length, get_or, take, refl, sym, ap, ◌∙◌, arith}
+use Rattle.std.proofs.Common.{◌≡◌, ◌⊎◌, inl, inr, ℕ, zero, suc, ◌+◌, ◌<◌, ◌≤◌, Bool, true, false, cond, List, [], ◌∷◌, ◌++◌, length, get_or, take, refl, sym, ap, ◌∙◌, arith}
 use Rattle.std.specs.Prelude.{◌||◌, ◌==◌, max, sum, reverse, Option, Some, None, All}
 use Rattle.std.specs.List.{fold, find, list_any, position_or_len}
 use Rattle.std.specs.Option.{option_or}
 use Rattle.std.proofs.lemmas.Bool.Decides.{nat_tests}
 use Rattle.std.proofs.lemmas.List.{reverse-append, take_all}
 use Rattle.std.proofs.lemmas.List.Folds.{find-append}
-use Rattle.std.proofs.lemmas.List.Sums.{sum_by-le, sum_by_more, fails_before_first}
+use Rattle.std.proofs.lemmas.List.Sums.{sum_by_more, fails_before_first}
 use Rattle.dp_spec.specs.Sums.{nat_sum}
 use Rattle.dp_meaning.proofs.Each.{Each, all_from_each}
 
@@ -55,9 +55,9 @@ greatest_at : (acc : ℕ) (xs : List ℕ) → (fold max acc xs ≡ acc) ⊎ ((k 
 greatest_at acc [] = inl refl
 greatest_at acc (x ∷ xs) = elim (greatest_at (max acc x) xs) [
   | inl e ↦ elim (dec_le x acc) [
-      | inl h ↦ inl (let m : max acc x ≡ acc = omega arith in e ∙ m)
-      | inr h ↦ inr (0, omega arith, (let m : x ≡ max acc x = omega arith in m ∙ sym e))
-    ]
+    | inl h ↦ inl (let m : max acc x ≡ acc = omega arith in e ∙ m)
+    | inr h ↦ inr (0, omega arith, (let m : x ≡ max acc x = omega arith in m ∙ sym e))
+  ]
   | inr w ↦ inr (suc w.0, (let h = w.1 in omega arith), w.2)
 ]
 

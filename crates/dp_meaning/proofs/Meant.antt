@@ -1,31 +1,13 @@
 -- Where a text means a model.
-use Rattle.std.proofs.Common.{◌≡◌, ℕ, zero, suc, ◌+◌, ◌*◌, ◌<◌, ◌≤◌, Bool, true, false, List, [], ◌∷◌, ◌++◌, length, get_or, map, refl, sym, ap, subst, ◌∙◌, arith, pos, cond, ◌^◌}
-use Rattle.std.specs.Prelude.{ℤ, not, ◌==◌, nat_lt, sum, count_by, Option, Some, None, Result, Ok, Err}
-use Rattle.std.specs.List.{range_with_len, list_any}
-use Rattle.std.proofs.lemmas.Bool.Decides.{nat_tests}
-use Rattle.std.proofs.lemmas.List.{append-nil}
-use Rattle.std.proofs.lemmas.List.FromFn.{length-map-range_with_len, get_or-map-range_with_len}
-use Rattle.std.proofs.lemmas.List.Sums.{sum_by-append, sum_by-cons}
-use Rattle.dp_model.specs.declared.limit.Limit.{Limit}
+use Rattle.std.proofs.Common.{◌≡◌, ℕ, List, length, refl, sym, ap, subst, ◌∙◌}
+use Rattle.std.specs.Prelude.{Option, Some, None, Result, Ok, Err}
 use Rattle.dp_model.specs.declared.limit.TooLarge.{TooLarge}
-use Rattle.dp_spec.specs.JointNumbers.{product, parts_of}
-use Rattle.dp_spec.specs.Sums.{nat_sum}
-use Rattle.dp_spec.specs.Model.{Model, joint_actions, joint_observations, start_at, trans_at, obs_at, reward_at, AreRows}
-use Rattle.dp_meaning.specs.Faults.{◌>>=◌, Fault}
-use Rattle.dp_meaning.specs.NameLists.{size_of}
-use Rattle.dp_meaning.specs.Header.{Table, Trans, Obs, Reward}
-use Rattle.dp_meaning.specs.Statements.{axes_of}
-use Rattle.dp_meaning.specs.Cells.{covers, statements_for, chance_of_cell, reward_of_cell}
-use Rattle.dp_meaning.specs.Scales.{Text, states_in, joint_actions_in, joint_observations_in, scales_of}
-use Rattle.dp_meaning.specs.Rows.{Row, Repaired, start_chance, row_cells, start_row, table_row, trans_rows, obs_rows, repair, repair_all}
-use Rattle.dp_meaning.specs.Limits.{at_most, first_passed, product_past, tried_limits, passed_limit}
-use Rattle.dp_meaning.specs.Meaning.{text_of, ReadModel, names_of, rewards_of, model_of, Meaning, Means, place_of, meaning_of_model, meaning_within, meaning_of_text, meaning}
+use Rattle.dp_meaning.specs.Faults.{Fault}
+use Rattle.dp_meaning.specs.Scales.{Text}
+use Rattle.dp_meaning.specs.Limits.{passed_limit}
+use Rattle.dp_meaning.specs.Meaning.{text_of, ReadModel, model_of, Means, meaning_of_model, meaning_within, meaning_of_text, meaning}
 use Rattle.dp_meaning.specs.MeaningLaws.{IsMeant}
-use Rattle.dp_meaning.proofs.CellNumbers.{parts_of_cell, cell_below}
-use Rattle.dp_meaning.proofs.FaultSteps.{done, ok_same, bind_ok}
-use Rattle.dp_meaning.proofs.Repairs.{IsRepair, repair_ok, repair_all_ok}
-use Rattle.dp_meaning.proofs.Lists.{sum_of_places}
-use Rattle.dp_meaning.proofs.TableRows.{IsTable, table_is, sum_of_table_row, uncovered_of_table, kept_of_table}
+use Rattle.dp_meaning.proofs.FaultSteps.{done}
 
 -- a text that is within the limits and means this model
 pub record IsWithin (bytes : List ℕ) (text : Text) (r : ReadModel) : Type 0 where
@@ -63,4 +45,3 @@ pub meant_text : (bytes : List ℕ) (text : Text) (r : ReadModel) → IsMeant by
 meant_text bytes text r h =
     let w = meant bytes r h.means in
     let same : w.0 ≡ text = text_same w.0 text (sym w.1.says ∙ h.says) in subst (λ t. IsWithin bytes t r) same w.1
-

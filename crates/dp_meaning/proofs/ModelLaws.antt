@@ -1,6 +1,6 @@
 -- The model that a text means keeps what every model keeps.
-use Rattle.std.proofs.Common.{◌≡◌, ℕ, zero, suc, ◌+◌, ◌*◌, ◌^◌, ◌<◌, ◌≤◌, Bool, true, false, List, [], ◌∷◌, length, get_or, map, refl, sym, ap, subst, ◌∙◌, arith, pos, negsuc}
-use Rattle.std.specs.Prelude.{◌&&◌, nat_le, ℤ, unsigned_abs, Result, Ok}
+use Rattle.std.proofs.Common.{◌≡◌, ℕ, ◌*◌, ◌^◌, ◌<◌, ◌≤◌, Bool, true, false, List, [], ◌∷◌, length, get_or, map, refl, sym, subst, ◌∙◌, arith, pos, negsuc}
+use Rattle.std.specs.Prelude.{◌&&◌, nat_le, ℤ, unsigned_abs, Ok}
 use Rattle.std.proofs.lemmas.Bool.Decides.{nat_tests}
 use Rattle.std.proofs.lemmas.List.{length-map}
 use Rattle.std.proofs.lemmas.Nat.{mul-le}
@@ -8,17 +8,17 @@ use Rattle.dp_num.specs.declared.decimal.Decimal.{Decimal}
 use Rattle.dp_num.proofs.SignificandLaws.{some_tens}
 use Rattle.dp_lexer.specs.Tokens.{tokens_of}
 use Rattle.dp_spec.specs.JointNumbers.{product}
-use Rattle.dp_spec.specs.Model.{Model, joint_actions, joint_observations, AreScales, AreSizes, AreTables, IsModel}
+use Rattle.dp_spec.specs.Model.{joint_actions, joint_observations, AreScales, AreSizes, AreTables, IsModel}
 use Rattle.dp_meaning.specs.Items.{items_of_pieces}
 use Rattle.dp_meaning.specs.Numbers.{is_at_most, is_chance}
 use Rattle.dp_meaning.specs.NameLists.{NameList, size_of}
-use Rattle.dp_meaning.specs.Header.{Header, Trans, Obs, Reward, header_of, no_entries}
-use Rattle.dp_meaning.specs.Statements.{axes_of, Statement, statements_of}
-use Rattle.dp_meaning.specs.Cells.{statements_for, reward_of_cell}
-use Rattle.dp_meaning.specs.Scales.{Text, states_in, joint_actions_in, joint_observations_in, digits_of_statements, scales_of}
+use Rattle.dp_meaning.specs.Header.{Reward, header_of, no_entries}
+use Rattle.dp_meaning.specs.Statements.{axes_of, statements_of}
+use Rattle.dp_meaning.specs.Cells.{statements_for}
+use Rattle.dp_meaning.specs.Scales.{Text, states_in, joint_observations_in, digits_of_statements, scales_of}
 use Rattle.dp_meaning.specs.Meaning.{pieces_of_tokens, unless_lines, text_of, rewards_of, ReadModel, Means, meaning}
-use Rattle.dp_meaning.proofs.FaultSteps.{done, ok_same, bind_ok}
-use Rattle.dp_meaning.proofs.Meant.{IsWithin, meant}
+use Rattle.dp_meaning.proofs.FaultSteps.{ok_same, bind_ok}
+use Rattle.dp_meaning.proofs.Meant.{meant}
 use Rattle.dp_meaning.proofs.TextLimits.{IsSmall, small}
 use Rattle.dp_meaning.proofs.BuiltModel.{built, IsBuilt, built_of, trans_table, obs_table, sum_of_start, length_of_rewards}
 use Rattle.dp_meaning.proofs.RowLaws.{built_rows}
@@ -117,8 +117,8 @@ rewards_bound : (text : Text) → IsText text → (i : ℕ) → unsigned_abs (ge
 unfolding rewards_of scales_of
 rewards_bound text is i =
     each_at (λ r. unsigned_abs r ≤ 10 ^ 8 * 10 ^ digits_of_statements (statements_for Reward text.statements)) (rewards_of text) i (pos 0)
-      (each_of_range _ _ 0 _ (λ k. cell_bound text.header.cost (axes_of text.header Reward) (statements_for Reward text.statements) _ (rewards_only text.statements is.statements)))
-      (omega arith)
+    (each_of_range _ _ 0 _ (λ k. cell_bound text.header.cost (axes_of text.header Reward) (statements_for Reward text.statements) _ (rewards_only text.statements is.statements)))
+    (omega arith)
 
 built_tables : (end : ℕ) (text : Text) (r : ReadModel) (w : IsBuilt end text r) → IsText text → IsSmall text → AreTables (built text w.start.cells w.trans.cells w.obs.cells)
 unfolding joint_actions joint_observations

@@ -19,7 +19,7 @@ use Rattle.dp_meaning.specs.Cells.{chance_of_cell, reward_of_cell}
 use Rattle.dp_meaning.specs.Scales.{scales_of}
 use Rattle.dp_meaning.specs.Rows.{start_row, table_row, trans_rows, obs_rows, repaired_cells, repair, repair_all}
 use Rattle.dp_meaning.specs.Limits.{passed_limit}
-use Rattle.dp_meaning.specs.Meaning.{Names, ReadModel, Meaning, Means, text_of, rewards_of, model_of, meaning}
+use Rattle.dp_meaning.specs.Meaning.{Names, Meaning, Means, text_of, rewards_of, model_of, meaning}
 
 -- ---- the models
 
@@ -235,7 +235,7 @@ two_agents : meaning (
         trans = 100 ∷ 0 ∷ 0 ∷ 100 ∷ 25 ∷ 75 ∷ 100 ∷ 0 ∷ [];
         obs = 5 ∷ 5 ∷ 0 ∷ 10 ∷ 5 ∷ 5 ∷ 0 ∷ 10 ∷ [];
         reward = negsuc 99 ∷ pos 250 ∷ negsuc 299 ∷ negsuc 399 ∷ pos 0 ∷ pos 0 ∷ pos 0 ∷ pos 0
-          ∷ negsuc 99 ∷ pos 250 ∷ negsuc 299 ∷ negsuc 399 ∷ negsuc 24 ∷ pos 0 ∷ pos 0 ∷ pos 0 ∷ [];
+            ∷ negsuc 99 ∷ pos 250 ∷ negsuc 299 ∷ negsuc 399 ∷ negsuc 24 ∷ pos 0 ∷ pos 0 ∷ pos 0 ∷ [];
       };
       names = record {
         agents = codes "x" ∷ codes "y" ∷ [];
@@ -255,4 +255,3 @@ greatest_rewards : meaning (
     ≡ means (record solo { reward = pos 100000000 ∷ pos 100000000 ∷ [] }) 0
 unfolding is_decimal is_index significand raised lowered decimal_of gcd_of lcm_of is_word is_name tokens_from tokens_of lines_of items_of number numbers names_after name_list name_lists find_in start_of kind_of with_entry header_with header_of fields_of part_of parts_in all_parts value_of statement statements_of chance_of_cell reward_of_cell scales_of start_row table_row trans_rows obs_rows repaired_cells repair repair_all passed_limit text_of rewards_of model_of meaning solo
 greatest_rewards = refl
-

@@ -1,15 +1,15 @@
 -- What is known of a header that is read.
-use Rattle.std.proofs.Common.{◌≡◌, ℕ, ◌≤◌, Bool, true, List, [], ◌∷◌, length, refl, sym, ap, subst, ◌∙◌}
-use Rattle.std.specs.Prelude.{Option, Some, None, Result, Ok, Err}
+use Rattle.std.proofs.Common.{◌≡◌, ℕ, ◌≤◌, true, List, [], ◌∷◌, length, refl, sym, ap, subst, ◌∙◌}
+use Rattle.std.specs.Prelude.{Option, Some, None}
 use Rattle.dp_num.specs.declared.decimal.Decimal.{Decimal}
 use Rattle.dp_meaning.specs.declared.why.Why.TheVariants as why
-use Rattle.dp_meaning.specs.Faults.{◌>>=◌, Fault, fault}
+use Rattle.dp_meaning.specs.Faults.{◌>>=◌, fault}
 use Rattle.dp_meaning.specs.Items.{Piece, Item, item_at, value_pieces}
-use Rattle.dp_meaning.specs.Numbers.{is_chance, number, ended}
+use Rattle.dp_meaning.specs.Numbers.{is_chance, number}
 use Rattle.dp_meaning.specs.NameLists.{NameList, size_of, name_list, name_lists}
-use Rattle.dp_meaning.specs.Entries.{Start, discount_of, is_cost, agent_lines, start_of}
+use Rattle.dp_meaning.specs.Entries.{discount_of, is_cost, agent_lines, start_of}
 use Rattle.dp_meaning.specs.Header.{Entry, Agents, Discount, Values, States, StartEntry, Actions, Observations, ItemKind, HeaderEntry, StatementOf, NoItem, kind_of, Entries, Header, no_entries, unless_come, entry, with_entry, header_with, header_of}
-use Rattle.dp_meaning.proofs.FaultSteps.{done, failed, ok_same, err_not_ok, bind_ok}
+use Rattle.dp_meaning.proofs.FaultSteps.{done, ok_same, err_not_ok, bind_ok}
 use Rattle.dp_meaning.proofs.Each.{Each}
 use Rattle.dp_meaning.proofs.ReadValues.{number_fits, ended_same, list_not_empty, lists_not_empty}
 
@@ -86,7 +86,11 @@ with_entry_is Values item e more is f =
     let first = bind_ok (unless_come (item_at item) e.cost) _ more f in
     let value = bind_ok (is_cost item.next (value_pieces item)) _ more first.2 in
     subst AreEntries (ok_same _ more value.2) (record {
-      agents = is.agents; states = is.states; discount = is.discount; actions = is.actions; observations = is.observations;
+      agents = is.agents;
+      states = is.states;
+      discount = is.discount;
+      actions = is.actions;
+      observations = is.observations;
     })
 with_entry_is States item e more is f =
     let first = bind_ok (unless_come (item_at item) e.states) _ more f in
@@ -103,7 +107,11 @@ with_entry_is StartEntry item e more is f =
     let states = bind_ok (entry (item_at item) e.states) _ more first.2 in
     let value = bind_ok (start_of states.0 item.next (value_pieces item)) _ more states.2 in
     subst AreEntries (ok_same _ more value.2) (record {
-      agents = is.agents; states = is.states; discount = is.discount; actions = is.actions; observations = is.observations;
+      agents = is.agents;
+      states = is.states;
+      discount = is.discount;
+      actions = is.actions;
+      observations = is.observations;
     })
 with_entry_is Actions item e more is f =
     let first = bind_ok (unless_come (item_at item) e.actions) _ more f in
@@ -159,10 +167,10 @@ header_from end e [] h is f =
 header_from end e (item ∷ items) h is f = by (kind_of item) f (λ more is g. header_from end more items h is g)
   where
     by : (kind : ItemKind) → (elim kind [
-        | HeaderEntry k ↦ with_entry k item e >>= λ more. header_of end more items
-        | StatementOf table ↦ header_with (item_at item) e >>= λ header. done (header, item ∷ items)
-        | NoItem ↦ fault why.Expected (item_at item)
-      ]) ≡ done h → ((more : Entries) → AreEntries more → header_of end more items ≡ done h → IsHeader h.0) → IsHeader h.0
+      | HeaderEntry k ↦ with_entry k item e >>= λ more. header_of end more items
+      | StatementOf table ↦ header_with (item_at item) e >>= λ header. done (header, item ∷ items)
+      | NoItem ↦ fault why.Expected (item_at item)
+    ]) ≡ done h → ((more : Entries) → AreEntries more → header_of end more items ≡ done h → IsHeader h.0) → IsHeader h.0
     by (HeaderEntry k) g rest = let w = bind_ok (with_entry k item e) _ h g in rest w.0 (with_entry_is k item e w.0 is w.1) w.2
     by (StatementOf table) g rest =
         let w = bind_ok (header_with (item_at item) e) _ h g in subst (λ x. IsHeader x.0) (ok_same _ h w.2) (header_with_is (item_at item) e w.0 is w.1)
@@ -170,12 +178,12 @@ header_from end e (item ∷ items) h is f = by (kind_of item) f (λ more is g. h
 
 pub header_is : (end : ℕ) (items : List Item) (h : Header × List Item) → header_of end no_entries items ≡ done h → IsHeader h.0
 header_is end items h f = header_from end no_entries items h (record {
-    agents = λ l s. absurd (never l s);
-    states = λ l s. absurd (never l s);
-    discount = λ d s. absurd (never d s);
-    actions = λ ls s. absurd (never ls s);
-    observations = λ ls s. absurd (never ls s);
-  }) f
+  agents = λ l s. absurd (never l s);
+  states = λ l s. absurd (never l s);
+  discount = λ d s. absurd (never d s);
+  actions = λ ls s. absurd (never ls s);
+  observations = λ ls s. absurd (never ls s);
+}) f
   where
     never : {A : Type 0} (x : A) → None ≡ Some x → ⊥
     never x s = cc

@@ -1,23 +1,22 @@
 -- The scales of a text that is read, and its rewards over theirs.
-use Rattle.std.proofs.Common.{◌≡◌, ℕ, zero, suc, ◌+◌, ◌*◌, ◌/◌, ◌-◌, ◌^◌, ◌<◌, ◌≤◌, Bool, true, false, cond, List, [], ◌∷◌, ◌++◌, length, get_or, map, drop, refl, sym, ap, subst, ◌∙◌, arith, pos, neg_ℤ, ℤ}
-use Rattle.std.specs.Prelude.{◌&&◌, nat_le, max, ◌*ℤ◌, unsigned_abs, reverse, Option, Some, None}
-use Rattle.std.specs.List.{fold, find, range_with_len}
+use Rattle.std.proofs.Common.{◌≡◌, ℕ, ◌+◌, ◌*◌, ◌/◌, ◌-◌, ◌^◌, ◌<◌, ◌≤◌, Bool, true, false, cond, List, [], ◌∷◌, length, map, drop, refl, sym, ap, subst, ◌∙◌, arith, pos, neg_ℤ, ℤ}
+use Rattle.std.specs.Prelude.{◌&&◌, nat_le, ◌*ℤ◌, unsigned_abs, reverse, Some}
+use Rattle.std.specs.List.{find}
 use Rattle.std.proofs.lemmas.Bool.Decides.{nat_tests}
 use Rattle.std.proofs.lemmas.Int.{unsigned_abs-mul, ints}
-use Rattle.std.proofs.lemmas.List.{reverse-append}
 use Rattle.std.proofs.lemmas.Nat.{pow-add, mul-le}
 use Rattle.std.proofs.Math.Nat.{pos_of_dvd_of_pos, dvd-mul_left, dvd-mul_right, mul-div_cancel}
 use Rattle.dp_num.specs.declared.decimal.Decimal.{Decimal}
 use Rattle.dp_num.specs.Divisors.{lcm_of}
 use Rattle.dp_num.proofs.DivisorLaws.{lcm_of-IsLcm}
 use Rattle.dp_num.proofs.SignificandLaws.{some_tens}
-use Rattle.dp_spec.specs.JointNumbers.{product, joint_number}
-use Rattle.dp_meaning.specs.Numbers.{is_at_most, is_reward}
+use Rattle.dp_spec.specs.JointNumbers.{joint_number}
+use Rattle.dp_meaning.specs.Numbers.{is_reward}
 use Rattle.dp_meaning.specs.Entries.{Start, AnyState, OneState, StartRow}
 use Rattle.dp_meaning.specs.Header.{Table, Trans, Obs, Reward}
 use Rattle.dp_meaning.specs.Fields.{Axis}
 use Rattle.dp_meaning.specs.Statements.{axis_size, is_number_of, Value, Uniform, Identity, Numbers, Statement}
-use Rattle.dp_meaning.specs.Cells.{Cell, covers, is_same_table, statements_for, last_covering, no_number, number_at, reward_over, given_reward, reward_by, reward_of_cell}
+use Rattle.dp_meaning.specs.Cells.{Cell, covers, is_same_table, statements_for, no_number, number_at, reward_over, given_reward, reward_by, reward_of_cell}
 use Rattle.dp_meaning.specs.Scales.{most_digits, digits_of_value, digits_of_statements, scale_of, start_scale}
 use Rattle.dp_meaning.proofs.Each.{Each, each_at, each_with, each_from, each_reverse}
 use Rattle.dp_meaning.proofs.Lists.{each_below_most, most_below}
@@ -86,7 +85,7 @@ digits_below Identity n each = omega arith
 pub reward_digits : (ss : List Statement) → Each GivesRewards ss → digits_of_statements ss ≤ 9
 reward_digits ss each =
     most_below (λ s. digits_of_value s.value) 9 0 ss (omega arith)
-      (each_from GivesRewards (λ s. digits_of_value s.value ≤ 9) (λ s g. digits_below s.value 9 (each_from IsReward (λ d. d.digits ≤ 9) (λ d h. h.0) (numbers_in s.value) g)) ss each)
+    (each_from GivesRewards (λ s. digits_of_value s.value ≤ 9) (λ s g. digits_below s.value 9 (each_from IsReward (λ d. d.digits ≤ 9) (λ d h. h.0) (numbers_in s.value) g)) ss each)
 
 -- a reward over a scale of enough digits is at most 10^8 times the scale
 reward_bound : (cost : Bool) (digits : ℕ) (d : Decimal) → IsReward d → d.digits ≤ digits → unsigned_abs (reward_over cost (10 ^ digits) d) ≤ 10 ^ 8 * 10 ^ digits

@@ -1,11 +1,11 @@
 -- What is known of statements that are read.
-use Rattle.std.proofs.Common.{◌≡◌, ℕ, Bool, true, false, cond, List, [], ◌∷◌, ◌++◌, length, map, drop, refl, sym, ap, subst, ◌∙◌}
-use Rattle.std.specs.Prelude.{◌&&◌, codes, Result, Ok, Err, filter}
+use Rattle.std.proofs.Common.{◌≡◌, ℕ, Bool, true, false, cond, List, [], ◌∷◌, ◌++◌, length, map, drop, subst}
+use Rattle.std.specs.Prelude.{◌&&◌, codes}
 use Rattle.std.specs.List.{flat_map}
 use Rattle.dp_num.specs.declared.decimal.Decimal.{Decimal}
 use Rattle.dp_spec.specs.JointNumbers.{product}
-use Rattle.dp_meaning.specs.Faults.{◌>>=◌, Fault, fault}
-use Rattle.dp_meaning.specs.Items.{Piece, Item, after_colon, pieces_of, item_at}
+use Rattle.dp_meaning.specs.Faults.{◌>>=◌}
+use Rattle.dp_meaning.specs.Items.{Piece, Item, after_colon, pieces_of}
 use Rattle.dp_meaning.specs.Numbers.{numbers, ended}
 use Rattle.dp_meaning.specs.NameLists.{says}
 use Rattle.dp_meaning.specs.Header.{Table, ItemKind, HeaderEntry, StatementOf, NoItem, kind_of, Header}
@@ -31,7 +31,7 @@ value_is table rest next (piece ∷ pieces) v e =
     by (allows_uniform table rest && says (codes "uniform") piece) (allows_identity table rest && says (codes "identity") piece) e
   where
     by : (b c : Bool) → cond b (ended Uniform pieces) (cond c (ended Identity pieces)
-          (numbers (is_number_of table) next (product (map axis_size rest)) (piece ∷ pieces) >>= λ ns. done (Numbers ns))) ≡ done v
+        (numbers (is_number_of table) next (product (map axis_size rest)) (piece ∷ pieces) >>= λ ns. done (Numbers ns))) ≡ done v
         → AreNumbersOf table v
     by true c f = subst (AreNumbersOf table) (ended_same Uniform v pieces f) tt
     by false true f = subst (AreNumbersOf table) (ended_same Identity v pieces f) tt
@@ -50,7 +50,7 @@ statement_is header table item s e =
     let enough = bind_ok (unless_too_few (least_fields table) fields.0 item.first.ends) _ s fields.2 in
     let value = bind_ok (value_of table (drop (length fields.0) (axes_of header table)) item.next ((fields_of (after_colon item)).rest ++ flat_map pieces_of item.more)) _ s enough.2 in
     subst IsStatement (ok_same _ s value.2)
-      (value_is table (drop (length fields.0) (axes_of header table)) item.next ((fields_of (after_colon item)).rest ++ flat_map pieces_of item.more) value.0 value.1)
+    (value_is table (drop (length fields.0) (axes_of header table)) item.next ((fields_of (after_colon item)).rest ++ flat_map pieces_of item.more) value.0 value.1)
 
 statement_of_kind_is : (header : Header) (item : Item) (kind : ItemKind) (s : Statement) → statement_of_kind header item kind ≡ done s → IsStatement s
 statement_of_kind_is header item (HeaderEntry k) s e = absurd (err_not_ok s _ e)
@@ -64,4 +64,4 @@ statements_are header (item ∷ items) ss e =
     let first = bind_ok (statement_of_kind header item (kind_of item)) _ ss e in
     let others = bind_ok (statements_of header items) _ ss first.2 in
     subst (Each IsStatement) (ok_same _ ss others.2)
-      (statement_of_kind_is header item (kind_of item) first.0 first.1, statements_are header items others.0 others.1)
+    (statement_of_kind_is header item (kind_of item) first.0 first.1, statements_are header items others.0 others.1)

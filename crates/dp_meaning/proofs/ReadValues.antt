@@ -1,6 +1,6 @@
 -- What is known of numbers, lists and values that are read.
-use Rattle.std.proofs.Common.{◌≡◌, ℕ, zero, suc, ◌+◌, ◌≤◌, Bool, true, false, cond, List, [], ◌∷◌, ◌++◌, length, get_or, refl, sym, ap, subst, ◌∙◌, arith, length-append}
-use Rattle.std.specs.Prelude.{not, ◌&&◌, ◌||◌, nat_le, Result, Ok, Err}
+use Rattle.std.proofs.Common.{◌≡◌, ℕ, zero, suc, ◌+◌, ◌≤◌, Bool, true, false, cond, List, [], ◌∷◌, ◌++◌, length, refl, sym, ap, subst, ◌∙◌, arith, length-append}
+use Rattle.std.specs.Prelude.{not, ◌&&◌, nat_le, Result, Ok, Err}
 use Rattle.std.specs.List.{list_any}
 use Rattle.std.specs.Str.{bytes_eq}
 use Rattle.std.proofs.lemmas.Bool.Decides.{nat_tests}
@@ -16,7 +16,7 @@ use Rattle.dp_meaning.specs.Items.{Piece}
 use Rattle.dp_meaning.specs.Numbers.{number_in, number, ended, numbers}
 use Rattle.dp_meaning.specs.NameLists.{NameList, Counted, Named, size_of, index, names_after, count, name_list, name_lists}
 use Rattle.dp_meaning.proofs.Each.{Each}
-use Rattle.dp_meaning.proofs.FaultSteps.{done, failed, ok_same, err_not_ok, bind_ok}
+use Rattle.dp_meaning.proofs.FaultSteps.{done, ok_same, err_not_ok, bind_ok}
 
 -- ---- numbers
 
@@ -48,7 +48,7 @@ numbers_fit fits next (suc n) (piece ∷ pieces) ns e =
     let first = bind_ok (number fits piece) _ ns e in
     let others = bind_ok (numbers fits next n pieces) _ ns first.2 in
     subst (Each (λ d. fits d ≡ true)) (ok_same _ ns others.2)
-      (number_fits fits piece first.0 first.1, numbers_fit fits next n pieces others.0 others.1)
+    (number_fits fits piece first.0 first.1, numbers_fit fits next n pieces others.0 others.1)
 
 -- ---- lists
 
@@ -59,7 +59,7 @@ unfolding names_after
 names_count before [] names e = ap length (sym (ok_same before names e)) ∙ omega arith
 names_count before (piece ∷ pieces) names e =
     by (not (is_name piece.text)) (list_any (bytes_eq piece.text) before) (names_after (before ++ piece.text ∷ []) pieces) e
-      (names_count (before ++ piece.text ∷ []) pieces names)
+    (names_count (before ++ piece.text ∷ []) pieces names)
   where
     by : (b c : Bool) (rest : Result (List (List ℕ)) Fault)
         → cond b (fault Expected piece.at) (cond c (fault DoubleName piece.at) rest) ≡ done names
@@ -108,4 +108,4 @@ lists_not_empty next (suc n) (line ∷ lines) lists e =
     let others = bind_ok (name_lists next n lines) _ lists first.2 in
     let rest = lists_not_empty next n lines others.0 others.1 in
     subst (λ ls. (length ls ≡ suc n) × Each (λ l. 1 ≤ size_of l) ls) (ok_same _ lists others.2)
-      (ap suc rest.0, (list_not_empty next line first.0 first.1, rest.1))
+    (ap suc rest.0, (list_not_empty next line first.0 first.1, rest.1))

@@ -1,14 +1,14 @@
 -- What the repair of a row, and of rows in order, gives.
 use Rattle.std.proofs.Common.{◌≡◌, ◌≢◌, ◌⊎◌, inl, inr, ℕ, zero, suc, ◌+◌, ◌*◌, ◌-◌, ◌<◌, ◌≤◌, Bool, true, false, cond, List, [], ◌∷◌, ◌++◌, length, get_or, set, refl, sym, ap, subst, ◌∙◌, arith, length-set, length-append}
 use Rattle.std.proofs.lemmas.Nat.{mul-le}
-use Rattle.std.specs.Prelude.{not, ◌==◌, sum, count_by, Option, Some, None, Result, Ok, Err, All}
+use Rattle.std.specs.Prelude.{not, ◌==◌, sum, count_by}
 use Rattle.std.specs.List.{position_or_len}
 use Rattle.std.proofs.lemmas.Bool.Decides.{nat_tests}
 use Rattle.std.proofs.lemmas.List.{get_or-set_same, get_or-set_other, get_or_append_left, get_or-append-add}
 use Rattle.std.proofs.lemmas.List.Sums.{sum_by-le, sum_by-set, sum_by-cons, passes_at_first}
 use Rattle.dp_spec.specs.Sums.{nat_sum}
-use Rattle.dp_meaning.specs.declared.why.Why.TheVariants.{RowSum, MissingRow}
-use Rattle.dp_meaning.specs.Faults.{◌>>=◌, Fault, fault}
+use Rattle.dp_meaning.specs.declared.why.Why.TheVariants.{RowSum}
+use Rattle.dp_meaning.specs.Faults.{fault}
 use Rattle.dp_meaning.specs.Rows.{Row, Repaired, greatest_cell, repaired_cells, is_near, repair_at, row_place, repair, repair_all}
 use Rattle.dp_meaning.proofs.FaultSteps.{done, ok_same, err_not_ok, bind_ok}
 use Rattle.dp_meaning.proofs.Lists.{below_greatest, first_greatest, nat_sum_ext, sum_of_places}
@@ -25,7 +25,7 @@ sum_of_repaired scale [] short near = let h = near_parts scale 0 near in omega a
 sum_of_repaired scale (x ∷ xs) short near =
     let first = first_greatest (x ∷ xs) (omega arith) in
     let at : get_or (x ∷ xs) (position_or_len (λ n. n == greatest_cell (x ∷ xs)) (x ∷ xs)) 0 ≡ greatest_cell (x ∷ xs) =
-        equal _ _ (passes_at_first (λ n. n == greatest_cell (x ∷ xs)) (x ∷ xs) 0 first) in
+    equal _ _ (passes_at_first (λ n. n == greatest_cell (x ∷ xs)) (x ∷ xs) 0 first) in
     let written = sum_by-set (λ n. n) (x ∷ xs) (position_or_len (λ n. n == greatest_cell (x ∷ xs)) (x ∷ xs)) (greatest_cell (x ∷ xs) + scale - sum (x ∷ xs)) 0 first in
     let most = sum_by-le (λ n. n) (greatest_cell (x ∷ xs)) (x ∷ xs) (below_greatest (x ∷ xs)) in
     enough (length (x ∷ xs)) (greatest_cell (x ∷ xs)) scale (sum (x ∷ xs)) _ _ short most (near_parts scale (sum (x ∷ xs)) near) at written
@@ -116,7 +116,7 @@ repair_ok end row x e = let w = bind_ok (row_place end row.at) _ x e in repaired
 
 pub repair_all_ok : (end : ℕ) (row : Row) (rows : List Row) (x : Repaired) → repair_all end (row ∷ rows) ≡ done x
     → (first : Repaired) × (others : Repaired) × (repair end row ≡ done first) × (repair_all end rows ≡ done others)
-      × (record { cells = first.cells ++ others.cells; repaired = first.repaired + others.repaired } ≡ x)
+    × (record { cells = first.cells ++ others.cells; repaired = first.repaired + others.repaired } ≡ x)
 unfolding repair_all
 repair_all_ok end row rows x e =
     let first = bind_ok (repair end row) _ x e in
@@ -141,18 +141,24 @@ pub row_of_all : (end n : ℕ) (rows : List Row) (x : Repaired) → ((i : ℕ) (
 row_of_all end n [] x len e i d h = absurd (omega arith)
 row_of_all end n (row ∷ rows) x len e zero d h =
     let w = repair_all_ok end row rows x e in
-    let is = repair_ok end row w.0 w.2 in
-    (w.0, is, λ j l.
-      let at : 0 * n + j ≡ j = omega arith in
-      let long : j < length w.0.cells = (let a = is.len in let b = len 0 d h in omega arith) in
-      ap (λ y. get_or y.cells (0 * n + j) 0) (sym w.4) ∙ ap (λ k. get_or (w.0.cells ++ w.1.cells) k 0) at ∙ get_or_append_left w.0.cells w.1.cells 0 j long)
+    let is = repair_ok end row w.0 w.2 in (
+      w.0,
+      is,
+      λ j l.
+          let at : 0 * n + j ≡ j = omega arith in
+          let long : j < length w.0.cells = (let a = is.len in let b = len 0 d h in omega arith) in
+          ap (λ y. get_or y.cells (0 * n + j) 0) (sym w.4) ∙ ap (λ k. get_or (w.0.cells ++ w.1.cells) k 0) at ∙ get_or_append_left w.0.cells w.1.cells 0 j long,
+    )
 row_of_all end n (row ∷ rows) x len e (suc i) d h =
     let w = repair_all_ok end row rows x e in
     let is = repair_ok end row w.0 w.2 in
-    let rest = row_of_all end n rows w.1 (λ k c l. len (suc k) c (omega arith)) w.3 i d (omega arith) in
-    (rest.0, rest.1, λ j l.
-      let at : suc i * n + j ≡ length w.0.cells + (i * n + j) = (let a = is.len in let b = len 0 d (omega arith) in behind i n j (length w.0.cells) (a ∙ b)) in
-      ap (λ y. get_or y.cells (suc i * n + j) 0) (sym w.4) ∙ ap (λ k. get_or (w.0.cells ++ w.1.cells) k 0) at ∙ get_or-append-add w.0.cells w.1.cells _ 0 ∙ rest.2 j l)
+    let rest = row_of_all end n rows w.1 (λ k c l. len (suc k) c (omega arith)) w.3 i d (omega arith) in (
+      rest.0,
+      rest.1,
+      λ j l.
+          let at : suc i * n + j ≡ length w.0.cells + (i * n + j) = (let a = is.len in let b = len 0 d (omega arith) in behind i n j (length w.0.cells) (a ∙ b)) in
+          ap (λ y. get_or y.cells (suc i * n + j) 0) (sym w.4) ∙ ap (λ k. get_or (w.0.cells ++ w.1.cells) k 0) at ∙ get_or-append-add w.0.cells w.1.cells _ 0 ∙ rest.2 j l,
+    )
   where
     behind : (i n j len : ℕ) → len ≡ n → suc i * n + j ≡ len + (i * n + j)
     behind i n j len f = omega arith

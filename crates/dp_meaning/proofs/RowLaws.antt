@@ -1,16 +1,16 @@
 -- The rows of the model that a text means.
-use Rattle.std.proofs.Common.{◌≡◌, ℕ, ◌+◌, ◌*◌, ◌<◌, ◌≤◌, List, [], ◌∷◌, ◌++◌, length, get_or, sym, ap, subst, ◌∙◌, arith, cond}
+use Rattle.std.proofs.Common.{◌≡◌, ℕ, List, [], ◌∷◌, ◌++◌, length, sym, subst, arith, cond}
 use Rattle.std.specs.Prelude.{not, ◌==◌, sum, count_by}
-use Rattle.std.proofs.lemmas.List.Sums.{sum_by-append, sum_by-cons}
-use Rattle.dp_spec.specs.Model.{Model, joint_actions, joint_observations, start_at, trans_at, obs_at, AreRows}
+use Rattle.std.proofs.lemmas.List.Sums.{sum_by-append}
+use Rattle.dp_spec.specs.Model.{joint_actions, joint_observations, start_at, trans_at, obs_at, AreRows}
 use Rattle.dp_meaning.specs.Header.{Trans, Obs}
 use Rattle.dp_meaning.specs.Scales.{Text, states_in, joint_observations_in, scales_of}
-use Rattle.dp_meaning.specs.Rows.{Row, start_row, trans_rows, obs_rows}
+use Rattle.dp_meaning.specs.Rows.{start_row, trans_rows, obs_rows}
 use Rattle.dp_meaning.specs.Meaning.{ReadModel, Means, meaning}
 use Rattle.dp_meaning.specs.MeaningLaws.{IsMeant, given_rows}
 use Rattle.dp_meaning.proofs.Repairs.{repaired_count}
 use Rattle.dp_meaning.proofs.TableRows.{sum_of_table_row}
-use Rattle.dp_meaning.proofs.Meant.{IsWithin, meant, meant_text}
+use Rattle.dp_meaning.proofs.Meant.{meant, meant_text}
 use Rattle.dp_meaning.proofs.TextLimits.{IsSmall, small}
 use Rattle.dp_meaning.proofs.BuiltModel.{built, IsBuilt, built_of, trans_table, obs_table, sum_of_start}
 

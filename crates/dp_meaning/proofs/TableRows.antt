@@ -1,6 +1,6 @@
 -- The rows of a table as they are read.
-use Rattle.std.proofs.Common.{◌≡◌, ◌⊎◌, inl, inr, ℕ, zero, suc, ◌+◌, ◌*◌, ◌/◌, ◌%◌, ◌<◌, ◌≤◌, Bool, true, false, List, [], ◌∷◌, ◌++◌, length, get_or, map, refl, sym, ap, subst, ◌∙◌, arith, pos}
-use Rattle.std.specs.Prelude.{sum, reverse, Option, Some, None}
+use Rattle.std.proofs.Common.{◌≡◌, ℕ, ◌+◌, ◌*◌, ◌<◌, false, List, [], ◌∷◌, ◌++◌, length, get_or, map, refl, sym, ap, subst, ◌∙◌, arith}
+use Rattle.std.specs.Prelude.{sum}
 use Rattle.std.specs.List.{range_with_len, list_any}
 use Rattle.std.proofs.lemmas.List.{length-map, get_or-map}
 use Rattle.std.proofs.lemmas.List.FromFn.{length-map-range_with_len, get_or-map-range_with_len}
@@ -8,8 +8,8 @@ use Rattle.dp_spec.specs.JointNumbers.{parts_of}
 use Rattle.dp_spec.specs.Sums.{nat_sum}
 use Rattle.dp_meaning.specs.Header.{Table}
 use Rattle.dp_meaning.specs.Fields.{Axis}
-use Rattle.dp_meaning.specs.Statements.{Statement, axes_of, axis_size}
-use Rattle.dp_meaning.specs.Cells.{Cell, covers, last_covering, statements_for, given_chance, given_reward, chance_by, reward_by, chance_of_cell, reward_of_cell}
+use Rattle.dp_meaning.specs.Statements.{Statement, axes_of}
+use Rattle.dp_meaning.specs.Cells.{covers, statements_for, chance_of_cell}
 use Rattle.dp_meaning.specs.Scales.{Text, states_in, joint_actions_in}
 use Rattle.dp_meaning.specs.Rows.{Row, Repaired, row_cells, table_row, table_rows, repair_all}
 use Rattle.dp_meaning.proofs.CellNumbers.{parts_of_row, row_below}
@@ -48,7 +48,7 @@ pub record IsTable (text : Text) (table : Table) (scale len : ℕ) (cells : List
   pub size : length cells ≡ joint_actions_in text * states_in text * len
   pub row : (a s : ℕ) → a < joint_actions_in text → s < states_in text
       → (y : Repaired) × IsRepair scale (given_row text table scale len a s).cells y
-        × ((j : ℕ) → j < len → get_or cells ((a * states_in text + s) * len + j) 0 ≡ get_or y.cells j 0)
+      × ((j : ℕ) → j < len → get_or cells ((a * states_in text + s) * len + j) 0 ≡ get_or y.cells j 0)
 
 pub table_is : (end : ℕ) (text : Text) (table : Table) (scale len : ℕ) (x : Repaired) → repair_all end (table_rows text table scale len) ≡ done x
     → IsTable text table scale len x.cells
@@ -73,7 +73,7 @@ table_is end text table scale len x e = record { size = size; row = row }
     size = length_of_all end len (map row_at (range_with_len 0 count)) x row_len e ∙ ap (λ n. n * len) rows_count
 
     row : (a s : ℕ) → a < joint_actions_in text → s < states_in text
-      → (y : Repaired) × IsRepair scale (given_row text table scale len a s).cells y
+        → (y : Repaired) × IsRepair scale (given_row text table scale len a s).cells y
         × ((j : ℕ) → j < len → get_or x.cells ((a * states_in text + s) * len + j) 0 ≡ get_or y.cells j 0)
     row a s ha hs =
         let within = row_below (joint_actions_in text) (states_in text) a s ha hs in
@@ -96,7 +96,7 @@ pub uncovered_of_table : (text : Text) (table : Table) (scale len : ℕ) (cells 
 uncovered_of_table text table scale len cells is a s j ha hs hj none =
     let w = is.row a s ha hs in
     w.2 j hj ∙ w.1.zeros j (subst (λ n. j < n) (sym (length_of_table_row scale _ _ len _)) hj)
-      (cell_of_table_row scale _ _ len _ j hj ∙ chance_uncovered scale _ _ _ none)
+    (cell_of_table_row scale _ _ len _ j hj ∙ chance_uncovered scale _ _ _ none)
 
 pub kept_of_table : (text : Text) (table : Table) (scale len : ℕ) (cells : List ℕ) → IsTable text table scale len cells
     → (a s j : ℕ) → a < joint_actions_in text → s < states_in text → j < len

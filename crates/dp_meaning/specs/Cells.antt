@@ -2,7 +2,7 @@
 use Rattle.std.specs.Prelude.{ℕ, ◌*◌, ◌/◌, ◌^◌, Bool, true, false, ◌&&◌, ◌==◌, if◌then◌else◌, ℤ, pos, neg_ℤ, ◌*ℤ◌, unsigned_abs, List, [], ◌∷◌, length, map, drop, reverse, filter, slice_index, slice_index_or, Option, Some, None}
 use Rattle.std.specs.List.{find}
 use Rattle.dp_num.specs.declared.decimal.Decimal.{Decimal}
-use Rattle.dp_spec.specs.JointNumbers.{product, joint_number, parts_of}
+use Rattle.dp_spec.specs.JointNumbers.{joint_number, parts_of}
 use Rattle.dp_meaning.specs.NameLists.{size_of}
 use Rattle.dp_meaning.specs.Header.{Table, Trans, Obs, Reward}
 use Rattle.dp_meaning.specs.Fields.{Axis, Part, Any, Only}

@@ -1,5 +1,5 @@
 -- The fields of a statement, and what each allows.
-use Rattle.std.specs.Prelude.{ℕ, Bool, true, false, if◌then◌else◌, List, [], ◌∷◌, map, Result, Ok, Err}
+use Rattle.std.specs.Prelude.{ℕ, Bool, true, false, if◌then◌else◌, List, [], ◌∷◌, map, Result, Ok}
 use Rattle.dp_meaning.specs.declared.why.Why.TheVariants.{Expected}
 use Rattle.dp_meaning.specs.Faults.{◌>>=◌, Fault, fault}
 use Rattle.dp_meaning.specs.Items.{Piece, is_colon, is_star}

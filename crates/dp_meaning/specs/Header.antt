@@ -1,5 +1,5 @@
 -- The header: each of the seven entries exactly once, before the first statement.
-use Rattle.std.specs.Prelude.{ℕ, Bool, if◌then◌else◌, List, [], ◌∷◌, codes, Option, Some, None, Result, Ok, Err}
+use Rattle.std.specs.Prelude.{ℕ, Bool, if◌then◌else◌, List, [], ◌∷◌, codes, Option, Some, None, Result, Ok}
 use Rattle.std.specs.Str.{bytes_eq}
 use Rattle.dp_num.specs.declared.decimal.Decimal.{Decimal}
 use Rattle.dp_meaning.specs.declared.why.Why.TheVariants as why
@@ -128,8 +128,13 @@ header_with at entries = do
   actions ← entry at entries.actions
   observations ← entry at entries.observations
   Ok (record {
-    agents = agents; discount = discount; cost = cost; states = states; start = start;
-    actions = actions; observations = observations;
+    agents = agents;
+    discount = discount;
+    cost = cost;
+    states = states;
+    start = start;
+    actions = actions;
+    observations = observations;
   })
 
 -- the header, and the items from the first statement on, of a text that ends at `end`

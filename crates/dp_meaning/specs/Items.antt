@@ -1,5 +1,5 @@
 -- The items of a model file: from its tokens to its lines, and from these to the entries and the statements.
-use Rattle.std.specs.Prelude.{ℕ, Bool, true, false, nat_lt, List, [], ◌∷◌, ◌++◌, length, map, filter, drop, slice_range}
+use Rattle.std.specs.Prelude.{ℕ, Bool, true, false, nat_lt, List, [], ◌∷◌, ◌++◌, length, filter, drop, slice_range}
 use Rattle.std.specs.List.{flat_map}
 use Rattle.dp_lexer.specs.declared.Kind.{Kind}
 use Rattle.dp_lexer.specs.declared.Kind.TheVariants.{Colon, Star, LineEnd}

@@ -1,14 +1,14 @@
 -- What holds of the meaning of a model file, in words that do not follow its reading.
-use Rattle.std.specs.Prelude.{◌≡◌, ℕ, ◌<◌, Bool, true, false, not, ◌==◌, ℤ, pos, List, [], ◌∷◌, ◌++◌, length, map, sum, count_by, Some, Result, Ok}
+use Rattle.std.specs.Prelude.{◌≡◌, ℕ, ◌<◌, Bool, true, false, not, ◌==◌, ℤ, pos, List, [], ◌∷◌, ◌++◌, length, map, sum, count_by, Some, Ok}
 use Rattle.std.specs.List.{list_any}
 use Rattle.dp_lexer.specs.Comments.{first_bad}
-use Rattle.dp_spec.specs.Model.{Model, joint_actions, joint_observations, trans_at, obs_at, reward_at, AreRows, IsModel}
+use Rattle.dp_spec.specs.Model.{joint_actions, joint_observations, trans_at, obs_at, reward_at, AreRows, IsModel}
 use Rattle.dp_meaning.specs.declared.why.Why.TheVariants.{BadByte}
 use Rattle.dp_meaning.specs.Header.{Table, Trans, Obs, Reward}
 use Rattle.dp_meaning.specs.Fields.{Axis}
 use Rattle.dp_meaning.specs.Statements.{axes_of, axis_size, Statement}
 use Rattle.dp_meaning.specs.Cells.{Cell, covers, statements_for, given_chance, given_reward, chance_of_cell, reward_of_cell}
-use Rattle.dp_meaning.specs.Scales.{Text, states_in, joint_observations_in, scales_of}
+use Rattle.dp_meaning.specs.Scales.{Text, scales_of}
 use Rattle.dp_meaning.specs.Rows.{Row, row_cells, start_row, trans_rows, obs_rows}
 use Rattle.dp_meaning.specs.Meaning.{text_of, ReadModel, Means, FaultAt, place_of, meaning}
 

@@ -1,5 +1,5 @@
 -- The scales: what the numbers of each table are counted in.
-use Rattle.std.specs.Prelude.{ℕ, ◌^◌, max, Bool, true, false, if◌then◌else◌, unsigned_abs, List, [], ◌∷◌, map}
+use Rattle.std.specs.Prelude.{ℕ, ◌^◌, max, Bool, true, false, if◌then◌else◌, unsigned_abs, List}
 use Rattle.std.specs.List.{fold, list_any}
 use Rattle.dp_num.specs.declared.decimal.Decimal.{Decimal}
 use Rattle.dp_num.specs.Divisors.{lcm_of}
@@ -7,7 +7,7 @@ use Rattle.dp_spec.specs.declared.scales.Scales.{Scales}
 use Rattle.dp_meaning.specs.NameLists.{size_of}
 use Rattle.dp_meaning.specs.Entries.{Start, AnyState, OneState, StartRow}
 use Rattle.dp_meaning.specs.Header.{Header, Trans, Obs, Reward}
-use Rattle.dp_meaning.specs.Statements.{axis_size, Value, Uniform, Identity, Numbers, Statement}
+use Rattle.dp_meaning.specs.Statements.{axis_size, Value, Uniform, Numbers, Statement}
 use Rattle.dp_meaning.specs.Cells.{statements_for}
 
 -- what the text of a file says: its header and its statements in order
