@@ -95,6 +95,8 @@ entries_rows =
     ∷ faulty (codes "agents: 0\n") 1 9 Number
     -- a count past 65,536
     ∷ faulty (codes "agents: 65537\n") 1 9 Number
+    -- the greatest count
+    ∷ faulty (codes "agents: 65536\nagent: 1\n") 2 1 Expected
     -- a count with a sign is no index
     ∷ faulty (codes "agents: +1\n") 1 9 Expected
     -- more behind a count

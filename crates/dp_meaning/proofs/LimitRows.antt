@@ -1,6 +1,11 @@
 -- Worked rows, computed: limits that a text passes, and counts.
-use Rattle.std.proofs.Common.{◌≡◌, ℕ, List, [], ◌∷◌, refl}
-use Rattle.std.specs.Prelude.{codes, map}
+use Rattle.std.proofs.Common.{◌≡◌, ℕ, List, [], ◌∷◌, ◌++◌, pos, refl}
+use Rattle.std.specs.Prelude.{codes, map, length, replicate, Some, None, false}
+use Rattle.dp_meaning.specs.Entries.{AnyState}
+use Rattle.dp_meaning.specs.Header.{Reward}
+use Rattle.dp_meaning.specs.NameLists.{Counted}
+use Rattle.dp_meaning.specs.Statements.{Numbers}
+use Rattle.dp_meaning.specs.Scales.{Text}
 use Rattle.dp_num.specs.DecimalShape.{is_decimal, is_index}
 use Rattle.dp_num.specs.Decimals.{significand, raised, lowered, decimal_of}
 use Rattle.dp_num.specs.Divisors.{gcd_of, lcm_of}
@@ -66,6 +71,25 @@ limit_rows =
 limits_are_passed : meanings limit_rows ≡ limits_passed limit_rows
 unfolding is_decimal is_index significand raised lowered decimal_of gcd_of lcm_of is_word is_name tokens_from tokens_of lines_of items_of number numbers names_after name_list name_lists find_in start_of kind_of with_entry header_with header_of fields_of part_of parts_in all_parts value_of statement statements_of chance_of_cell reward_of_cell scales_of start_row table_row trans_rows obs_rows repaired_cells repair repair_all passed_limit text_of rewards_of model_of meaning meanings limits_passed limit_rows
 limits_are_passed = refl
+
+-- ---- reward statements, of one agent, one state, one action and one observation
+
+abbrev text_with : ℕ → Text
+text_with count = record {
+  header = record {
+    agents = Counted 1; discount = record { units = pos 1; digits = 0 }; cost = false; states = Counted 1; start = AnyState;
+    actions = Counted 1 ∷ []; observations = Counted 1 ∷ [];
+  };
+  statements = replicate count (record { at = 0; table = Reward; fields = []; value = Numbers [] });
+}
+
+most_reward_lines : passed_limit (text_with 65536) ≡ None
+unfolding passed_limit scales_of lcm_of gcd_of
+most_reward_lines = refl
+
+too_many_reward_lines : passed_limit (text_with 65537) ≡ Some (record { what = limits.RewardLines; count = 65537 })
+unfolding passed_limit scales_of lcm_of gcd_of
+too_many_reward_lines = refl
 
 -- a fault in the text comes before a limit
 text_before_limits : meaning (codes "agents: 7\ndiscount: 1\nvalues: reward\nstates: 1\nstart: 0\nactions:\n1\n1\n1\n1\n1\n1\n1\nobservations:\n1\n1\n1\n1\n1\n1\n1\nT: * : 2\n")

@@ -1,5 +1,5 @@
 -- Worked rows, computed: files that mean a model.
-use Rattle.std.proofs.Common.{◌≡◌, ℕ, List, [], ◌∷◌, ◌++◌, pos, negsuc, refl}
+use Rattle.std.proofs.Common.{◌≡◌, ℕ, List, [], ◌∷◌, ◌++◌, ℤ, pos, negsuc, refl}
 use Rattle.std.specs.Prelude.{◌*◌, ◌^◌, codes, replicate}
 use Rattle.std.specs.List.{flat_map}
 use Rattle.dp_num.specs.DecimalShape.{is_decimal, is_index}
@@ -19,7 +19,7 @@ use Rattle.dp_meaning.specs.Cells.{chance_of_cell, reward_of_cell}
 use Rattle.dp_meaning.specs.Scales.{scales_of}
 use Rattle.dp_meaning.specs.Rows.{start_row, table_row, trans_rows, obs_rows, repaired_cells, repair, repair_all}
 use Rattle.dp_meaning.specs.Limits.{passed_limit}
-use Rattle.dp_meaning.specs.Meaning.{Names, Meaning, Means, text_of, rewards_of, model_of, meaning}
+use Rattle.dp_meaning.specs.Meaning.{Names, ReadModel, Meaning, Means, text_of, rewards_of, model_of, meaning}
 
 -- ---- the models
 
@@ -83,6 +83,10 @@ no_names = record { agents = []; states = []; actions = [] ∷ []; observations 
 -- the meaning that is this model without names, with so many repaired rows
 abbrev means : Model → ℕ → Meaning
 means m repaired = Means (record { model = m; names = no_names; repaired = repaired })
+
+-- the rewards of the second agent's second action, where the second agent sees its first observation
+seven : List ℤ
+seven = pos 7 ∷ pos 0 ∷ pos 0 ∷ pos 7 ∷ pos 0 ∷ pos 0 ∷ []
 
 -- ---- whole files
 
@@ -220,11 +224,11 @@ unfolding is_decimal is_index significand raised lowered decimal_of gcd_of lcm_o
 repaired_observations = refl
 
 -- named agents, lists by name and by count, the first list on the entry's line, fields with a `*` for one agent,
--- matrices over several lines, costs, a comment, rewards that no statement gives
+-- matrices over several lines, zeros behind a fraction, costs, a comment, rewards that no statement gives
 two_agents : meaning (
-    codes "agents: x y\ndiscount: 0.5\nvalues: cost\nstates: a b\nstart: b\nactions: u v\n1\nobservations: 1\np q\n"
-    ++ codes "T: v 0 : a :\n0.25 0.75\nT: u * : identity\nT: 1 * : b : a : 1 # v\nO: * : * :\n0.5\n0.5\nO: * * : b : * q : 1\n"
-    ++ codes "O: * * : b : * p : 0\nR: * : a :\n1 -2.5\n3 4\nR: v * : b : a : 0.25 0\n")
+    codes "agents: x y\ndiscount: 0.50\nvalues: cost\nstates: a b\nstart: b\nactions: u v\n1\nobservations: 1\np q\n"
+    ++ codes "T: v 0 : a :\n0.25 0.75\nT: u * : identity\nT: 1 * : b : a : 1 # v\nO: * : * :\n0.5\n0.500\n"
+    ++ codes "O: * * : b : * q : 1\nO: * * : b : * p : 0\nR: * : a :\n1 -2.5\n3 4\nR: v * : b : a : 0.25 0\n")
     ≡ Means (record {
       model = record {
         states = 2;
@@ -235,7 +239,7 @@ two_agents : meaning (
         trans = 100 ∷ 0 ∷ 0 ∷ 100 ∷ 25 ∷ 75 ∷ 100 ∷ 0 ∷ [];
         obs = 5 ∷ 5 ∷ 0 ∷ 10 ∷ 5 ∷ 5 ∷ 0 ∷ 10 ∷ [];
         reward = negsuc 99 ∷ pos 250 ∷ negsuc 299 ∷ negsuc 399 ∷ pos 0 ∷ pos 0 ∷ pos 0 ∷ pos 0
-            ∷ negsuc 99 ∷ pos 250 ∷ negsuc 299 ∷ negsuc 399 ∷ negsuc 24 ∷ pos 0 ∷ pos 0 ∷ pos 0 ∷ [];
+          ∷ negsuc 99 ∷ pos 250 ∷ negsuc 299 ∷ negsuc 399 ∷ negsuc 24 ∷ pos 0 ∷ pos 0 ∷ pos 0 ∷ [];
       };
       names = record {
         agents = codes "x" ∷ codes "y" ∷ [];
@@ -255,3 +259,37 @@ greatest_rewards : meaning (
     ≡ means (record solo { reward = pos 100000000 ∷ pos 100000000 ∷ [] }) 0
 unfolding is_decimal is_index significand raised lowered decimal_of gcd_of lcm_of is_word is_name tokens_from tokens_of lines_of items_of number numbers names_after name_list name_lists find_in start_of kind_of with_entry header_with header_of fields_of part_of parts_in all_parts value_of statement statements_of chance_of_cell reward_of_cell scales_of start_row table_row trans_rows obs_rows repaired_cells repair repair_all passed_limit text_of rewards_of model_of meaning solo
 greatest_rewards = refl
+
+-- where there is one state, any other Number is a row
+one_chance : meaning (file (codes "reward") (codes "1") (codes "1.0") (codes "T: * : uniform\nO: * : uniform\n"))
+    ≡ means solo 0
+unfolding is_decimal is_index significand raised lowered decimal_of gcd_of lcm_of is_word is_name tokens_from tokens_of lines_of items_of number numbers names_after name_list name_lists find_in start_of kind_of with_entry header_with header_of fields_of part_of parts_in all_parts value_of statement statements_of chance_of_cell reward_of_cell scales_of start_row table_row trans_rows obs_rows repaired_cells repair repair_all passed_limit text_of rewards_of model_of meaning solo
+one_chance = refl
+
+-- what is too much is taken from the first of the largest chances
+shortened_start : meaning (file (codes "reward") (codes "2") (codes "0.501 0.5") (codes "T: * : uniform\nO: * : uniform\n"))
+    ≡ means (solo_with 2 1000 2 (500 ∷ 500 ∷ []) (replicate 8 1)) 1
+unfolding is_decimal is_index significand raised lowered decimal_of gcd_of lcm_of is_word is_name tokens_from tokens_of lines_of items_of number numbers names_after name_list name_lists find_in start_of kind_of with_entry header_with header_of fields_of part_of parts_in all_parts value_of statement statements_of chance_of_cell reward_of_cell scales_of start_row table_row trans_rows obs_rows repaired_cells repair repair_all passed_limit text_of rewards_of model_of meaning solo
+shortened_start = refl
+
+-- in a joint number the first agent counts most
+joint_numbers : meaning (
+    codes "agents: 2\ndiscount: 1\nvalues: reward\nstates: 1\nstart: 0\nactions:\n2\n3\nobservations:\n2\n3\nT: * : identity\n"
+    ++ codes "O: * : 0 : 0 2 : 1\nR: 1 0 : * : * : * : 5\nR: * 1 : 0 : 0 : * 0 : 7\n")
+    ≡ Means (record {
+      model = record {
+        states = 1;
+        actions = 2 ∷ 3 ∷ [];
+        observations = 2 ∷ 3 ∷ [];
+        scales = record { start = 1; trans = 1; obs = 1; reward = 1; discount = 1; gain = 1 };
+        start = 1 ∷ [];
+        trans = replicate 6 1;
+        obs = flat_map {X = ℕ} (λ a. 0 ∷ 0 ∷ 1 ∷ 0 ∷ 0 ∷ 0 ∷ []) (replicate 6 0);
+        reward = replicate 6 (pos 0) ++ seven ++ replicate 6 (pos 0) ++ replicate 6 (pos 5) ++ seven ++ replicate 6 (pos 0);
+      };
+      names = record { agents = []; states = []; actions = [] ∷ [] ∷ []; observations = [] ∷ [] ∷ [] };
+      repaired = 0;
+    })
+unfolding is_decimal is_index significand raised lowered decimal_of gcd_of lcm_of is_word is_name tokens_from tokens_of lines_of items_of number numbers names_after name_list name_lists find_in start_of kind_of with_entry header_with header_of fields_of part_of parts_in all_parts value_of statement statements_of chance_of_cell reward_of_cell scales_of start_row table_row trans_rows obs_rows repaired_cells repair repair_all passed_limit text_of rewards_of model_of meaning seven
+joint_numbers = refl
+
