@@ -10,25 +10,12 @@ use Rattle.dp_meaning.specs.Statements.{axes_of}
 use Rattle.dp_meaning.specs.Cells.{statements_for, reward_of_cell}
 use Rattle.dp_meaning.specs.Scales.{Text, states_in, joint_actions_in, joint_observations_in, scales_of}
 use Rattle.dp_meaning.specs.Rows.{Repaired, start_chance, start_row, trans_rows, obs_rows, repair_all}
-use Rattle.dp_meaning.specs.Meaning.{ReadModel, rewards_of, model_of}
+use Rattle.dp_meaning.specs.Meaning.{table_model, names_given, ReadModel, rewards_of, model_of}
 use Rattle.dp_meaning.proofs.CellNumbers.{parts_of_cell, cell_below}
 use Rattle.dp_meaning.proofs.FaultSteps.{done, ok_same, bind_ok}
 use Rattle.dp_meaning.proofs.Repairs.{repair_ok, repair_all_ok}
 use Rattle.dp_meaning.proofs.Lists.{sum_of_places}
 use Rattle.dp_meaning.proofs.TableRows.{IsTable, table_is}
-
--- the model of a text whose tables have these cells
-abbrev pub built : Text → List ℕ → List ℕ → List ℕ → Model
-built text start trans obs = record {
-  states = states_in text;
-  actions = map size_of text.header.actions;
-  observations = map size_of text.header.observations;
-  scales = scales_of text;
-  start = start;
-  trans = trans;
-  obs = obs;
-  reward = rewards_of text;
-}
 
 -- the tables that are read, and how many rows of each were repaired
 pub record IsBuilt (end : ℕ) (text : Text) (r : ReadModel) : Type 0 where
@@ -38,7 +25,8 @@ pub record IsBuilt (end : ℕ) (text : Text) (r : ReadModel) : Type 0 where
   pub start_is : repair_all end (start_row text ∷ []) ≡ done start
   pub trans_is : repair_all end (trans_rows text) ≡ done trans
   pub obs_is : repair_all end (obs_rows text) ≡ done obs
-  pub model : r.model ≡ built text start.cells trans.cells obs.cells
+  pub model : r.model.model ≡ table_model text start.cells trans.cells obs.cells
+  pub names : r.model.names ≡ names_given text.header
   pub repaired : r.repaired ≡ start.repaired + trans.repaired + obs.repaired
 
 pub built_of : (end : ℕ) (text : Text) (r : ReadModel) → model_of end text ≡ done r → IsBuilt end text r
@@ -55,7 +43,8 @@ built_of end text r e =
       start_is = start.1;
       trans_is = trans.1;
       obs_is = obs.1;
-      model = ap (λ x. x.model) same;
+      model = ap (λ x. x.model.model) same;
+      names = ap (λ x. x.model.names) same;
       repaired = ap (λ x. x.repaired) same;
     }
 

@@ -7,7 +7,7 @@ use Rattle.dp_meaning.specs.Statements.{axes_of}
 use Rattle.dp_meaning.specs.Cells.{statements_for}
 use Rattle.dp_meaning.specs.Scales.{Text, states_in, joint_observations_in, scales_of}
 use Rattle.dp_meaning.specs.Rows.{row_cells, table_row}
-use Rattle.dp_meaning.specs.Meaning.{ReadModel}
+use Rattle.dp_meaning.specs.Meaning.{table_model, ReadModel}
 use Rattle.dp_meaning.specs.MeaningLaws.{IsMeant, IsUncovered, given_trans, given_obs, given_rewards}
 use Rattle.dp_meaning.proofs.TableRows.{given_row, uncovered_of_table, kept_of_table}
 use Rattle.dp_meaning.proofs.CellValues.{reward_uncovered}
@@ -23,8 +23,8 @@ unfolding table_row
 given_obs_row text a t = refl
 
 pub uncovered_transition : (bytes : List ℕ) (text : Text) (r : ReadModel) → IsMeant bytes text r
-    → (a s t : ℕ) → a < joint_actions r.model → s < r.model.states → t < r.model.states
-    → IsUncovered text Trans (a ∷ s ∷ t ∷ []) → trans_at r.model a s t ≡ 0
+    → (a s t : ℕ) → a < joint_actions r.model.model → s < r.model.model.states → t < r.model.model.states
+    → IsUncovered text Trans (a ∷ s ∷ t ∷ []) → trans_at r.model.model a s t ≡ 0
 unfolding joint_actions trans_at
 uncovered_transition bytes text r h a s t =
     let w = built_of (length bytes) text r (meant_text bytes text r h).model in
@@ -32,8 +32,8 @@ uncovered_transition bytes text r h a s t =
     (uncovered_of_table text Trans (scales_of text).trans (states_in text) w.trans.cells (trans_table (length bytes) text w.trans w.trans_is) a s t)
 
 pub uncovered_observation : (bytes : List ℕ) (text : Text) (r : ReadModel) → IsMeant bytes text r
-    → (a t o : ℕ) → a < joint_actions r.model → t < r.model.states → o < joint_observations r.model
-    → IsUncovered text Obs (a ∷ t ∷ o ∷ []) → obs_at r.model a t o ≡ 0
+    → (a t o : ℕ) → a < joint_actions r.model.model → t < r.model.model.states → o < joint_observations r.model.model
+    → IsUncovered text Obs (a ∷ t ∷ o ∷ []) → obs_at r.model.model a t o ≡ 0
 unfolding joint_actions joint_observations obs_at
 uncovered_observation bytes text r h a t o =
     let w = built_of (length bytes) text r (meant_text bytes text r h).model in
@@ -41,9 +41,9 @@ uncovered_observation bytes text r h a t o =
     (uncovered_of_table text Obs (scales_of text).obs (joint_observations_in text) w.obs.cells (obs_table (length bytes) text w.obs w.obs_is) a t o)
 
 pub right_transition : (bytes : List ℕ) (text : Text) (r : ReadModel) → IsMeant bytes text r
-    → (a s t : ℕ) → a < joint_actions r.model → s < r.model.states → t < r.model.states
-    → sum (map (given_trans text) (row_cells (a ∷ s ∷ []) r.model.states)) ≡ r.model.scales.trans
-    → trans_at r.model a s t ≡ given_trans text (a ∷ s ∷ t ∷ [])
+    → (a s t : ℕ) → a < joint_actions r.model.model → s < r.model.model.states → t < r.model.model.states
+    → sum (map (given_trans text) (row_cells (a ∷ s ∷ []) r.model.model.states)) ≡ r.model.model.scales.trans
+    → trans_at r.model.model a s t ≡ given_trans text (a ∷ s ∷ t ∷ [])
 unfolding joint_actions trans_at
 right_transition bytes text r h a s t =
     let w = built_of (length bytes) text r (meant_text bytes text r h).model in
@@ -53,9 +53,9 @@ right_transition bytes text r h a s t =
     (ap sum (given_trans_row text a s) ∙ e))
 
 pub right_observation : (bytes : List ℕ) (text : Text) (r : ReadModel) → IsMeant bytes text r
-    → (a t o : ℕ) → a < joint_actions r.model → t < r.model.states → o < joint_observations r.model
-    → sum (map (given_obs text) (row_cells (a ∷ t ∷ []) (joint_observations r.model))) ≡ r.model.scales.obs
-    → obs_at r.model a t o ≡ given_obs text (a ∷ t ∷ o ∷ [])
+    → (a t o : ℕ) → a < joint_actions r.model.model → t < r.model.model.states → o < joint_observations r.model.model
+    → sum (map (given_obs text) (row_cells (a ∷ t ∷ []) (joint_observations r.model.model))) ≡ r.model.model.scales.obs
+    → obs_at r.model.model a t o ≡ given_obs text (a ∷ t ∷ o ∷ [])
 unfolding joint_actions joint_observations obs_at
 right_observation bytes text r h a t o =
     let w = built_of (length bytes) text r (meant_text bytes text r h).model in
@@ -65,8 +65,8 @@ right_observation bytes text r h a t o =
     (ap sum (given_obs_row text a t) ∙ e))
 
 pub reward_as_given : (bytes : List ℕ) (text : Text) (r : ReadModel) → IsMeant bytes text r
-    → (a s t o : ℕ) → a < joint_actions r.model → s < r.model.states → t < r.model.states → o < joint_observations r.model
-    → reward_at r.model a s t o ≡ given_rewards text (a ∷ s ∷ t ∷ o ∷ [])
+    → (a s t o : ℕ) → a < joint_actions r.model.model → s < r.model.model.states → t < r.model.model.states → o < joint_observations r.model.model
+    → reward_at r.model.model a s t o ≡ given_rewards text (a ∷ s ∷ t ∷ o ∷ [])
 unfolding joint_actions joint_observations reward_at
 reward_as_given bytes text r h a s t o =
     let w = built_of (length bytes) text r (meant_text bytes text r h).model in
@@ -74,7 +74,7 @@ reward_as_given bytes text r h a s t o =
     (reward_of_place text a s t o)
 
 pub uncovered_reward : (bytes : List ℕ) (text : Text) (r : ReadModel) → IsMeant bytes text r
-    → (a s t o : ℕ) → a < joint_actions r.model → s < r.model.states → t < r.model.states → o < joint_observations r.model
-    → IsUncovered text Reward (a ∷ s ∷ t ∷ o ∷ []) → reward_at r.model a s t o ≡ pos 0
+    → (a s t o : ℕ) → a < joint_actions r.model.model → s < r.model.model.states → t < r.model.model.states → o < joint_observations r.model.model
+    → IsUncovered text Reward (a ∷ s ∷ t ∷ o ∷ []) → reward_at r.model.model a s t o ≡ pos 0
 uncovered_reward bytes text r h a s t o ha hs ht ho none =
     reward_as_given bytes text r h a s t o ha hs ht ho ∙ reward_uncovered text.header.cost (scales_of text).reward (axes_of text.header Reward) (statements_for Reward text.statements) (a ∷ s ∷ t ∷ o ∷ []) none

@@ -16,11 +16,11 @@ use Rattle.dp_meaning.specs.Header.{Reward, header_of, no_entries}
 use Rattle.dp_meaning.specs.Statements.{axes_of, statements_of}
 use Rattle.dp_meaning.specs.Cells.{statements_for}
 use Rattle.dp_meaning.specs.Scales.{Text, states_in, joint_observations_in, digits_of_statements, scales_of}
-use Rattle.dp_meaning.specs.Meaning.{pieces_of_tokens, unless_lines, text_of, rewards_of, ReadModel, Means, meaning}
+use Rattle.dp_meaning.specs.Meaning.{table_model, pieces_of_tokens, unless_lines, text_of, rewards_of, ReadModel, Means, meaning}
 use Rattle.dp_meaning.proofs.FaultSteps.{ok_same, bind_ok}
 use Rattle.dp_meaning.proofs.Meant.{meant}
 use Rattle.dp_meaning.proofs.TextLimits.{IsSmall, small}
-use Rattle.dp_meaning.proofs.BuiltModel.{built, IsBuilt, built_of, trans_table, obs_table, sum_of_start, length_of_rewards}
+use Rattle.dp_meaning.proofs.BuiltModel.{IsBuilt, built_of, trans_table, obs_table, sum_of_start, length_of_rewards}
 use Rattle.dp_meaning.proofs.RowLaws.{built_rows}
 use Rattle.dp_meaning.proofs.Each.{Each, each_at, each_of_range}
 use Rattle.dp_meaning.proofs.ReadHeader.{AreLists, IsHeader, header_is}
@@ -55,7 +55,7 @@ some_product (l ∷ lists) each =
 count_of : (agents : NameList) (lists : List NameList) → AreLists agents lists → length (map size_of lists) ≡ size_of agents
 count_of agents lists are = length-map lists size_of ∙ are.count
 
-built_sizes : (text : Text) (start trans obs : List ℕ) → IsText text → IsSmall text → AreSizes (built text start trans obs)
+built_sizes : (text : Text) (start trans obs : List ℕ) → IsText text → IsSmall text → AreSizes (table_model text start trans obs)
 unfolding joint_actions joint_observations
 built_sizes text start trans obs is fits =
     let actions = count_of text.header.agents text.header.actions is.header.actions in
@@ -120,7 +120,7 @@ rewards_bound text is i =
     (each_of_range _ _ 0 _ (λ k. cell_bound text.header.cost (axes_of text.header Reward) (statements_for Reward text.statements) _ (rewards_only text.statements is.statements)))
     (omega arith)
 
-built_tables : (end : ℕ) (text : Text) (r : ReadModel) (w : IsBuilt end text r) → IsText text → IsSmall text → AreTables (built text w.start.cells w.trans.cells w.obs.cells)
+built_tables : (end : ℕ) (text : Text) (r : ReadModel) (w : IsBuilt end text r) → IsText text → IsSmall text → AreTables (table_model text w.start.cells w.trans.cells w.obs.cells)
 unfolding joint_actions joint_observations
 built_tables end text r w is fits = record {
   start = (sum_of_start end text w.start (let h = fits.states in omega arith) w.start_is).0;
@@ -132,7 +132,7 @@ built_tables end text r w is fits = record {
 
 -- ---- the model
 
-pub model_is : (bytes : List ℕ) (r : ReadModel) → meaning bytes ≡ Means r → IsModel r.model
+pub model_is : (bytes : List ℕ) (r : ReadModel) → meaning bytes ≡ Means r → IsModel r.model.model
 model_is bytes r e =
     let w = meant bytes r e in
     let parts = built_of (length bytes) w.0 r w.1.model in

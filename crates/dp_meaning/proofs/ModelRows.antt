@@ -8,6 +8,7 @@ use Rattle.dp_num.specs.Divisors.{gcd_of, lcm_of}
 use Rattle.dp_num.specs.Names.{is_word, is_name}
 use Rattle.dp_lexer.specs.Tokens.{tokens_from, tokens_of}
 use Rattle.dp_spec.specs.Model.{Model}
+use Rattle.dp_model.specs.Names.{NameLists, counts_of}
 use Rattle.dp_meaning.specs.Items.{lines_of, items_of}
 use Rattle.dp_meaning.specs.Numbers.{number, numbers}
 use Rattle.dp_meaning.specs.NameLists.{names_after, name_list, name_lists, find_in}
@@ -19,7 +20,7 @@ use Rattle.dp_meaning.specs.Cells.{chance_of_cell, reward_of_cell}
 use Rattle.dp_meaning.specs.Scales.{scales_of}
 use Rattle.dp_meaning.specs.Rows.{start_row, table_row, trans_rows, obs_rows, repaired_cells, repair, repair_all}
 use Rattle.dp_meaning.specs.Limits.{passed_limit}
-use Rattle.dp_meaning.specs.Meaning.{Names, ReadModel, Meaning, Means, text_of, rewards_of, model_of, meaning}
+use Rattle.dp_meaning.specs.Meaning.{ReadModel, Meaning, Means, text_of, rewards_of, model_of, meaning}
 
 -- ---- the models
 
@@ -77,12 +78,15 @@ solo = record {
 -- ---- the names of one agent's model
 
 -- none, where all lists are given as counts
-abbrev no_names : Names
-no_names = record { agents = []; states = []; actions = [] ∷ []; observations = [] ∷ [] }
+abbrev no_names : NameLists
+no_names = counts_of 1
 
--- the meaning that is this model without names, with so many repaired rows
+-- the meaning that is this model with these names, or without names, with so many repaired rows
+abbrev named : Model → NameLists → ℕ → Meaning
+named m names repaired = Means (record { model = record { model = m; names = names }; repaired = repaired })
+
 abbrev means : Model → ℕ → Meaning
-means m repaired = Means (record { model = m; names = no_names; repaired = repaired })
+means m repaired = named m no_names repaired
 
 -- the rewards of the second agent's second action, where the second agent sees its first observation
 seven : List ℤ
@@ -91,7 +95,7 @@ seven = pos 7 ∷ pos 0 ∷ pos 0 ∷ pos 7 ∷ pos 0 ∷ pos 0 ∷ []
 -- ---- whole files
 
 -- the file of the tiger, whose lists have names
-tiger_names : Names
+tiger_names : NameLists
 tiger_names = record {
   agents = [];
   states = codes "tiger-left" ∷ codes "tiger-right" ∷ [];
@@ -126,7 +130,7 @@ tiger_file : meaning (
     ++ codes "R: open-right listen: tiger-right : * : * : -101\nR: listen open-right: tiger-left : * : * : 9\n"
     ++ codes "R: listen open-left: tiger-right : * : * : 9\nR: open-right listen: tiger-left : * : * : 9\n"
     ++ codes "R: open-left listen: tiger-right : * : * : 9\n")
-    ≡ Means (record { model = tiger; names = tiger_names; repaired = 0 })
+    ≡ named tiger tiger_names 0
 unfolding is_decimal is_index significand raised lowered decimal_of gcd_of lcm_of is_word is_name tokens_from tokens_of lines_of items_of number numbers names_after name_list name_lists find_in start_of kind_of with_entry header_with header_of fields_of part_of parts_in all_parts value_of statement statements_of chance_of_cell reward_of_cell scales_of start_row table_row trans_rows obs_rows repaired_cells repair repair_all passed_limit text_of rewards_of model_of meaning tiger tiger_names
 tiger_file = refl
 
@@ -135,11 +139,7 @@ decay_file : meaning (
     codes "agents: 1\ndiscount: 1\nvalues: reward\nstates: up down\nstart: up\nactions:\n1\nobservations:\n1\n"
     ++ codes "T: * : up : 0.1000000000000001 0.8999999999999999\nT: * : down : down : 1\nO: * : uniform\n"
     ++ codes "R: * : up : * : * : 1\n")
-    ≡ Means (record {
-      model = decay;
-      names = record no_names { states = codes "up" ∷ codes "down" ∷ [] };
-      repaired = 0;
-    })
+    ≡ named decay (record no_names { states = codes "up" ∷ codes "down" ∷ [] }) 0
 unfolding is_decimal is_index significand raised lowered decimal_of gcd_of lcm_of is_word is_name tokens_from tokens_of lines_of items_of number numbers names_after name_list name_lists find_in start_of kind_of with_entry header_with header_of fields_of part_of parts_in all_parts value_of statement statements_of chance_of_cell reward_of_cell scales_of start_row table_row trans_rows obs_rows repaired_cells repair repair_all passed_limit text_of rewards_of model_of meaning decay
 decay_file = refl
 
@@ -229,8 +229,8 @@ two_agents : meaning (
     codes "agents: x y\ndiscount: 0.50\nvalues: cost\nstates: a b\nstart: b\nactions: u v\n1\nobservations: 1\np q\n"
     ++ codes "T: v 0 : a :\n0.25 0.75\nT: u * : identity\nT: 1 * : b : a : 1 # v\nO: * : * :\n0.5\n0.500\n"
     ++ codes "O: * * : b : * q : 1\nO: * * : b : * p : 0\nR: * : a :\n1 -2.5\n3 4\nR: v * : b : a : 0.25 0\n")
-    ≡ Means (record {
-      model = record {
+    ≡ named
+      (record {
         states = 2;
         actions = 2 ∷ 1 ∷ [];
         observations = 1 ∷ 2 ∷ [];
@@ -240,15 +240,14 @@ two_agents : meaning (
         obs = 5 ∷ 5 ∷ 0 ∷ 10 ∷ 5 ∷ 5 ∷ 0 ∷ 10 ∷ [];
         reward = negsuc 99 ∷ pos 250 ∷ negsuc 299 ∷ negsuc 399 ∷ pos 0 ∷ pos 0 ∷ pos 0 ∷ pos 0
           ∷ negsuc 99 ∷ pos 250 ∷ negsuc 299 ∷ negsuc 399 ∷ negsuc 24 ∷ pos 0 ∷ pos 0 ∷ pos 0 ∷ [];
-      };
-      names = record {
+      })
+      (record {
         agents = codes "x" ∷ codes "y" ∷ [];
         states = codes "a" ∷ codes "b" ∷ [];
         actions = (codes "u" ∷ codes "v" ∷ []) ∷ [] ∷ [];
         observations = [] ∷ (codes "p" ∷ codes "q" ∷ []) ∷ [];
-      };
-      repaired = 0;
-    })
+      })
+      0
 unfolding is_decimal is_index significand raised lowered decimal_of gcd_of lcm_of is_word is_name tokens_from tokens_of lines_of items_of number numbers names_after name_list name_lists find_in start_of kind_of with_entry header_with header_of fields_of part_of parts_in all_parts value_of statement statements_of chance_of_cell reward_of_cell scales_of start_row table_row trans_rows obs_rows repaired_cells repair repair_all passed_limit text_of rewards_of model_of meaning
 two_agents = refl
 
@@ -276,8 +275,8 @@ shortened_start = refl
 joint_numbers : meaning (
     codes "agents: 2\ndiscount: 1\nvalues: reward\nstates: 1\nstart: 0\nactions:\n2\n3\nobservations:\n2\n3\nT: * : identity\n"
     ++ codes "O: * : 0 : 0 2 : 1\nR: 1 0 : * : * : * : 5\nR: * 1 : 0 : 0 : * 0 : 7\n")
-    ≡ Means (record {
-      model = record {
+    ≡ named
+      (record {
         states = 1;
         actions = 2 ∷ 3 ∷ [];
         observations = 2 ∷ 3 ∷ [];
@@ -286,10 +285,8 @@ joint_numbers : meaning (
         trans = replicate 6 1;
         obs = flat_map {X = ℕ} (λ a. 0 ∷ 0 ∷ 1 ∷ 0 ∷ 0 ∷ 0 ∷ []) (replicate 6 0);
         reward = replicate 6 (pos 0) ++ seven ++ replicate 6 (pos 0) ++ replicate 6 (pos 5) ++ seven ++ replicate 6 (pos 0);
-      };
-      names = record { agents = []; states = []; actions = [] ∷ [] ∷ []; observations = [] ∷ [] ∷ [] };
-      repaired = 0;
-    })
+      })
+      (counts_of 2) 0
 unfolding is_decimal is_index significand raised lowered decimal_of gcd_of lcm_of is_word is_name tokens_from tokens_of lines_of items_of number numbers names_after name_list name_lists find_in start_of kind_of with_entry header_with header_of fields_of part_of parts_in all_parts value_of statement statements_of chance_of_cell reward_of_cell scales_of start_row table_row trans_rows obs_rows repaired_cells repair repair_all passed_limit text_of rewards_of model_of meaning seven
 joint_numbers = refl
 

@@ -6,15 +6,15 @@ use Rattle.dp_spec.specs.Model.{joint_actions, joint_observations, start_at, tra
 use Rattle.dp_meaning.specs.Header.{Trans, Obs}
 use Rattle.dp_meaning.specs.Scales.{Text, states_in, joint_observations_in, scales_of}
 use Rattle.dp_meaning.specs.Rows.{start_row, trans_rows, obs_rows}
-use Rattle.dp_meaning.specs.Meaning.{ReadModel, Means, meaning}
+use Rattle.dp_meaning.specs.Meaning.{table_model, ReadModel, Means, meaning}
 use Rattle.dp_meaning.specs.MeaningLaws.{IsMeant, given_rows}
 use Rattle.dp_meaning.proofs.Repairs.{repaired_count}
 use Rattle.dp_meaning.proofs.TableRows.{sum_of_table_row}
 use Rattle.dp_meaning.proofs.Meant.{meant, meant_text}
 use Rattle.dp_meaning.proofs.TextLimits.{IsSmall, small}
-use Rattle.dp_meaning.proofs.BuiltModel.{built, IsBuilt, built_of, trans_table, obs_table, sum_of_start}
+use Rattle.dp_meaning.proofs.BuiltModel.{IsBuilt, built_of, trans_table, obs_table, sum_of_start}
 
-pub built_rows : (end : ℕ) (text : Text) (r : ReadModel) (w : IsBuilt end text r) → IsSmall text → AreRows (built text w.start.cells w.trans.cells w.obs.cells)
+pub built_rows : (end : ℕ) (text : Text) (r : ReadModel) (w : IsBuilt end text r) → IsSmall text → AreRows (table_model text w.start.cells w.trans.cells w.obs.cells)
 unfolding joint_actions joint_observations start_at trans_at obs_at
 built_rows end text r w is = record {
   start = (sum_of_start end text w.start (let h = is.states in omega arith) w.start_is).1;
@@ -22,7 +22,7 @@ built_rows end text r w is = record {
   obs = λ a t ha ht. sum_of_table_row text Obs (scales_of text).obs (joint_observations_in text) w.obs.cells (obs_table end text w.obs w.obs_is) (let h = is.observations in omega arith) a t ha ht;
 }
 
-pub rows_sum : (bytes : List ℕ) (r : ReadModel) → meaning bytes ≡ Means r → AreRows r.model
+pub rows_sum : (bytes : List ℕ) (r : ReadModel) → meaning bytes ≡ Means r → AreRows r.model.model
 rows_sum bytes r e =
     let w = meant bytes r e in
     let parts = built_of (length bytes) w.0 r w.1.model in

@@ -2,6 +2,8 @@
 use Rattle.std.specs.Prelude.{ℕ, ◌+◌, ◌*◌, ℤ, List, [], ◌∷◌, length, map, Option, Some, None, Result, Ok, Err}
 use Rattle.std.specs.List.{range_with_len}
 use Rattle.dp_model.specs.declared.limit.TooLarge.{TooLarge}
+use Rattle.dp_model.specs.Names.{NameLists}
+use Rattle.dp_model.specs.Tables.{NamedModel}
 use Rattle.dp_lexer.specs.declared.Token.{Token}
 use Rattle.dp_lexer.specs.Bytes.{line_at, column_at}
 use Rattle.dp_lexer.specs.Tokens.{tokens_of}
@@ -43,17 +45,9 @@ text_of bytes = do
 
 -- ---- the model
 
--- the names of a model's lists, of which a list that is given as a count has none
-pub record Names : Type 0 where
-  pub agents : List (List ℕ)
-  pub states : List (List ℕ)
-  -- for each agent the names of its actions
-  pub actions : List (List (List ℕ))
-  -- for each agent the names of its observations
-  pub observations : List (List (List ℕ))
-
-abbrev pub names_of : Header → Names
-names_of header = record {
+-- the names of the lists, of which a list that is given as a count has none
+abbrev pub names_given : Header → NameLists
+names_given header = record {
   agents = names_in header.agents;
   states = names_in header.states;
   actions = map names_in header.actions;
@@ -62,8 +56,7 @@ names_of header = record {
 
 -- a model with its names, and how many of its rows were repaired
 pub record ReadModel : Type 0 where
-  pub model : Model
-  pub names : Names
+  pub model : NamedModel
   pub repaired : ℕ
 
 -- the rewards by joint action, state, next state and joint observation
@@ -74,6 +67,19 @@ rewards_of text =
     let reward = reward_of_cell text.header.cost (scales_of text).reward (axes_of text.header Reward) (statements_for Reward text.statements) in
     map (λ k. reward (parts_of sizes k)) (range_with_len 0 count)
 
+-- the model of a text whose rows of chances these are
+abbrev pub table_model : Text → List ℕ → List ℕ → List ℕ → Model
+table_model text start trans obs = record {
+  states = states_in text;
+  actions = map size_of text.header.actions;
+  observations = map size_of text.header.observations;
+  scales = scales_of text;
+  start = start;
+  trans = trans;
+  obs = obs;
+  reward = rewards_of text;
+}
+
 -- the rows of the start, the transitions and the observations in this order, repaired, or the first that cannot be
 unfoldable pub model_of : ℕ → Text → Result ReadModel Fault
 model_of end text = do
@@ -82,16 +88,9 @@ model_of end text = do
   obs ← repair_all end (obs_rows text)
   Ok (record {
     model = record {
-      states = states_in text;
-      actions = map size_of text.header.actions;
-      observations = map size_of text.header.observations;
-      scales = scales_of text;
-      start = start.cells;
-      trans = trans.cells;
-      obs = obs.cells;
-      reward = rewards_of text;
+      model = table_model text start.cells trans.cells obs.cells;
+      names = names_given text.header;
     };
-    names = names_of text.header;
     repaired = start.repaired + trans.repaired + obs.repaired;
   })
 

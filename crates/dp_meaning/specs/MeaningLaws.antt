@@ -2,7 +2,9 @@
 use Rattle.std.specs.Prelude.{◌≡◌, ℕ, ◌<◌, Bool, true, false, not, ◌==◌, ℤ, pos, List, [], ◌∷◌, ◌++◌, length, map, sum, count_by, Some, Ok}
 use Rattle.std.specs.List.{list_any}
 use Rattle.dp_lexer.specs.Comments.{first_bad}
-use Rattle.dp_spec.specs.Model.{joint_actions, joint_observations, trans_at, obs_at, reward_at, AreRows, IsModel}
+use Rattle.dp_spec.specs.Model.{joint_actions, joint_observations, trans_at, obs_at, reward_at, AreRows}
+use Rattle.dp_model.specs.Names.{AreNames}
+use Rattle.dp_model.specs.Tables.{NamedModel, IsNamedModel}
 use Rattle.dp_meaning.specs.declared.why.Why.TheVariants.{BadByte}
 use Rattle.dp_meaning.specs.Header.{Table, Trans, Obs, Reward}
 use Rattle.dp_meaning.specs.Fields.{Axis}
@@ -31,20 +33,20 @@ IsUncovered text table cell = some_covers (axes_of text.header table) (statement
 abbrev pub UncoveredTransitionsAreZero : Type 0
 UncoveredTransitionsAreZero =
     (bytes : List ℕ) (text : Text) (r : ReadModel) → IsMeant bytes text r →
-    (a s t : ℕ) → a < joint_actions r.model → s < r.model.states → t < r.model.states →
-    IsUncovered text Trans (a ∷ s ∷ t ∷ []) → trans_at r.model a s t ≡ 0
+    (a s t : ℕ) → a < joint_actions r.model.model → s < r.model.model.states → t < r.model.model.states →
+    IsUncovered text Trans (a ∷ s ∷ t ∷ []) → trans_at r.model.model a s t ≡ 0
 
 abbrev pub UncoveredObservationsAreZero : Type 0
 UncoveredObservationsAreZero =
     (bytes : List ℕ) (text : Text) (r : ReadModel) → IsMeant bytes text r →
-    (a t o : ℕ) → a < joint_actions r.model → t < r.model.states → o < joint_observations r.model →
-    IsUncovered text Obs (a ∷ t ∷ o ∷ []) → obs_at r.model a t o ≡ 0
+    (a t o : ℕ) → a < joint_actions r.model.model → t < r.model.model.states → o < joint_observations r.model.model →
+    IsUncovered text Obs (a ∷ t ∷ o ∷ []) → obs_at r.model.model a t o ≡ 0
 
 abbrev pub UncoveredRewardsAreZero : Type 0
 UncoveredRewardsAreZero =
     (bytes : List ℕ) (text : Text) (r : ReadModel) → IsMeant bytes text r →
-    (a s t o : ℕ) → a < joint_actions r.model → s < r.model.states → t < r.model.states → o < joint_observations r.model →
-    IsUncovered text Reward (a ∷ s ∷ t ∷ o ∷ []) → reward_at r.model a s t o ≡ pos 0
+    (a s t o : ℕ) → a < joint_actions r.model.model → s < r.model.model.states → t < r.model.model.states → o < joint_observations r.model.model →
+    IsUncovered text Reward (a ∷ s ∷ t ∷ o ∷ []) → reward_at r.model.model a s t o ≡ pos 0
 
 -- A statement that covers a cell gives its value, whatever stands before it, where no later one covers the cell.
 abbrev pub LastCoveringChanceWins : Type 0
@@ -88,29 +90,29 @@ given_rewards text cell = reward_of_cell text.header.cost (scales_of text).rewar
 abbrev pub RightTransitionsAreKept : Type 0
 RightTransitionsAreKept =
     (bytes : List ℕ) (text : Text) (r : ReadModel) → IsMeant bytes text r →
-    (a s t : ℕ) → a < joint_actions r.model → s < r.model.states → t < r.model.states →
-    sum (map (given_trans text) (row_cells (a ∷ s ∷ []) r.model.states)) ≡ r.model.scales.trans →
-    trans_at r.model a s t ≡ given_trans text (a ∷ s ∷ t ∷ [])
+    (a s t : ℕ) → a < joint_actions r.model.model → s < r.model.model.states → t < r.model.model.states →
+    sum (map (given_trans text) (row_cells (a ∷ s ∷ []) r.model.model.states)) ≡ r.model.model.scales.trans →
+    trans_at r.model.model a s t ≡ given_trans text (a ∷ s ∷ t ∷ [])
 
 abbrev pub RightObservationsAreKept : Type 0
 RightObservationsAreKept =
     (bytes : List ℕ) (text : Text) (r : ReadModel) → IsMeant bytes text r →
-    (a t o : ℕ) → a < joint_actions r.model → t < r.model.states → o < joint_observations r.model →
-    sum (map (given_obs text) (row_cells (a ∷ t ∷ []) (joint_observations r.model))) ≡ r.model.scales.obs →
-    obs_at r.model a t o ≡ given_obs text (a ∷ t ∷ o ∷ [])
+    (a t o : ℕ) → a < joint_actions r.model.model → t < r.model.model.states → o < joint_observations r.model.model →
+    sum (map (given_obs text) (row_cells (a ∷ t ∷ []) (joint_observations r.model.model))) ≡ r.model.model.scales.obs →
+    obs_at r.model.model a t o ≡ given_obs text (a ∷ t ∷ o ∷ [])
 
 -- The rewards are as they are given.
 abbrev pub RewardsAreAsGiven : Type 0
 RewardsAreAsGiven =
     (bytes : List ℕ) (text : Text) (r : ReadModel) → IsMeant bytes text r →
-    (a s t o : ℕ) → a < joint_actions r.model → s < r.model.states → t < r.model.states → o < joint_observations r.model →
-    reward_at r.model a s t o ≡ given_rewards text (a ∷ s ∷ t ∷ o ∷ [])
+    (a s t o : ℕ) → a < joint_actions r.model.model → s < r.model.model.states → t < r.model.model.states → o < joint_observations r.model.model →
+    reward_at r.model.model a s t o ≡ given_rewards text (a ∷ s ∷ t ∷ o ∷ [])
 
 -- ---- rows
 
 -- Every row of chances sums to its scale.
 abbrev pub RowsSumToTheirScales : Type 0
-RowsSumToTheirScales = (bytes : List ℕ) (r : ReadModel) → meaning bytes ≡ Means r → AreRows r.model
+RowsSumToTheirScales = (bytes : List ℕ) (r : ReadModel) → meaning bytes ≡ Means r → AreRows r.model.model
 
 -- the rows of the start, the transitions and the observations as the text gives them
 abbrev pub given_rows : Text → List Row
@@ -124,9 +126,13 @@ RepairedRowsAreCounted =
 
 -- ---- the model
 
--- What a file means is a model.
+-- What a file means is a model with names, each list of which names all of its kind or none.
 abbrev pub MeaningsAreModels : Type 0
-MeaningsAreModels = (bytes : List ℕ) (r : ReadModel) → meaning bytes ≡ Means r → IsModel r.model
+MeaningsAreModels = (bytes : List ℕ) (r : ReadModel) → meaning bytes ≡ Means r → IsNamedModel r.model
+
+-- The names are names, and none stands twice in a list.
+abbrev pub NamesAreNames : Type 0
+NamesAreNames = (bytes : List ℕ) (r : ReadModel) → meaning bytes ≡ Means r → AreNames r.model.names
 
 -- ---- faults
 
