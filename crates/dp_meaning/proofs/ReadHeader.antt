@@ -11,25 +11,25 @@ use Rattle.dp_meaning.specs.Entries.{discount_of, is_cost, agent_lines, start_of
 use Rattle.dp_meaning.specs.Header.{Entry, Agents, Discount, Values, States, StartEntry, Actions, Observations, ItemKind, HeaderEntry, StatementOf, NoItem, kind_of, Entries, Header, no_entries, unless_come, entry, with_entry, header_with, header_of}
 use Rattle.dp_meaning.proofs.FaultSteps.{done, ok_same, err_not_ok, bind_ok}
 use Rattle.dp_meaning.proofs.Each.{Each}
-use Rattle.dp_meaning.proofs.ReadValues.{number_fits, ended_same, list_not_empty, lists_not_empty}
+use Rattle.dp_meaning.proofs.ReadValues.{IsList, number_fits, ended_same, list_is, lists_are}
 
--- lists for the agents: one for each, none of them empty
+-- lists for the agents: one for each
 pub record AreLists (agents : NameList) (lists : List NameList) : Type 0 where
   pub count : length lists ≡ size_of agents
-  pub some : Each (λ l. 1 ≤ size_of l) lists
+  pub each : Each IsList lists
 
 -- what is known of the entries that have come
 record AreEntries (e : Entries) : Type 0 where
-  agents : (l : NameList) → e.agents ≡ Some l → 1 ≤ size_of l
-  states : (l : NameList) → e.states ≡ Some l → 1 ≤ size_of l
+  agents : (l : NameList) → e.agents ≡ Some l → IsList l
+  states : (l : NameList) → e.states ≡ Some l → IsList l
   discount : (d : Decimal) → e.discount ≡ Some d → is_chance d ≡ true
   actions : (ls : List NameList) → e.actions ≡ Some ls → (l : NameList) × (e.agents ≡ Some l) × AreLists l ls
   observations : (ls : List NameList) → e.observations ≡ Some ls → (l : NameList) × (e.agents ≡ Some l) × AreLists l ls
 
 -- what is known of the header
 pub record IsHeader (h : Header) : Type 0 where
-  pub agents : 1 ≤ size_of h.agents
-  pub states : 1 ≤ size_of h.states
+  pub agents : IsList h.agents
+  pub states : IsList h.states
   pub discount : is_chance h.discount ≡ true
   pub actions : AreLists h.agents h.actions
   pub observations : AreLists h.agents h.observations
@@ -54,7 +54,7 @@ discount_fits next (piece ∷ pieces) d e =
     subst (λ n. is_chance n ≡ true) (ended_same w.0 d pieces w.2) (number_fits is_chance piece w.0 w.1)
 
 read_lists : (next : ℕ) (agents : NameList) (lines : List (List Piece)) (lists : List NameList) → name_lists next (size_of agents) lines ≡ done lists → AreLists agents lists
-read_lists next agents lines lists e = let w = lists_not_empty next (size_of agents) lines lists e in record { count = w.0; some = w.1 }
+read_lists next agents lines lists e = let w = lists_are next (size_of agents) lines lists e in record { count = w.0; each = w.1 }
 
 with_entry_is : (kind : Entry) (item : Item) (e more : Entries) → AreEntries e → with_entry kind item e ≡ done more → AreEntries more
 unfolding with_entry
@@ -63,7 +63,7 @@ with_entry_is Agents item e more is f =
     let value = bind_ok (name_list item.next (value_pieces item)) _ more first.2 in
     let none = none_come (item_at item) e.agents first.0 first.1 in
     subst AreEntries (ok_same _ more value.2) (record {
-      agents = λ l s. subst (λ x. 1 ≤ size_of x) (some_same value.0 l s) (list_not_empty item.next (value_pieces item) value.0 value.1);
+      agents = λ l s. subst IsList (some_same value.0 l s) (list_is item.next (value_pieces item) value.0 value.1);
       states = is.states;
       discount = is.discount;
       actions = λ ls s. absurd (clash none (is.actions ls s));
@@ -97,7 +97,7 @@ with_entry_is States item e more is f =
     let value = bind_ok (name_list item.next (value_pieces item)) _ more first.2 in
     subst AreEntries (ok_same _ more value.2) (record {
       agents = is.agents;
-      states = λ l s. subst (λ x. 1 ≤ size_of x) (some_same value.0 l s) (list_not_empty item.next (value_pieces item) value.0 value.1);
+      states = λ l s. subst IsList (some_same value.0 l s) (list_is item.next (value_pieces item) value.0 value.1);
       discount = is.discount;
       actions = is.actions;
       observations = is.observations;

@@ -14,9 +14,9 @@ use Rattle.dp_meaning.proofs.Meant.{meant, meant_text}
 use Rattle.dp_meaning.proofs.TextLimits.{IsSmall, small}
 use Rattle.dp_meaning.proofs.BuiltModel.{IsBuilt, built_of, trans_table, obs_table, sum_of_start}
 
-pub built_rows : (end : ℕ) (text : Text) (r : ReadModel) (w : IsBuilt end text r) → IsSmall text → AreRows (table_model text w.start.cells w.trans.cells w.obs.cells)
+pub table_model_rows : (end : ℕ) (text : Text) (r : ReadModel) (w : IsBuilt end text r) → IsSmall text → AreRows (table_model text w.start.cells w.trans.cells w.obs.cells)
 unfolding joint_actions joint_observations start_at trans_at obs_at
-built_rows end text r w is = record {
+table_model_rows end text r w is = record {
   start = (sum_of_start end text w.start (let h = is.states in omega arith) w.start_is).1;
   trans = λ a s ha hs. sum_of_table_row text Trans (scales_of text).trans (states_in text) w.trans.cells (trans_table end text w.trans w.trans_is) (let h = is.states in omega arith) a s ha hs;
   obs = λ a t ha ht. sum_of_table_row text Obs (scales_of text).obs (joint_observations_in text) w.obs.cells (obs_table end text w.obs w.obs_is) (let h = is.observations in omega arith) a t ha ht;
@@ -26,7 +26,7 @@ pub rows_sum : (bytes : List ℕ) (r : ReadModel) → meaning bytes ≡ Means r 
 rows_sum bytes r e =
     let w = meant bytes r e in
     let parts = built_of (length bytes) w.0 r w.1.model in
-    subst AreRows (sym parts.model) (built_rows (length bytes) w.0 r parts (small w.0 w.1.within))
+    subst AreRows (sym parts.model) (table_model_rows (length bytes) w.0 r parts (small w.0 w.1.within))
 
 pub repaired_rows : (bytes : List ℕ) (text : Text) (r : ReadModel) → IsMeant bytes text r
     → r.repaired ≡ count_by (λ row. not (sum row.cells == row.scale)) (given_rows text)

@@ -1,10 +1,10 @@
 -- Lists of agents, states, actions and observations: each is given as a count or by names.
-use Rattle.std.specs.Prelude.{ℕ, zero, suc, Bool, not, ◌&&◌, ◌||◌, nat_le, nat_lt, if◌then◌else◌, List, [], ◌∷◌, ◌++◌, length, Result, Ok}
-use Rattle.std.specs.List.{list_any, position_or_len}
+use Rattle.std.specs.Prelude.{ℕ, zero, suc, Bool, not, ◌&&◌, ◌||◌, nat_le, nat_lt, if◌then◌else◌, List, [], ◌∷◌, ◌++◌, length, Option, Some, None, Result, Ok}
 use Rattle.std.specs.Str.{bytes_eq}
 use Rattle.std.specs.Str.Parse.{digits_value}
 use Rattle.dp_num.specs.DecimalShape.{is_index}
 use Rattle.dp_num.specs.Names.{is_name}
+use Rattle.dp_model.specs.Names.{has_name, place_of}
 use Rattle.dp_meaning.specs.declared.why.Why.TheVariants.{Expected, UnknownName, DoubleName, Number}
 use Rattle.dp_meaning.specs.Faults.{◌>>=◌, Fault, fault}
 use Rattle.dp_meaning.specs.Items.{Piece}
@@ -39,7 +39,7 @@ unfoldable pub names_after : List (List ℕ) → List Piece → Result (List (Li
 names_after before [] = Ok before
 names_after before (piece ∷ pieces) =
     if not (is_name piece.text) then fault Expected piece.at
-    else if list_any (bytes_eq piece.text) before then fault DoubleName piece.at
+    else if has_name before piece.text then fault DoubleName piece.at
     else names_after (before ++ piece.text ∷ []) pieces
 
 -- a count is an index from 1 to 65,536
@@ -65,13 +65,17 @@ name_lists next (suc agents) (line ∷ lines) = do
 
 -- ---- a name or an index that is looked up
 
--- its place in its list, or a number that is not below the list's size
-abbrev pub place_in : NameList → Piece → ℕ
-place_in (Counted n) piece = if is_index piece.text then index piece else n
-place_in (Named names) piece = if is_index piece.text then index piece else position_or_len (bytes_eq piece.text) names
+abbrev pub if_below : ℕ → ℕ → Option ℕ
+if_below size n = if nat_lt n size then Some n else None
+
+-- the place of an index or of a name in a list, where the list has it
+abbrev pub place_in : NameList → Piece → Option ℕ
+place_in list piece = if is_index piece.text then if_below (size_of list) (index piece) else place_of (names_in list) piece.text
+
+abbrev pub found_at : ℕ → Option ℕ → Result ℕ Fault
+found_at at (Some n) = Ok n
+found_at at None = fault UnknownName at
 
 unfoldable pub find_in : NameList → Piece → Result ℕ Fault
 find_in list piece =
-    if not (is_index piece.text || is_name piece.text) then fault Expected piece.at
-    else if nat_lt (place_in list piece) (size_of list) then Ok (place_in list piece)
-    else fault UnknownName piece.at
+    if is_index piece.text || is_name piece.text then found_at piece.at (place_in list piece) else fault Expected piece.at

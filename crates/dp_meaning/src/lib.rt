@@ -16,6 +16,6 @@ pub use cells::{
     uncovered_transitions_are_zero,
 };
 pub use faults::bad_bytes_come_first;
-pub use models::meanings_are_models;
+pub use models::{meanings_are_models, names_are_names};
 pub use rows::{repaired_rows_are_counted, rows_sum_to_their_scales};
 pub use why::Why;
