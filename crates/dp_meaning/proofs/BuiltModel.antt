@@ -90,12 +90,15 @@ pub length_of_rewards : (text : Text) → length (rewards_of text) ≡ joint_act
 unfolding rewards_of
 length_of_rewards text = length-map-range_with_len _ 0 _
 
-pub reward_of_place : (text : Text) (a s t o : ℕ) → a < joint_actions_in text → s < states_in text → t < states_in text → o < joint_observations_in text
+pub reward_of_place : (text : Text) (a s t o : ℕ) → a < joint_actions_in text → s < states_in text → t < states_in text
+    → o < joint_observations_in text
     → get_or (rewards_of text) (((a * states_in text + s) * states_in text + t) * joint_observations_in text + o) (pos 0)
-    ≡ reward_of_cell text.header.cost (scales_of text).reward (axes_of text.header Reward) (statements_for Reward text.statements) (a ∷ s ∷ t ∷ o ∷ [])
+    ≡ reward_of_cell text.header.cost (scales_of text).reward (axes_of text.header Reward) (statements_for Reward text.statements)
+        (a ∷ s ∷ t ∷ o ∷ [])
 unfolding rewards_of
 reward_of_place text a s t o ha hs ht ho =
     let at = ((a * states_in text + s) * states_in text + t) * joint_observations_in text + o in
-    get_or-map-range_with_len _ 0 _ at at (pos 0) (cell_below (joint_actions_in text) (states_in text) (states_in text) (joint_observations_in text) a s t o ha hs ht ho) (omega arith)
+    get_or-map-range_with_len _ 0 _ at at (pos 0) (cell_below (joint_actions_in text) (states_in text) (states_in text)
+        (joint_observations_in text) a s t o ha hs ht ho) (omega arith)
     ∙ ap (reward_of_cell text.header.cost (scales_of text).reward (axes_of text.header Reward) (statements_for Reward text.statements))
     (parts_of_cell (joint_actions_in text) (states_in text) (states_in text) (joint_observations_in text) a s t o ha hs ht ho)

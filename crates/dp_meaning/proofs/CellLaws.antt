@@ -14,11 +14,13 @@ use Rattle.dp_meaning.proofs.CellValues.{reward_uncovered}
 use Rattle.dp_meaning.proofs.Meant.{meant_text}
 use Rattle.dp_meaning.proofs.BuiltModel.{built_of, trans_table, obs_table, reward_of_place}
 
-given_trans_row : (text : Text) (a s : ℕ) → (given_row text Trans (scales_of text).trans (states_in text) a s).cells ≡ map (given_trans text) (row_cells (a ∷ s ∷ []) (states_in text))
+given_trans_row : (text : Text) (a s : ℕ) → (given_row text Trans (scales_of text).trans (states_in text) a s).cells ≡ map
+    (given_trans text) (row_cells (a ∷ s ∷ []) (states_in text))
 unfolding table_row
 given_trans_row text a s = refl
 
-given_obs_row : (text : Text) (a t : ℕ) → (given_row text Obs (scales_of text).obs (joint_observations_in text) a t).cells ≡ map (given_obs text) (row_cells (a ∷ t ∷ []) (joint_observations_in text))
+given_obs_row : (text : Text) (a t : ℕ) → (given_row text Obs (scales_of text).obs (joint_observations_in text) a t).cells ≡ map
+    (given_obs text) (row_cells (a ∷ t ∷ []) (joint_observations_in text))
 unfolding table_row
 given_obs_row text a t = refl
 
@@ -28,8 +30,10 @@ pub uncovered_transition : (bytes : List ℕ) (text : Text) (r : ReadModel) → 
 unfolding joint_actions trans_at
 uncovered_transition bytes text r h a s t =
     let w = built_of (length bytes) text r (meant_text bytes text r h).model in
-    subst (λ m. a < joint_actions m → s < m.states → t < m.states → IsUncovered text Trans (a ∷ s ∷ t ∷ []) → trans_at m a s t ≡ 0) (sym w.model)
-    (uncovered_of_table text Trans (scales_of text).trans (states_in text) w.trans.cells (trans_table (length bytes) text w.trans w.trans_is) a s t)
+    subst (λ m. a < joint_actions m → s < m.states → t < m.states → IsUncovered text Trans (a ∷ s ∷ t ∷ []) → trans_at m a s t ≡ 0)
+        (sym w.model)
+    (uncovered_of_table text Trans (scales_of text).trans (states_in text) w.trans.cells
+        (trans_table (length bytes) text w.trans w.trans_is) a s t)
 
 pub uncovered_observation : (bytes : List ℕ) (text : Text) (r : ReadModel) → IsMeant bytes text r
     → (a t o : ℕ) → a < joint_actions r.model.model → t < r.model.model.states → o < joint_observations r.model.model
@@ -37,8 +41,10 @@ pub uncovered_observation : (bytes : List ℕ) (text : Text) (r : ReadModel) →
 unfolding joint_actions joint_observations obs_at
 uncovered_observation bytes text r h a t o =
     let w = built_of (length bytes) text r (meant_text bytes text r h).model in
-    subst (λ m. a < joint_actions m → t < m.states → o < joint_observations m → IsUncovered text Obs (a ∷ t ∷ o ∷ []) → obs_at m a t o ≡ 0) (sym w.model)
-    (uncovered_of_table text Obs (scales_of text).obs (joint_observations_in text) w.obs.cells (obs_table (length bytes) text w.obs w.obs_is) a t o)
+    subst (λ m. a < joint_actions m → t < m.states → o < joint_observations m → IsUncovered text Obs (a ∷ t ∷ o ∷ []) → obs_at m a t o ≡ 0)
+        (sym w.model)
+    (uncovered_of_table text Obs (scales_of text).obs (joint_observations_in text) w.obs.cells
+        (obs_table (length bytes) text w.obs w.obs_is) a t o)
 
 pub right_transition : (bytes : List ℕ) (text : Text) (r : ReadModel) → IsMeant bytes text r
     → (a s t : ℕ) → a < joint_actions r.model.model → s < r.model.model.states → t < r.model.model.states
@@ -47,9 +53,11 @@ pub right_transition : (bytes : List ℕ) (text : Text) (r : ReadModel) → IsMe
 unfolding joint_actions trans_at
 right_transition bytes text r h a s t =
     let w = built_of (length bytes) text r (meant_text bytes text r h).model in
-    subst (λ m. a < joint_actions m → s < m.states → t < m.states → sum (map (given_trans text) (row_cells (a ∷ s ∷ []) m.states)) ≡ m.scales.trans
+    subst (λ m. a < joint_actions m → s < m.states → t < m.states
+        → sum (map (given_trans text) (row_cells (a ∷ s ∷ []) m.states)) ≡ m.scales.trans
     → trans_at m a s t ≡ given_trans text (a ∷ s ∷ t ∷ [])) (sym w.model)
-    (λ ha hs ht e. kept_of_table text Trans (scales_of text).trans (states_in text) w.trans.cells (trans_table (length bytes) text w.trans w.trans_is) a s t ha hs ht
+    (λ ha hs ht e. kept_of_table text Trans (scales_of text).trans (states_in text) w.trans.cells
+        (trans_table (length bytes) text w.trans w.trans_is) a s t ha hs ht
     (ap sum (given_trans_row text a s) ∙ e))
 
 pub right_observation : (bytes : List ℕ) (text : Text) (r : ReadModel) → IsMeant bytes text r
@@ -59,22 +67,28 @@ pub right_observation : (bytes : List ℕ) (text : Text) (r : ReadModel) → IsM
 unfolding joint_actions joint_observations obs_at
 right_observation bytes text r h a t o =
     let w = built_of (length bytes) text r (meant_text bytes text r h).model in
-    subst (λ m. a < joint_actions m → t < m.states → o < joint_observations m → sum (map (given_obs text) (row_cells (a ∷ t ∷ []) (joint_observations m))) ≡ m.scales.obs
+    subst (λ m. a < joint_actions m → t < m.states → o < joint_observations m → sum
+        (map (given_obs text) (row_cells (a ∷ t ∷ []) (joint_observations m))) ≡ m.scales.obs
     → obs_at m a t o ≡ given_obs text (a ∷ t ∷ o ∷ [])) (sym w.model)
-    (λ ha ht ho e. kept_of_table text Obs (scales_of text).obs (joint_observations_in text) w.obs.cells (obs_table (length bytes) text w.obs w.obs_is) a t o ha ht ho
+    (λ ha ht ho e. kept_of_table text Obs (scales_of text).obs (joint_observations_in text) w.obs.cells
+        (obs_table (length bytes) text w.obs w.obs_is) a t o ha ht ho
     (ap sum (given_obs_row text a t) ∙ e))
 
 pub reward_as_given : (bytes : List ℕ) (text : Text) (r : ReadModel) → IsMeant bytes text r
-    → (a s t o : ℕ) → a < joint_actions r.model.model → s < r.model.model.states → t < r.model.model.states → o < joint_observations r.model.model
+    → (a s t o : ℕ) → a < joint_actions r.model.model → s < r.model.model.states → t < r.model.model.states
+        → o < joint_observations r.model.model
     → reward_at r.model.model a s t o ≡ given_rewards text (a ∷ s ∷ t ∷ o ∷ [])
 unfolding joint_actions joint_observations reward_at
 reward_as_given bytes text r h a s t o =
     let w = built_of (length bytes) text r (meant_text bytes text r h).model in
-    subst (λ m. a < joint_actions m → s < m.states → t < m.states → o < joint_observations m → reward_at m a s t o ≡ given_rewards text (a ∷ s ∷ t ∷ o ∷ [])) (sym w.model)
+    subst (λ m. a < joint_actions m → s < m.states → t < m.states → o < joint_observations m
+        → reward_at m a s t o ≡ given_rewards text (a ∷ s ∷ t ∷ o ∷ [])) (sym w.model)
     (reward_of_place text a s t o)
 
 pub uncovered_reward : (bytes : List ℕ) (text : Text) (r : ReadModel) → IsMeant bytes text r
-    → (a s t o : ℕ) → a < joint_actions r.model.model → s < r.model.model.states → t < r.model.model.states → o < joint_observations r.model.model
+    → (a s t o : ℕ) → a < joint_actions r.model.model → s < r.model.model.states → t < r.model.model.states
+        → o < joint_observations r.model.model
     → IsUncovered text Reward (a ∷ s ∷ t ∷ o ∷ []) → reward_at r.model.model a s t o ≡ pos 0
 uncovered_reward bytes text r h a s t o ha hs ht ho none =
-    reward_as_given bytes text r h a s t o ha hs ht ho ∙ reward_uncovered text.header.cost (scales_of text).reward (axes_of text.header Reward) (statements_for Reward text.statements) (a ∷ s ∷ t ∷ o ∷ []) none
+    reward_as_given bytes text r h a s t o ha hs ht ho ∙ reward_uncovered text.header.cost (scales_of text).reward
+        (axes_of text.header Reward) (statements_for Reward text.statements) (a ∷ s ∷ t ∷ o ∷ []) none

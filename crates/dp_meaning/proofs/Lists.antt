@@ -40,7 +40,8 @@ pub each_below_most : {X : Type 0} (f : X → ℕ) (acc : ℕ) (xs : List X) →
 each_below_most f acc [] = tt
 each_below_most f acc (x ∷ xs) = ((let h = most_above f (max acc (f x)) xs in omega arith), each_below_most f (max acc (f x)) xs)
 
-pub most_below : {X : Type 0} (f : X → ℕ) (n acc : ℕ) (xs : List X) → acc ≤ n → Each (λ x. f x ≤ n) xs → fold (λ m x. max m (f x)) acc xs ≤ n
+pub most_below : {X : Type 0} (f : X → ℕ) (n acc : ℕ) (xs : List X) → acc ≤ n → Each (λ x. f x ≤ n) xs
+    → fold (λ m x. max m (f x)) acc xs ≤ n
 most_below f n acc [] h each = h
 most_below f n acc (x ∷ xs) h each = most_below f n (max acc (f x)) xs (let k = each.0 in omega arith) each.1
 

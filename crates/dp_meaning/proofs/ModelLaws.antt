@@ -121,10 +121,12 @@ rewards_bound : (text : Text) → IsText text → (i : ℕ) → unsigned_abs (ge
 unfolding rewards_of scales_of
 rewards_bound text is i =
     each_at (λ r. unsigned_abs r ≤ 10 ^ 8 * 10 ^ digits_of_statements (statements_for Reward text.statements)) (rewards_of text) i (pos 0)
-    (each_of_range _ _ 0 _ (λ k. cell_bound text.header.cost (axes_of text.header Reward) (statements_for Reward text.statements) _ (rewards_only text.statements is.statements)))
+    (each_of_range _ _ 0 _ (λ k. cell_bound text.header.cost (axes_of text.header Reward) (statements_for Reward text.statements) _
+        (rewards_only text.statements is.statements)))
     (omega arith)
 
-table_model_tables : (end : ℕ) (text : Text) (r : ReadModel) (w : IsBuilt end text r) → IsText text → IsSmall text → AreTables (table_model text w.start.cells w.trans.cells w.obs.cells)
+table_model_tables : (end : ℕ) (text : Text) (r : ReadModel) (w : IsBuilt end text r) → IsText text → IsSmall text
+    → AreTables (table_model text w.start.cells w.trans.cells w.obs.cells)
 unfolding joint_actions joint_observations
 table_model_tables end text r w is fits = record {
   start = (sum_of_start end text w.start (let h = fits.states in omega arith) w.start_is).0;
@@ -141,12 +143,14 @@ all_or_none : (list : NameList) → NamesAllOrNone (names_in list) (size_of list
 all_or_none (Counted n) h = absurd (let none : 0 < 0 = h in omega arith)
 all_or_none (Named names) h = refl
 
-all_or_none_at : (lists : List NameList) (i : ℕ) → i < length lists → NamesAllOrNone (get_or (map names_in lists) i []) (get_or (map size_of lists) i 0)
+all_or_none_at : (lists : List NameList) (i : ℕ) → i < length lists → NamesAllOrNone (get_or (map names_in lists) i [])
+    (get_or (map size_of lists) i 0)
 all_or_none_at [] i h = absurd (omega arith)
 all_or_none_at (l ∷ lists) zero h = all_or_none l
 all_or_none_at (l ∷ lists) (suc i) h = all_or_none_at lists i (omega arith)
 
-table_names : (text : Text) (start trans obs : List ℕ) → IsText text → AreNamesOf (table_model text start trans obs) (names_given text.header)
+table_names : (text : Text) (start trans obs : List ℕ) → IsText text → AreNamesOf (table_model text start trans obs)
+    (names_given text.header)
 table_names text start trans obs is =
     let actions = count_of text.header.agents text.header.actions is.header.actions in
     let observations = count_of text.header.agents text.header.observations is.header.observations in
@@ -183,7 +187,8 @@ given_names text is fits =
       states = is.header.states.names (omega arith);
       actions = names_within text.header.actions 256 is.header.actions.each fits.actions (omega arith);
       observations = names_within text.header.observations 256 is.header.observations.each fits.observations (omega arith);
-      alike = length-map text.header.observations names_in ∙ observation_count ∙ sym action_count ∙ sym (length-map text.header.actions names_in);
+      alike = length-map text.header.observations names_in ∙ observation_count ∙ sym action_count
+          ∙ sym (length-map text.header.actions names_in);
     }
 
 -- ---- the model
@@ -195,7 +200,8 @@ model_is bytes r e =
     let is = text_is bytes w.0 w.1.says in
     let fits = small w.0 w.1.within in
     let model = table_model w.0 parts.start.cells parts.trans.cells parts.obs.cells in
-    let of_text : AreNamesOf model r.model.names = subst (AreNamesOf model) (sym parts.names) (table_names w.0 parts.start.cells parts.trans.cells parts.obs.cells is) in
+    let of_text : AreNamesOf model r.model.names = subst (AreNamesOf model) (sym parts.names)
+        (table_names w.0 parts.start.cells parts.trans.cells parts.obs.cells is) in
     record {
       model = subst IsModel (sym parts.model) (record {
         sizes = table_model_sizes w.0 parts.start.cells parts.trans.cells parts.obs.cells is fits;

@@ -53,7 +53,8 @@ discount_fits next (piece ∷ pieces) d e =
     let w = bind_ok (number is_chance piece) _ d e in
     subst (λ n. is_chance n ≡ true) (ended_same w.0 d pieces w.2) (number_fits is_chance piece w.0 w.1)
 
-read_lists : (next : ℕ) (agents : NameList) (lines : List (List Piece)) (lists : List NameList) → name_lists next (size_of agents) lines ≡ done lists → AreLists agents lists
+read_lists : (next : ℕ) (agents : NameList) (lines : List (List Piece)) (lists : List NameList)
+    → name_lists next (size_of agents) lines ≡ done lists → AreLists agents lists
 read_lists next agents lines lists e = let w = lists_are next (size_of agents) lines lists e in record { count = w.0; each = w.1 }
 
 with_entry_is : (kind : Entry) (item : Item) (e more : Entries) → AreEntries e → with_entry kind item e ≡ done more → AreEntries more
@@ -78,7 +79,8 @@ with_entry_is Discount item e more is f =
     subst AreEntries (ok_same _ more value.2) (record {
       agents = is.agents;
       states = is.states;
-      discount = λ d s. subst (λ x. is_chance x ≡ true) (some_same value.0 d s) (discount_fits item.next (value_pieces item) value.0 value.1);
+      discount = λ d s. subst (λ x. is_chance x ≡ true) (some_same value.0 d s)
+          (discount_fits item.next (value_pieces item) value.0 value.1);
       actions = is.actions;
       observations = is.observations;
     })
@@ -121,7 +123,8 @@ with_entry_is Actions item e more is f =
       agents = is.agents;
       states = is.states;
       discount = is.discount;
-      actions = λ ls s. (agents.0, entry_come (item_at item) e.agents agents.0 agents.1, subst (AreLists agents.0) (some_same value.0 ls s) (read_lists item.next agents.0 (agent_lines item) value.0 value.1));
+      actions = λ ls s. (agents.0, entry_come (item_at item) e.agents agents.0 agents.1, subst (AreLists agents.0) (some_same value.0 ls s)
+          (read_lists item.next agents.0 (agent_lines item) value.0 value.1));
       observations = is.observations;
     })
 with_entry_is Observations item e more is f =
@@ -133,12 +136,14 @@ with_entry_is Observations item e more is f =
       states = is.states;
       discount = is.discount;
       actions = is.actions;
-      observations = λ ls s. (agents.0, entry_come (item_at item) e.agents agents.0 agents.1, subst (AreLists agents.0) (some_same value.0 ls s) (read_lists item.next agents.0 (agent_lines item) value.0 value.1));
+      observations = λ ls s. (agents.0, entry_come (item_at item) e.agents agents.0 agents.1, subst (AreLists agents.0)
+          (some_same value.0 ls s) (read_lists item.next agents.0 (agent_lines item) value.0 value.1));
     })
 
 -- ---- the header
 
-lists_of : (e : Entries) (agents : NameList) (lists : List NameList) → e.agents ≡ Some agents → (l : NameList) × (e.agents ≡ Some l) × AreLists l lists → AreLists agents lists
+lists_of : (e : Entries) (agents : NameList) (lists : List NameList) → e.agents ≡ Some agents
+    → (l : NameList) × (e.agents ≡ Some l) × AreLists l lists → AreLists agents lists
 lists_of e agents lists s w = subst (λ l. AreLists l lists) (some_same w.0 agents (sym w.1 ∙ s)) w.2
 
 header_with_is : (at : ℕ) (e : Entries) (h : Header) → AreEntries e → header_with at e ≡ done h → IsHeader h
@@ -157,10 +162,12 @@ header_with_is at e h is f =
       states = is.states states.0 (entry_come at e.states states.0 states.1);
       discount = is.discount discount.0 (entry_come at e.discount discount.0 discount.1);
       actions = lists_of e agents.0 actions.0 named (is.actions actions.0 (entry_come at e.actions actions.0 actions.1));
-      observations = lists_of e agents.0 observations.0 named (is.observations observations.0 (entry_come at e.observations observations.0 observations.1));
+      observations = lists_of e agents.0 observations.0 named
+          (is.observations observations.0 (entry_come at e.observations observations.0 observations.1));
     })
 
-header_from : (end : ℕ) (e : Entries) (items : List Item) (h : Header × List Item) → AreEntries e → header_of end e items ≡ done h → IsHeader h.0
+header_from : (end : ℕ) (e : Entries) (items : List Item) (h : Header × List Item) → AreEntries e → header_of end e items ≡ done h
+    → IsHeader h.0
 unfolding header_of
 header_from end e [] h is f =
     let w = bind_ok (header_with end e) _ h f in subst (λ x. IsHeader x.0) (ok_same _ h w.2) (header_with_is end e w.0 is w.1)
@@ -173,7 +180,8 @@ header_from end e (item ∷ items) h is f = by (kind_of item) f (λ more is g. h
     ]) ≡ done h → ((more : Entries) → AreEntries more → header_of end more items ≡ done h → IsHeader h.0) → IsHeader h.0
     by (HeaderEntry k) g rest = let w = bind_ok (with_entry k item e) _ h g in rest w.0 (with_entry_is k item e w.0 is w.1) w.2
     by (StatementOf table) g rest =
-        let w = bind_ok (header_with (item_at item) e) _ h g in subst (λ x. IsHeader x.0) (ok_same _ h w.2) (header_with_is (item_at item) e w.0 is w.1)
+        let w = bind_ok (header_with (item_at item) e) _ h g in subst (λ x. IsHeader x.0) (ok_same _ h w.2)
+            (header_with_is (item_at item) e w.0 is w.1)
     by NoItem g rest = absurd (err_not_ok h _ g)
 
 pub header_is : (end : ℕ) (items : List Item) (h : Header × List Item) → header_of end no_entries items ≡ done h → IsHeader h.0

@@ -56,13 +56,15 @@ reward_parts d e = by (nat_le (unsigned_abs d.units) (10 ^ (8 + d.digits))) refl
     below : (a b : ℕ) → nat_le a b ≡ true → a ≤ b
     below a b t = grind (arith, nat_tests)
 
-    by : (b : Bool) → nat_le (unsigned_abs d.units) (10 ^ (8 + d.digits)) ≡ b → (c : Bool) → nat_le d.digits 9 ≡ c → (b && c) ≡ true → IsReward d
+    by : (b : Bool) → nat_le (unsigned_abs d.units) (10 ^ (8 + d.digits)) ≡ b → (c : Bool) → nat_le d.digits 9 ≡ c → (b && c) ≡ true
+        → IsReward d
     by true s true t f = (below _ _ t, below _ _ s)
     by true s false t f = cc
     by false s c t f = cc
 
 of_reward_table : (s : Statement) (table : Table) → s.table ≡ table → IsStatement s → is_same_table Reward table ≡ true → GivesRewards s
-of_reward_table s Reward e is same = subst (λ t. Each (λ d. is_number_of t d ≡ true) (numbers_in s.value) → GivesRewards s) (sym e) (each_from _ IsReward reward_parts (numbers_in s.value)) is
+of_reward_table s Reward e is same = subst (λ t. Each (λ d. is_number_of t d ≡ true) (numbers_in s.value) → GivesRewards s) (sym e)
+    (each_from _ IsReward reward_parts (numbers_in s.value)) is
 of_reward_table s Trans e is same = cc
 of_reward_table s Obs e is same = cc
 
@@ -85,10 +87,12 @@ digits_below Identity n each = omega arith
 pub reward_digits : (ss : List Statement) → Each GivesRewards ss → digits_of_statements ss ≤ 9
 reward_digits ss each =
     most_below (λ s. digits_of_value s.value) 9 0 ss (omega arith)
-    (each_from GivesRewards (λ s. digits_of_value s.value ≤ 9) (λ s g. digits_below s.value 9 (each_from IsReward (λ d. d.digits ≤ 9) (λ d h. h.0) (numbers_in s.value) g)) ss each)
+    (each_from GivesRewards (λ s. digits_of_value s.value ≤ 9)
+        (λ s g. digits_below s.value 9 (each_from IsReward (λ d. d.digits ≤ 9) (λ d h. h.0) (numbers_in s.value) g)) ss each)
 
 -- a reward over a scale of enough digits is at most 10^8 times the scale
-reward_bound : (cost : Bool) (digits : ℕ) (d : Decimal) → IsReward d → d.digits ≤ digits → unsigned_abs (reward_over cost (10 ^ digits) d) ≤ 10 ^ 8 * 10 ^ digits
+reward_bound : (cost : Bool) (digits : ℕ) (d : Decimal) → IsReward d → d.digits ≤ digits
+    → unsigned_abs (reward_over cost (10 ^ digits) d) ≤ 10 ^ 8 * 10 ^ digits
 reward_bound cost digits d is h = by cost
   where
     more : ℕ
@@ -101,12 +105,14 @@ reward_bound cost digits d is h = by cost
     factor = ap (λ k. k / 10 ^ d.digits) split ∙ mul-div_cancel (10 ^ more) (some_tens d.digits)
 
     whole : 10 ^ (8 + d.digits) * 10 ^ more ≡ 10 ^ 8 * 10 ^ digits
-    whole = sym (pow-add 10 (8 + d.digits) more) ∙ (let e : 8 + d.digits + more ≡ 8 + digits = omega arith in ap (λ k. 10 ^ k) e) ∙ pow-add 10 8 digits
+    whole = sym (pow-add 10 (8 + d.digits) more) ∙ (let e : 8 + d.digits + more ≡ 8 + digits = omega arith in ap (λ k. 10 ^ k) e)
+        ∙ pow-add 10 8 digits
 
     positive : unsigned_abs (d.units *ℤ pos (10 ^ digits / 10 ^ d.digits)) ≤ 10 ^ 8 * 10 ^ digits
     positive =
         let times = unsigned_abs-mul d.units (pos (10 ^ digits / 10 ^ d.digits)) in
-        let most = mul-le (unsigned_abs d.units) (10 ^ digits / 10 ^ d.digits) (10 ^ (8 + d.digits)) (10 ^ more) is.1 (subst (λ k. k ≤ 10 ^ more) (sym factor) (omega arith)) in
+        let most = mul-le (unsigned_abs d.units) (10 ^ digits / 10 ^ d.digits) (10 ^ (8 + d.digits)) (10 ^ more) is.1
+            (subst (λ k. k ≤ 10 ^ more) (sym factor) (omega arith)) in
         subst (λ k. k ≤ 10 ^ 8 * 10 ^ digits) (sym times) (subst (λ k. unsigned_abs d.units * (10 ^ digits / 10 ^ d.digits) ≤ k) whole most)
 
     negated : (z : ℤ) → unsigned_abs (neg_ℤ z) ≡ unsigned_abs z
@@ -116,22 +122,27 @@ reward_bound cost digits d is h = by cost
     by true = subst (λ k. k ≤ 10 ^ 8 * 10 ^ digits) (sym (negated _)) positive
     by false = positive
 
-given_bound : (cost : Bool) (digits : ℕ) (sizes : List ℕ) (fields : ℕ) (cell : Cell) (v : Value) → Each IsReward (numbers_in v) → digits_of_value v ≤ digits
+given_bound : (cost : Bool) (digits : ℕ) (sizes : List ℕ) (fields : ℕ) (cell : Cell) (v : Value) → Each IsReward (numbers_in v)
+    → digits_of_value v ≤ digits
     → unsigned_abs (given_reward cost (10 ^ digits) sizes fields cell v) ≤ 10 ^ 8 * 10 ^ digits
 given_bound cost digits sizes fields cell (Numbers ns) each h =
     let both = each_with IsReward (λ d. d.digits ≤ most_digits ns) ns each (each_below_most (λ d. d.digits) 0 ns) in
-    let here = each_at (λ d. IsReward d × (d.digits ≤ most_digits ns)) ns (joint_number (drop fields sizes) (drop fields cell)) no_number both ((omega arith, omega arith), omega arith) in
+    let here = each_at (λ d. IsReward d × (d.digits ≤ most_digits ns)) ns
+        (joint_number (drop fields sizes) (drop fields cell)) no_number both ((omega arith, omega arith), omega arith) in
     reward_bound cost digits (number_at sizes fields cell ns) here.0 (let k = here.1 in omega arith)
 given_bound cost digits sizes fields cell Uniform each h = omega arith
 given_bound cost digits sizes fields cell Identity each h = omega arith
 
-by_bound : (cost : Bool) (digits : ℕ) (axes : List Axis) (cell : Cell) (ss : List Statement) → Each (λ s. GivesRewards s × (digits_of_value s.value ≤ digits)) ss
+by_bound : (cost : Bool) (digits : ℕ) (axes : List Axis) (cell : Cell) (ss : List Statement)
+    → Each (λ s. GivesRewards s × (digits_of_value s.value ≤ digits)) ss
     → unsigned_abs (reward_by cost (10 ^ digits) axes cell (find (λ s. covers axes s.fields cell) ss)) ≤ 10 ^ 8 * 10 ^ digits
 by_bound cost digits axes cell [] each = omega arith
 by_bound cost digits axes cell (s ∷ ss) each = by (covers axes s.fields cell) (by_bound cost digits axes cell ss each.1)
   where
-    by : (b : Bool) → unsigned_abs (reward_by cost (10 ^ digits) axes cell (find (λ s. covers axes s.fields cell) ss)) ≤ 10 ^ 8 * 10 ^ digits
-        → unsigned_abs (reward_by cost (10 ^ digits) axes cell (cond b (Some s) (find (λ s. covers axes s.fields cell) ss))) ≤ 10 ^ 8 * 10 ^ digits
+    by : (b : Bool) → unsigned_abs (reward_by cost (10 ^ digits) axes cell
+        (find (λ s. covers axes s.fields cell) ss)) ≤ 10 ^ 8 * 10 ^ digits
+        → unsigned_abs (reward_by cost (10 ^ digits) axes cell
+            (cond b (Some s) (find (λ s. covers axes s.fields cell) ss))) ≤ 10 ^ 8 * 10 ^ digits
     by true rest = given_bound cost digits (map axis_size axes) (length s.fields) cell s.value each.0.0 each.0.1
     by false rest = rest
 
@@ -140,5 +151,6 @@ pub cell_bound : (cost : Bool) (axes : List Axis) (ss : List Statement) (cell : 
     → unsigned_abs (reward_of_cell cost (10 ^ digits_of_statements ss) axes ss cell) ≤ 10 ^ 8 * 10 ^ digits_of_statements ss
 unfolding reward_of_cell
 cell_bound cost axes ss cell each =
-    let both = each_with GivesRewards (λ s. digits_of_value s.value ≤ digits_of_statements ss) ss each (each_below_most (λ s. digits_of_value s.value) 0 ss) in
+    let both = each_with GivesRewards (λ s. digits_of_value s.value ≤ digits_of_statements ss) ss each
+        (each_below_most (λ s. digits_of_value s.value) 0 ss) in
     by_bound cost (digits_of_statements ss) axes cell (reverse ss) (each_reverse _ ss both)

@@ -24,7 +24,8 @@ numbers_in _ = []
 abbrev pub AreNumbersOf : Table → Value → Type 0
 AreNumbersOf table value = Each (λ d. is_number_of table d ≡ true) (numbers_in value)
 
-value_is : (table : Table) (rest : List Axis) (next : ℕ) (pieces : List Piece) (v : Value) → value_of table rest next pieces ≡ done v → AreNumbersOf table v
+value_is : (table : Table) (rest : List Axis) (next : ℕ) (pieces : List Piece) (v : Value) → value_of table rest next pieces ≡ done v
+    → AreNumbersOf table v
 unfolding value_of
 value_is table rest next [] v e = absurd (err_not_ok v _ e)
 value_is table rest next (piece ∷ pieces) v e =
@@ -37,7 +38,8 @@ value_is table rest next (piece ∷ pieces) v e =
     by false true f = subst (AreNumbersOf table) (ended_same Identity v pieces f) tt
     by false false f =
         let w = bind_ok (numbers (is_number_of table) next (product (map axis_size rest)) (piece ∷ pieces)) _ v f in
-        subst (AreNumbersOf table) (ok_same (Numbers w.0) v w.2) (numbers_fit (is_number_of table) next (product (map axis_size rest)) (piece ∷ pieces) w.0 w.1)
+        subst (AreNumbersOf table) (ok_same (Numbers w.0) v w.2)
+            (numbers_fit (is_number_of table) next (product (map axis_size rest)) (piece ∷ pieces) w.0 w.1)
 
 -- each number of a statement is one of its table's
 abbrev pub IsStatement : Statement → Type 0
@@ -48,16 +50,20 @@ unfolding statement
 statement_is header table item s e =
     let fields = bind_ok (all_parts (axes_of header table) (fields_of (after_colon item)).fields) _ s e in
     let enough = bind_ok (unless_too_few (least_fields table) fields.0 item.first.ends) _ s fields.2 in
-    let value = bind_ok (value_of table (drop (length fields.0) (axes_of header table)) item.next ((fields_of (after_colon item)).rest ++ flat_map pieces_of item.more)) _ s enough.2 in
+    let value = bind_ok (value_of table (drop (length fields.0) (axes_of header table)) item.next
+        ((fields_of (after_colon item)).rest ++ flat_map pieces_of item.more)) _ s enough.2 in
     subst IsStatement (ok_same _ s value.2)
-    (value_is table (drop (length fields.0) (axes_of header table)) item.next ((fields_of (after_colon item)).rest ++ flat_map pieces_of item.more) value.0 value.1)
+    (value_is table (drop (length fields.0) (axes_of header table)) item.next
+        ((fields_of (after_colon item)).rest ++ flat_map pieces_of item.more) value.0 value.1)
 
-statement_of_kind_is : (header : Header) (item : Item) (kind : ItemKind) (s : Statement) → statement_of_kind header item kind ≡ done s → IsStatement s
+statement_of_kind_is : (header : Header) (item : Item) (kind : ItemKind) (s : Statement) → statement_of_kind header item kind ≡ done s
+    → IsStatement s
 statement_of_kind_is header item (HeaderEntry k) s e = absurd (err_not_ok s _ e)
 statement_of_kind_is header item (StatementOf table) s e = statement_is header table item s e
 statement_of_kind_is header item NoItem s e = absurd (err_not_ok s _ e)
 
-pub statements_are : (header : Header) (items : List Item) (ss : List Statement) → statements_of header items ≡ done ss → Each IsStatement ss
+pub statements_are : (header : Header) (items : List Item) (ss : List Statement) → statements_of header items ≡ done ss
+    → Each IsStatement ss
 unfolding statements_of
 statements_are header [] ss e = subst (Each IsStatement) (ok_same [] ss e) tt
 statements_are header (item ∷ items) ss e =

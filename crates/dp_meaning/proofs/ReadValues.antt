@@ -72,7 +72,8 @@ names_count before (piece ∷ pieces) names e =
     by false false rest f g = let h = g f in let k = length-append before (piece.text ∷ []) in omega arith
 
 -- a name that a list lacks makes it a longer list of names
-longer_list : (before : List (List ℕ)) (name : List ℕ) → IsNameList before → is_name name ≡ true → has_name before name ≡ false → length before < 2 ^ 26
+longer_list : (before : List (List ℕ)) (name : List ℕ) → IsNameList before → is_name name ≡ true → has_name before name ≡ false
+    → length before < 2 ^ 26
     → IsNameList (before ++ name ∷ [])
 longer_list before name are named new room =
     subst IsNameList (ap (λ b. cond b before (before ++ name ∷ [])) new) (with_name-kept before name are (search (rules, named)) room)
@@ -117,7 +118,8 @@ unfolding name_list
 list_is next [] list e = absurd (err_not_ok list _ e)
 list_is next (piece ∷ pieces) list e = by (is_index piece.text) e
   where
-    by : (b : Bool) → cond b (count piece >>= λ n. ended (Counted n) pieces) (names_after [] (piece ∷ pieces) >>= λ names. done (Named names)) ≡ done list
+    by : (b : Bool) → cond b (count piece >>= λ n. ended (Counted n) pieces)
+        (names_after [] (piece ∷ pieces) >>= λ names. done (Named names)) ≡ done list
         → IsList list
     by true f =
         let n = bind_ok (count piece) _ list f in
@@ -125,7 +127,8 @@ list_is next (piece ∷ pieces) list e = by (is_index piece.text) e
     by false f =
         let names = bind_ok (names_after [] (piece ∷ pieces)) _ list f in
         let long : 1 ≤ length names.0 = (let h = names_count [] (piece ∷ pieces) names.0 names.1 in omega arith) in
-        subst IsList (ok_same (Named names.0) list names.2) (record { some = long; names = λ h. names_kept [] (piece ∷ pieces) names.0 names.1 h empty-kept })
+        subst IsList (ok_same (Named names.0) list names.2)
+            (record { some = long; names = λ h. names_kept [] (piece ∷ pieces) names.0 names.1 h empty-kept })
 
 -- so many lists that are read are so many
 pub lists_are : (next n : ℕ) (lines : List (List Piece)) (lists : List NameList) → name_lists next n lines ≡ done lists

@@ -19,21 +19,24 @@ near_parts : (scale total : ℕ) → is_near scale total ≡ true → ((scale - 
 near_parts scale total e = grind (arith, nat_tests, e)
 
 -- a row of fewer than a thousand cells sums to its scale once it is repaired
-pub sum_of_repaired : (scale : ℕ) (cells : List ℕ) → length cells < 1000 → is_near scale (sum cells) ≡ true → sum (repaired_cells scale cells) ≡ scale
+pub sum_of_repaired : (scale : ℕ) (cells : List ℕ) → length cells < 1000 → is_near scale (sum cells) ≡ true
+    → sum (repaired_cells scale cells) ≡ scale
 unfolding repaired_cells
 sum_of_repaired scale [] short near = let h = near_parts scale 0 near in omega arith
 sum_of_repaired scale (x ∷ xs) short near =
     let first = first_greatest (x ∷ xs) (omega arith) in
     let at : get_or (x ∷ xs) (position_or_len (λ n. n == greatest_cell (x ∷ xs)) (x ∷ xs)) 0 ≡ greatest_cell (x ∷ xs) =
     equal _ _ (passes_at_first (λ n. n == greatest_cell (x ∷ xs)) (x ∷ xs) 0 first) in
-    let written = sum_by-set (λ n. n) (x ∷ xs) (position_or_len (λ n. n == greatest_cell (x ∷ xs)) (x ∷ xs)) (greatest_cell (x ∷ xs) + scale - sum (x ∷ xs)) 0 first in
+    let written = sum_by-set (λ n. n) (x ∷ xs) (position_or_len (λ n. n == greatest_cell (x ∷ xs)) (x ∷ xs))
+        (greatest_cell (x ∷ xs) + scale - sum (x ∷ xs)) 0 first in
     let most = sum_by-le (λ n. n) (greatest_cell (x ∷ xs)) (x ∷ xs) (below_greatest (x ∷ xs)) in
     enough (length (x ∷ xs)) (greatest_cell (x ∷ xs)) scale (sum (x ∷ xs)) _ _ short most (near_parts scale (sum (x ∷ xs)) near) at written
   where
     equal : (a b : ℕ) → (a == b) ≡ true → a ≡ b
     equal a b e = grind (arith, nat_tests)
 
-    enough : (len greatest scale total cell new : ℕ) → len < 1000 → total ≤ len * greatest → ((scale - total) + (total - scale)) * 1000 ≤ scale
+    enough : (len greatest scale total cell new : ℕ) → len < 1000 → total ≤ len * greatest
+        → ((scale - total) + (total - scale)) * 1000 ≤ scale
         → cell ≡ greatest → new + cell ≡ total + (greatest + scale - total) → new ≡ scale
     enough len greatest scale total cell new short most near at written =
         let times : len * greatest ≤ 999 * greatest = mul-le len greatest 999 greatest (omega arith) (omega arith) in omega arith
@@ -90,7 +93,8 @@ repaired_at at scale given x e = by (sum given == scale) refl (is_near scale (su
     clash h f = grind (arith, nat_tests)
 
     by : (t : Bool) → (sum given == scale) ≡ t → (n : Bool) → is_near scale (sum given) ≡ n
-        → cond t (done (record { cells = given; repaired = 0 })) (cond n (done (record { cells = repaired_cells scale given; repaired = 1 })) (fault RowSum at)) ≡ done x
+        → cond t (done (record { cells = given; repaired = 0 }))
+            (cond n (done (record { cells = repaired_cells scale given; repaired = 1 })) (fault RowSum at)) ≡ done x
         → IsRepair scale given x
     by true s n m f = let same = ok_same _ x f in subst (IsRepair scale given) same (record {
       len = refl;
@@ -124,7 +128,8 @@ repair_all_ok end row rows x e =
     (first.0, others.0, first.1, others.1, ok_same _ x others.2)
 
 -- as many rows are repaired as have a sum that is not their scale
-pub repaired_count : (end : ℕ) (rows : List Row) (x : Repaired) → repair_all end rows ≡ done x → x.repaired ≡ count_by (λ row. not (sum row.cells == row.scale)) rows
+pub repaired_count : (end : ℕ) (rows : List Row) (x : Repaired) → repair_all end rows ≡ done x
+    → x.repaired ≡ count_by (λ row. not (sum row.cells == row.scale)) rows
 unfolding repair_all
 repaired_count end [] x e = ap (λ y. y.repaired) (sym (ok_same _ x e))
 repaired_count end (row ∷ rows) x e =
@@ -137,7 +142,8 @@ repaired_count end (row ∷ rows) x e =
 -- the cells of row i of rows of n cells each stand at i * n and behind
 pub row_of_all : (end n : ℕ) (rows : List Row) (x : Repaired) → ((i : ℕ) (d : Row) → i < length rows → length (get_or rows i d).cells ≡ n)
     → repair_all end rows ≡ done x → (i : ℕ) (d : Row) → i < length rows
-    → (y : Repaired) × IsRepair (get_or rows i d).scale (get_or rows i d).cells y × ((j : ℕ) → j < n → get_or x.cells (i * n + j) 0 ≡ get_or y.cells j 0)
+    → (y : Repaired) × IsRepair (get_or rows i d).scale (get_or rows i d).cells y ×
+        ((j : ℕ) → j < n → get_or x.cells (i * n + j) 0 ≡ get_or y.cells j 0)
 row_of_all end n [] x len e i d h = absurd (omega arith)
 row_of_all end n (row ∷ rows) x len e zero d h =
     let w = repair_all_ok end row rows x e in
@@ -147,7 +153,8 @@ row_of_all end n (row ∷ rows) x len e zero d h =
       λ j l.
           let at : 0 * n + j ≡ j = omega arith in
           let long : j < length w.0.cells = (let a = is.len in let b = len 0 d h in omega arith) in
-          ap (λ y. get_or y.cells (0 * n + j) 0) (sym w.4) ∙ ap (λ k. get_or (w.0.cells ++ w.1.cells) k 0) at ∙ get_or_append_left w.0.cells w.1.cells 0 j long,
+          ap (λ y. get_or y.cells (0 * n + j) 0) (sym w.4) ∙ ap (λ k. get_or (w.0.cells ++ w.1.cells) k 0) at
+              ∙ get_or_append_left w.0.cells w.1.cells 0 j long,
     )
 row_of_all end n (row ∷ rows) x len e (suc i) d h =
     let w = repair_all_ok end row rows x e in
@@ -156,15 +163,18 @@ row_of_all end n (row ∷ rows) x len e (suc i) d h =
       rest.0,
       rest.1,
       λ j l.
-          let at : suc i * n + j ≡ length w.0.cells + (i * n + j) = (let a = is.len in let b = len 0 d (omega arith) in behind i n j (length w.0.cells) (a ∙ b)) in
-          ap (λ y. get_or y.cells (suc i * n + j) 0) (sym w.4) ∙ ap (λ k. get_or (w.0.cells ++ w.1.cells) k 0) at ∙ get_or-append-add w.0.cells w.1.cells _ 0 ∙ rest.2 j l,
+          let at : suc i * n + j ≡ length w.0.cells + (i * n + j) =
+              (let a = is.len in let b = len 0 d (omega arith) in behind i n j (length w.0.cells) (a ∙ b)) in
+          ap (λ y. get_or y.cells (suc i * n + j) 0) (sym w.4) ∙ ap (λ k. get_or (w.0.cells ++ w.1.cells) k 0) at
+              ∙ get_or-append-add w.0.cells w.1.cells _ 0 ∙ rest.2 j l,
     )
   where
     behind : (i n j len : ℕ) → len ≡ n → suc i * n + j ≡ len + (i * n + j)
     behind i n j len f = omega arith
 
 -- and there are no others
-pub length_of_all : (end n : ℕ) (rows : List Row) (x : Repaired) → ((i : ℕ) (d : Row) → i < length rows → length (get_or rows i d).cells ≡ n)
+pub length_of_all : (end n : ℕ) (rows : List Row) (x : Repaired)
+    → ((i : ℕ) (d : Row) → i < length rows → length (get_or rows i d).cells ≡ n)
     → repair_all end rows ≡ done x → length x.cells ≡ length rows * n
 unfolding repair_all
 length_of_all end n [] x len e = ap (λ y. length y.cells) (sym (ok_same _ x e)) ∙ omega arith

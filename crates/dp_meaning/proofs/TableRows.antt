@@ -29,7 +29,8 @@ pub cell_of_table_row : (scale : ℕ) (axes : List Axis) (statements : List Stat
     → get_or (table_row scale axes statements len row).cells j 0 ≡ chance_of_cell scale axes statements (row ++ j ∷ [])
 unfolding table_row
 cell_of_table_row scale axes statements len row j h =
-    get_or-map (chance_of_cell scale axes statements) (row_cells row len) j [] 0 (subst (λ n. j < n) (sym (length-map-range_with_len (λ n. row ++ n ∷ []) 0 len)) h)
+    get_or-map (chance_of_cell scale axes statements) (row_cells row len) j [] 0
+        (subst (λ n. j < n) (sym (length-map-range_with_len (λ n. row ++ n ∷ []) 0 len)) h)
     ∙ ap (chance_of_cell scale axes statements) (get_or-map-range_with_len (λ n. row ++ n ∷ []) 0 len j j [] h (omega arith))
 
 pub scale_of_table_row : (scale : ℕ) (axes : List Axis) (statements : List Statement) (len : ℕ) (row : List ℕ)
@@ -50,7 +51,8 @@ pub record IsTable (text : Text) (table : Table) (scale len : ℕ) (cells : List
       → (y : Repaired) × IsRepair scale (given_row text table scale len a s).cells y
       × ((j : ℕ) → j < len → get_or cells ((a * states_in text + s) * len + j) 0 ≡ get_or y.cells j 0)
 
-pub table_is : (end : ℕ) (text : Text) (table : Table) (scale len : ℕ) (x : Repaired) → repair_all end (table_rows text table scale len) ≡ done x
+pub table_is : (end : ℕ) (text : Text) (table : Table) (scale len : ℕ) (x : Repaired)
+    → repair_all end (table_rows text table scale len) ≡ done x
     → IsTable text table scale len x.cells
 table_is end text table scale len x e = record { size = size; row = row }
   where
@@ -58,7 +60,8 @@ table_is end text table scale len x e = record { size = size; row = row }
     count = joint_actions_in text * states_in text
 
     row_at : ℕ → Row
-    row_at r = table_row scale (axes_of text.header table) (statements_for table text.statements) len (parts_of (joint_actions_in text ∷ states_in text ∷ []) r)
+    row_at r = table_row scale (axes_of text.header table) (statements_for table text.statements) len
+        (parts_of (joint_actions_in text ∷ states_in text ∷ []) r)
 
     is_row : (i : ℕ) (d : Row) → i < count → get_or (map row_at (range_with_len 0 count)) i d ≡ row_at i
     is_row i d h = get_or-map-range_with_len row_at 0 count i i d h (omega arith)
@@ -66,7 +69,8 @@ table_is end text table scale len x e = record { size = size; row = row }
     rows_count : length (map row_at (range_with_len 0 count)) ≡ count
     rows_count = length-map-range_with_len row_at 0 count
 
-    row_len : (i : ℕ) (d : Row) → i < length (map row_at (range_with_len 0 count)) → length (get_or (map row_at (range_with_len 0 count)) i d).cells ≡ len
+    row_len : (i : ℕ) (d : Row) → i < length (map row_at (range_with_len 0 count))
+        → length (get_or (map row_at (range_with_len 0 count)) i d).cells ≡ len
     row_len i d h = ap (λ r. length r.cells) (is_row i d (subst (λ n. i < n) rows_count h)) ∙ length_of_table_row scale _ _ len _
 
     size : length x.cells ≡ joint_actions_in text * states_in text * len
@@ -78,16 +82,21 @@ table_is end text table scale len x e = record { size = size; row = row }
     row a s ha hs =
         let within = row_below (joint_actions_in text) (states_in text) a s ha hs in
         let d = given_row text table scale len a s in
-        let w = row_of_all end len (map row_at (range_with_len 0 count)) x row_len e (a * states_in text + s) d (subst (λ n. a * states_in text + s < n) (sym rows_count) within) in
-        let same = is_row (a * states_in text + s) d within ∙ ap (table_row scale (axes_of text.header table) (statements_for table text.statements) len) (parts_of_row (joint_actions_in text) (states_in text) a s ha hs) in
+        let w = row_of_all end len (map row_at (range_with_len 0 count)) x row_len e (a * states_in text + s) d
+            (subst (λ n. a * states_in text + s < n) (sym rows_count) within) in
+        let same = is_row (a * states_in text + s) d within
+            ∙ ap (table_row scale (axes_of text.header table) (statements_for table text.statements) len)
+            (parts_of_row (joint_actions_in text) (states_in text) a s ha hs) in
         let is = subst (λ r. IsRepair r.scale r.cells w.0) same w.1 in
         (w.0, subst (λ n. IsRepair n (given_row text table scale len a s).cells w.0) (scale_of_table_row scale _ _ len _) is, w.2)
 
 pub sum_of_table_row : (text : Text) (table : Table) (scale len : ℕ) (cells : List ℕ) → IsTable text table scale len cells → len < 1000
-    → (a s : ℕ) → a < joint_actions_in text → s < states_in text → nat_sum len (λ j. get_or cells ((a * states_in text + s) * len + j) 0) ≡ scale
+    → (a s : ℕ) → a < joint_actions_in text → s < states_in text
+        → nat_sum len (λ j. get_or cells ((a * states_in text + s) * len + j) 0) ≡ scale
 sum_of_table_row text table scale len cells is short a s ha hs =
     let w = is.row a s ha hs in
-    sum_of_row len ((a * states_in text + s) * len) scale cells (given_row text table scale len a s).cells w.0 w.1 (length_of_table_row scale _ _ len _) short w.2
+    sum_of_row len ((a * states_in text + s) * len) scale cells (given_row text table scale len a s).cells w.0 w.1
+        (length_of_table_row scale _ _ len _) short w.2
 
 pub uncovered_of_table : (text : Text) (table : Table) (scale len : ℕ) (cells : List ℕ) → IsTable text table scale len cells
     → (a s j : ℕ) → a < joint_actions_in text → s < states_in text → j < len
@@ -101,7 +110,8 @@ uncovered_of_table text table scale len cells is a s j ha hs hj none =
 pub kept_of_table : (text : Text) (table : Table) (scale len : ℕ) (cells : List ℕ) → IsTable text table scale len cells
     → (a s j : ℕ) → a < joint_actions_in text → s < states_in text → j < len
     → sum (given_row text table scale len a s).cells ≡ scale
-    → get_or cells ((a * states_in text + s) * len + j) 0 ≡ chance_of_cell scale (axes_of text.header table) (statements_for table text.statements) (a ∷ s ∷ j ∷ [])
+    → get_or cells ((a * states_in text + s) * len + j) 0 ≡ chance_of_cell scale (axes_of text.header table)
+        (statements_for table text.statements) (a ∷ s ∷ j ∷ [])
 kept_of_table text table scale len cells is a s j ha hs hj right =
     let w = is.row a s ha hs in
     w.2 j hj ∙ ap (λ c. get_or c j 0) (w.1.kept right) ∙ cell_of_table_row scale _ _ len _ j hj

@@ -64,7 +64,8 @@ unfoldable pub rewards_of : Text → List ℤ
 rewards_of text =
     let sizes = joint_actions_in text ∷ states_in text ∷ states_in text ∷ joint_observations_in text ∷ [] in
     let count = joint_actions_in text * states_in text * states_in text * joint_observations_in text in
-    let reward = reward_of_cell text.header.cost (scales_of text).reward (axes_of text.header Reward) (statements_for Reward text.statements) in
+    let reward = reward_of_cell text.header.cost (scales_of text).reward (axes_of text.header Reward)
+        (statements_for Reward text.statements) in
     map (λ k. reward (parts_of sizes k)) (range_with_len 0 count)
 
 -- the model of a text whose rows of chances these are
@@ -106,12 +107,12 @@ pub data Meaning : Type 0 where
   FaultAt : Place → Why → Meaning
   Passes : TooLarge → Meaning
 
-abbrev pub place_of : List ℕ → ℕ → Place
-place_of bytes at = record { line = line_at bytes at; column = column_at bytes at }
+abbrev pub place_at : List ℕ → ℕ → Place
+place_at bytes at = record { line = line_at bytes at; column = column_at bytes at }
 
 abbrev pub meaning_of_model : List ℕ → Result ReadModel Fault → Meaning
 meaning_of_model bytes (Ok r) = Means r
-meaning_of_model bytes (Err e) = FaultAt (place_of bytes e.at) e.why
+meaning_of_model bytes (Err e) = FaultAt (place_at bytes e.at) e.why
 
 -- the limits are tried before the rows
 abbrev pub meaning_within : List ℕ → Text → Option TooLarge → Meaning
@@ -120,7 +121,7 @@ meaning_within bytes text None = meaning_of_model bytes (model_of (length bytes)
 
 abbrev pub meaning_of_text : List ℕ → Result Text Fault → Meaning
 meaning_of_text bytes (Ok text) = meaning_within bytes text (passed_limit text)
-meaning_of_text bytes (Err e) = FaultAt (place_of bytes e.at) e.why
+meaning_of_text bytes (Err e) = FaultAt (place_at bytes e.at) e.why
 
 unfoldable pub meaning : List ℕ → Meaning
 meaning bytes = meaning_of_text bytes (text_of bytes)

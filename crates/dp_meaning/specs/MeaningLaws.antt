@@ -12,7 +12,7 @@ use Rattle.dp_meaning.specs.Statements.{axes_of, axis_size, Statement}
 use Rattle.dp_meaning.specs.Cells.{Cell, covers, statements_for, given_chance, given_reward, chance_of_cell, reward_of_cell}
 use Rattle.dp_meaning.specs.Scales.{Text, scales_of}
 use Rattle.dp_meaning.specs.Rows.{Row, row_cells, start_row, trans_rows, obs_rows}
-use Rattle.dp_meaning.specs.Meaning.{text_of, ReadModel, Means, FaultAt, place_of, meaning}
+use Rattle.dp_meaning.specs.Meaning.{text_of, ReadModel, Means, FaultAt, place_at, meaning}
 
 -- these bytes say this text and mean this model
 pub record IsMeant (bytes : List ℕ) (text : Text) (r : ReadModel) : Type 0 where
@@ -45,7 +45,8 @@ UncoveredObservationsAreZero =
 abbrev pub UncoveredRewardsAreZero : Type 0
 UncoveredRewardsAreZero =
     (bytes : List ℕ) (text : Text) (r : ReadModel) → IsMeant bytes text r →
-    (a s t o : ℕ) → a < joint_actions r.model.model → s < r.model.model.states → t < r.model.model.states → o < joint_observations r.model.model →
+    (a s t o : ℕ) → a < joint_actions r.model.model → s < r.model.model.states → t < r.model.model.states
+        → o < joint_observations r.model.model →
     IsUncovered text Reward (a ∷ s ∷ t ∷ o ∷ []) → reward_at r.model.model a s t o ≡ pos 0
 
 -- A statement that covers a cell gives its value, whatever stands before it, where no later one covers the cell.
@@ -84,7 +85,8 @@ abbrev pub given_obs : Text → Cell → ℕ
 given_obs text cell = chance_of_cell (scales_of text).obs (axes_of text.header Obs) (statements_for Obs text.statements) cell
 
 abbrev pub given_rewards : Text → Cell → ℤ
-given_rewards text cell = reward_of_cell text.header.cost (scales_of text).reward (axes_of text.header Reward) (statements_for Reward text.statements) cell
+given_rewards text cell = reward_of_cell text.header.cost (scales_of text).reward (axes_of text.header Reward)
+    (statements_for Reward text.statements) cell
 
 -- A row whose chances sum to their scale stands in the model as it is given.
 abbrev pub RightTransitionsAreKept : Type 0
@@ -105,7 +107,8 @@ RightObservationsAreKept =
 abbrev pub RewardsAreAsGiven : Type 0
 RewardsAreAsGiven =
     (bytes : List ℕ) (text : Text) (r : ReadModel) → IsMeant bytes text r →
-    (a s t o : ℕ) → a < joint_actions r.model.model → s < r.model.model.states → t < r.model.model.states → o < joint_observations r.model.model →
+    (a s t o : ℕ) → a < joint_actions r.model.model → s < r.model.model.states → t < r.model.model.states
+        → o < joint_observations r.model.model →
     reward_at r.model.model a s t o ≡ given_rewards text (a ∷ s ∷ t ∷ o ∷ [])
 
 -- ---- rows
@@ -139,4 +142,4 @@ NamesAreNames = (bytes : List ℕ) (r : ReadModel) → meaning bytes ≡ Means r
 -- The first bad byte is what is wrong with a text that has one.
 abbrev pub BadBytesComeFirst : Type 0
 BadBytesComeFirst =
-    (bytes : List ℕ) (at : ℕ) → first_bad bytes ≡ Some at → meaning bytes ≡ FaultAt (place_of bytes at) BadByte
+    (bytes : List ℕ) (at : ℕ) → first_bad bytes ≡ Some at → meaning bytes ≡ FaultAt (place_at bytes at) BadByte
