@@ -1,5 +1,6 @@
 -- The model of a text, table by table.
-use Rattle.std.proofs.Common.{◌≡◌, ℕ, ◌+◌, ◌*◌, ◌<◌, List, [], ◌∷◌, ◌++◌, length, get_or, map, refl, sym, ap, subst, ◌∙◌, arith, pos}
+use Rattle.std.proofs.Common.{◌≡◌, ℕ, ◌+◌, ◌*◌, ◌<◌, List, [], ◌∷◌, ◌++◌, length, get_or, map, refl, sym, ap, subst, ◌∙◌, arith, pos, cond}
+use Rattle.std.specs.Prelude.{not, ◌==◌, sum}
 use Rattle.std.proofs.lemmas.List.{append-nil}
 use Rattle.std.proofs.lemmas.List.FromFn.{length-map-range_with_len, get_or-map-range_with_len}
 use Rattle.dp_spec.specs.Sums.{nat_sum}
@@ -13,7 +14,7 @@ use Rattle.dp_meaning.specs.Rows.{Repaired, start_chance, start_row, trans_rows,
 use Rattle.dp_meaning.specs.Meaning.{table_model, names_given, ReadModel, rewards_of, model_of}
 use Rattle.dp_meaning.proofs.CellNumbers.{parts_of_cell, cell_below}
 use Rattle.dp_meaning.proofs.FaultSteps.{done, ok_same, bind_ok}
-use Rattle.dp_meaning.proofs.Repairs.{repair_ok, repair_all_ok}
+use Rattle.dp_meaning.proofs.Repairs.{IsRepair, repair_ok, repair_all_ok}
 use Rattle.dp_meaning.proofs.Lists.{sum_of_places}
 use Rattle.dp_meaning.proofs.TableRows.{IsTable, table_is}
 
@@ -66,23 +67,38 @@ scale_of_start : (text : Text) → (start_row text).scale ≡ (scales_of text).s
 unfolding start_row
 scale_of_start text = refl
 
-no_rows : (end : ℕ) (y : Repaired) → repair_all end [] ≡ done y → y.cells ≡ []
+no_rows : (end : ℕ) (y : Repaired) → repair_all end [] ≡ done y → record { cells = []; repaired = 0 } ≡ y
 unfolding repair_all
-no_rows end y f = ap (λ z. z.cells) (sym (ok_same _ y f))
+no_rows end y f = ok_same _ y f
+
+pub start_is_repair : (end : ℕ) (text : Text) (x : Repaired) → repair_all end (start_row text ∷ []) ≡ done x
+    → IsRepair (scales_of text).start (start_row text).cells x
+start_is_repair end text x e =
+    let w = repair_all_ok end (start_row text) [] x e in
+    let is = subst (λ n. IsRepair n (start_row text).cells w.0) (scale_of_start text) (repair_ok end (start_row text) w.0 w.2) in
+    let none = no_rows end w.1 w.3 in
+    let cells : w.0.cells ≡ x.cells = sym (append-nil w.0.cells) ∙ ap (λ y. w.0.cells ++ y.cells) none ∙ ap (λ y. y.cells) w.4 in
+    let others = ap (λ y. y.repaired) none in
+    let both = ap (λ y. y.repaired) w.4 in
+    let here = is.count in
+    let repaired : x.repaired ≡ cond (not (sum (start_row text).cells == (scales_of text).start)) 1 0 = omega arith in
+    record {
+      len = ap length (sym cells) ∙ is.len;
+      count = repaired;
+      sums = λ h. ap sum (sym cells) ∙ is.sums h;
+      zeros = λ i h z. ap (λ c. get_or c i 0) (sym cells) ∙ is.zeros i h z;
+      kept = λ h. sym cells ∙ is.kept h;
+      near = is.near;
+      others = λ i ne. ap (λ c. get_or c i 0) (sym cells) ∙ is.others i ne;
+    }
 
 -- the row of the start sums to its scale
 pub sum_of_start : (end : ℕ) (text : Text) (x : Repaired) → states_in text < 1000 → repair_all end (start_row text ∷ []) ≡ done x
     → (length x.cells ≡ states_in text) × (nat_sum (states_in text) (λ s. get_or x.cells s 0) ≡ (scales_of text).start)
 sum_of_start end text x short e =
-    let w = repair_all_ok end (start_row text) [] x e in
-    let is = repair_ok end (start_row text) w.0 w.2 in
-    let none = no_rows end w.1 w.3 in
-    let cells : x.cells ≡ w.0.cells = ap (λ y. y.cells) (sym w.4) ∙ ap (λ c. w.0.cells ++ c) none ∙ append-nil w.0.cells in
-    let long = is.len ∙ length_of_start text in (
-      ap length cells ∙ long,
-      ap (λ c. nat_sum (states_in text) (λ s. get_or c s 0)) cells ∙ sum_of_places w.0.cells (states_in text) long
-          ∙ is.sums (subst (λ n. n < 1000) (sym (length_of_start text)) short) ∙ scale_of_start text,
-    )
+    let is = start_is_repair end text x e in
+    let long = is.len ∙ length_of_start text in
+    (long, sum_of_places x.cells (states_in text) long ∙ is.sums (subst (λ n. n < 1000) (sym (length_of_start text)) short))
 
 -- ---- rewards
 
@@ -94,11 +110,11 @@ pub reward_of_place : (text : Text) (a s t o : ℕ) → a < joint_actions_in tex
     → o < joint_observations_in text
     → get_or (rewards_of text) (((a * states_in text + s) * states_in text + t) * joint_observations_in text + o) (pos 0)
     ≡ reward_of_cell text.header.cost (scales_of text).reward (axes_of text.header Reward) (statements_for Reward text.statements)
-        (a ∷ s ∷ t ∷ o ∷ [])
+    (a ∷ s ∷ t ∷ o ∷ [])
 unfolding rewards_of
 reward_of_place text a s t o ha hs ht ho =
     let at = ((a * states_in text + s) * states_in text + t) * joint_observations_in text + o in
     get_or-map-range_with_len _ 0 _ at at (pos 0) (cell_below (joint_actions_in text) (states_in text) (states_in text)
-        (joint_observations_in text) a s t o ha hs ht ho) (omega arith)
+    (joint_observations_in text) a s t o ha hs ht ho) (omega arith)
     ∙ ap (reward_of_cell text.header.cost (scales_of text).reward (axes_of text.header Reward) (statements_for Reward text.statements))
     (parts_of_cell (joint_actions_in text) (states_in text) (states_in text) (joint_observations_in text) a s t o ha hs ht ho)

@@ -54,4 +54,4 @@ pub cell_below : (actions states next seen a s t o : ℕ) → a < actions → s 
     → ((a * states + s) * next + t) * seen + o < actions * states * next * seen
 cell_below actions states next seen a s t o ha hs ht ho =
     row_below (actions * states * next) seen ((a * states + s) * next + t) o
-        (row_below (actions * states) next (a * states + s) t (row_below actions states a s ha hs) ht) ho
+    (row_below (actions * states) next (a * states + s) t (row_below actions states a s ha hs) ht) ho

@@ -20,7 +20,7 @@ chance_of_last scale axes before s after cell h none =
 
 pub chance_of_others : (scale : ℕ) (axes : List Axis) (before : List Statement) (s : Statement) (after : List Statement) (cell : Cell)
     → covers axes s.fields cell ≡ false → chance_of_cell scale axes (before ++ s ∷ after) cell ≡ chance_of_cell scale axes
-        (before ++ after) cell
+    (before ++ after) cell
 unfolding chance_of_cell
 chance_of_others scale axes before s after cell h =
     ap (chance_by scale axes cell) (last_other (λ l. covers axes l.fields cell) before s after h)
@@ -35,7 +35,7 @@ pub reward_of_last : (cost : Bool) (scale : ℕ) (axes : List Axis) (before : Li
     (cell : Cell)
     → covers axes s.fields cell ≡ true → list_any (λ l. covers axes l.fields cell) after ≡ false
     → reward_of_cell cost scale axes (before ++ s ∷ after) cell ≡ given_reward cost scale (map axis_size axes)
-        (length s.fields) cell s.value
+    (length s.fields) cell s.value
 unfolding reward_of_cell
 reward_of_last cost scale axes before s after cell h none =
     ap (reward_by cost scale axes cell) (last_is (λ l. covers axes l.fields cell) before s after h none)
@@ -43,7 +43,7 @@ reward_of_last cost scale axes before s after cell h none =
 pub reward_of_others : (cost : Bool) (scale : ℕ) (axes : List Axis) (before : List Statement) (s : Statement) (after : List Statement)
     (cell : Cell)
     → covers axes s.fields cell ≡ false → reward_of_cell cost scale axes (before ++ s ∷ after) cell ≡ reward_of_cell cost scale axes
-        (before ++ after) cell
+    (before ++ after) cell
 unfolding reward_of_cell
 reward_of_others cost scale axes before s after cell h =
     ap (reward_by cost scale axes cell) (last_other (λ l. covers axes l.fields cell) before s after h)

@@ -77,8 +77,13 @@ limits_are_passed = refl
 abbrev text_with : ℕ → Text
 text_with count = record {
   header = record {
-    agents = Counted 1; discount = record { units = pos 1; digits = 0 }; cost = false; states = Counted 1; start = AnyState;
-    actions = Counted 1 ∷ []; observations = Counted 1 ∷ [];
+    agents = Counted 1;
+    discount = record { units = pos 1; digits = 0 };
+    cost = false;
+    states = Counted 1;
+    start = AnyState;
+    actions = Counted 1 ∷ [];
+    observations = Counted 1 ∷ [];
   };
   statements = replicate count (record { at = 0; table = Reward; fields = []; value = Numbers [] });
 }

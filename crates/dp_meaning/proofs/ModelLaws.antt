@@ -122,7 +122,7 @@ unfolding rewards_of scales_of
 rewards_bound text is i =
     each_at (λ r. unsigned_abs r ≤ 10 ^ 8 * 10 ^ digits_of_statements (statements_for Reward text.statements)) (rewards_of text) i (pos 0)
     (each_of_range _ _ 0 _ (λ k. cell_bound text.header.cost (axes_of text.header Reward) (statements_for Reward text.statements) _
-        (rewards_only text.statements is.statements)))
+    (rewards_only text.statements is.statements)))
     (omega arith)
 
 table_model_tables : (end : ℕ) (text : Text) (r : ReadModel) (w : IsBuilt end text r) → IsText text → IsSmall text
@@ -201,7 +201,7 @@ model_is bytes r e =
     let fits = small w.0 w.1.within in
     let model = table_model w.0 parts.start.cells parts.trans.cells parts.obs.cells in
     let of_text : AreNamesOf model r.model.names = subst (AreNamesOf model) (sym parts.names)
-        (table_names w.0 parts.start.cells parts.trans.cells parts.obs.cells is) in
+    (table_names w.0 parts.start.cells parts.trans.cells parts.obs.cells is) in
     record {
       model = subst IsModel (sym parts.model) (record {
         sizes = table_model_sizes w.0 parts.start.cells parts.trans.cells parts.obs.cells is fits;

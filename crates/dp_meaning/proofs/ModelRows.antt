@@ -230,24 +230,24 @@ two_agents : meaning (
     ++ codes "T: v 0 : a :\n0.25 0.75\nT: u * : identity\nT: 1 * : b : a : 1 # v\nO: * : * :\n0.5\n0.500\n"
     ++ codes "O: * * : b : * q : 1\nO: * * : b : * p : 0\nR: * : a :\n1 -2.5\n3 4\nR: v * : b : a : 0.25 0\n")
     ≡ named
-      (record {
-        states = 2;
-        actions = 2 ∷ 1 ∷ [];
-        observations = 1 ∷ 2 ∷ [];
-        scales = record { start = 1; trans = 100; obs = 10; reward = 100; discount = 10; gain = 5 };
-        start = 0 ∷ 1 ∷ [];
-        trans = 100 ∷ 0 ∷ 0 ∷ 100 ∷ 25 ∷ 75 ∷ 100 ∷ 0 ∷ [];
-        obs = 5 ∷ 5 ∷ 0 ∷ 10 ∷ 5 ∷ 5 ∷ 0 ∷ 10 ∷ [];
-        reward = negsuc 99 ∷ pos 250 ∷ negsuc 299 ∷ negsuc 399 ∷ pos 0 ∷ pos 0 ∷ pos 0 ∷ pos 0
+    (record {
+      states = 2;
+      actions = 2 ∷ 1 ∷ [];
+      observations = 1 ∷ 2 ∷ [];
+      scales = record { start = 1; trans = 100; obs = 10; reward = 100; discount = 10; gain = 5 };
+      start = 0 ∷ 1 ∷ [];
+      trans = 100 ∷ 0 ∷ 0 ∷ 100 ∷ 25 ∷ 75 ∷ 100 ∷ 0 ∷ [];
+      obs = 5 ∷ 5 ∷ 0 ∷ 10 ∷ 5 ∷ 5 ∷ 0 ∷ 10 ∷ [];
+      reward = negsuc 99 ∷ pos 250 ∷ negsuc 299 ∷ negsuc 399 ∷ pos 0 ∷ pos 0 ∷ pos 0 ∷ pos 0
           ∷ negsuc 99 ∷ pos 250 ∷ negsuc 299 ∷ negsuc 399 ∷ negsuc 24 ∷ pos 0 ∷ pos 0 ∷ pos 0 ∷ [];
-      })
-      (record {
-        agents = codes "x" ∷ codes "y" ∷ [];
-        states = codes "a" ∷ codes "b" ∷ [];
-        actions = (codes "u" ∷ codes "v" ∷ []) ∷ [] ∷ [];
-        observations = [] ∷ (codes "p" ∷ codes "q" ∷ []) ∷ [];
-      })
-      0
+    })
+    (record {
+      agents = codes "x" ∷ codes "y" ∷ [];
+      states = codes "a" ∷ codes "b" ∷ [];
+      actions = (codes "u" ∷ codes "v" ∷ []) ∷ [] ∷ [];
+      observations = [] ∷ (codes "p" ∷ codes "q" ∷ []) ∷ [];
+    })
+    0
 unfolding is_decimal is_index significand raised lowered decimal_of gcd_of lcm_of is_word is_name tokens_from tokens_of lines_of items_of number numbers names_after name_list name_lists find_in start_of kind_of with_entry header_with header_of fields_of part_of parts_in all_parts value_of statement statements_of chance_of_cell reward_of_cell scales_of start_row table_row trans_rows obs_rows repaired_cells repair repair_all passed_limit text_of rewards_of model_of meaning
 two_agents = refl
 
@@ -276,17 +276,16 @@ joint_numbers : meaning (
     codes "agents: 2\ndiscount: 1\nvalues: reward\nstates: 1\nstart: 0\nactions:\n2\n3\nobservations:\n2\n3\nT: * : identity\n"
     ++ codes "O: * : 0 : 0 2 : 1\nR: 1 0 : * : * : * : 5\nR: * 1 : 0 : 0 : * 0 : 7\n")
     ≡ named
-      (record {
-        states = 1;
-        actions = 2 ∷ 3 ∷ [];
-        observations = 2 ∷ 3 ∷ [];
-        scales = record { start = 1; trans = 1; obs = 1; reward = 1; discount = 1; gain = 1 };
-        start = 1 ∷ [];
-        trans = replicate 6 1;
-        obs = flat_map {X = ℕ} (λ a. 0 ∷ 0 ∷ 1 ∷ 0 ∷ 0 ∷ 0 ∷ []) (replicate 6 0);
-        reward = replicate 6 (pos 0) ++ seven ++ replicate 6 (pos 0) ++ replicate 6 (pos 5) ++ seven ++ replicate 6 (pos 0);
-      })
-      (counts_of 2) 0
+    (record {
+      states = 1;
+      actions = 2 ∷ 3 ∷ [];
+      observations = 2 ∷ 3 ∷ [];
+      scales = record { start = 1; trans = 1; obs = 1; reward = 1; discount = 1; gain = 1 };
+      start = 1 ∷ [];
+      trans = replicate 6 1;
+      obs = flat_map {X = ℕ} (λ a. 0 ∷ 0 ∷ 1 ∷ 0 ∷ 0 ∷ 0 ∷ []) (replicate 6 0);
+      reward = replicate 6 (pos 0) ++ seven ++ replicate 6 (pos 0) ++ replicate 6 (pos 5) ++ seven ++ replicate 6 (pos 0);
+    })
+    (counts_of 2) 0
 unfolding is_decimal is_index significand raised lowered decimal_of gcd_of lcm_of is_word is_name tokens_from tokens_of lines_of items_of number numbers names_after name_list name_lists find_in start_of kind_of with_entry header_with header_of fields_of part_of parts_in all_parts value_of statement statements_of chance_of_cell reward_of_cell scales_of start_row table_row trans_rows obs_rows repaired_cells repair repair_all passed_limit text_of rewards_of model_of meaning seven
 joint_numbers = refl
-

@@ -123,8 +123,12 @@ with_entry_is Actions item e more is f =
       agents = is.agents;
       states = is.states;
       discount = is.discount;
-      actions = λ ls s. (agents.0, entry_come (item_at item) e.agents agents.0 agents.1, subst (AreLists agents.0) (some_same value.0 ls s)
-          (read_lists item.next agents.0 (agent_lines item) value.0 value.1));
+      actions = λ ls s. (
+        agents.0,
+        entry_come (item_at item) e.agents agents.0 agents.1,
+        subst (AreLists agents.0) (some_same value.0 ls s)
+            (read_lists item.next agents.0 (agent_lines item) value.0 value.1),
+      );
       observations = is.observations;
     })
 with_entry_is Observations item e more is f =
@@ -136,8 +140,12 @@ with_entry_is Observations item e more is f =
       states = is.states;
       discount = is.discount;
       actions = is.actions;
-      observations = λ ls s. (agents.0, entry_come (item_at item) e.agents agents.0 agents.1, subst (AreLists agents.0)
-          (some_same value.0 ls s) (read_lists item.next agents.0 (agent_lines item) value.0 value.1));
+      observations = λ ls s. (
+        agents.0,
+        entry_come (item_at item) e.agents agents.0 agents.1,
+        subst (AreLists agents.0)
+            (some_same value.0 ls s) (read_lists item.next agents.0 (agent_lines item) value.0 value.1),
+      );
     })
 
 -- ---- the header
@@ -181,7 +189,7 @@ header_from end e (item ∷ items) h is f = by (kind_of item) f (λ more is g. h
     by (HeaderEntry k) g rest = let w = bind_ok (with_entry k item e) _ h g in rest w.0 (with_entry_is k item e w.0 is w.1) w.2
     by (StatementOf table) g rest =
         let w = bind_ok (header_with (item_at item) e) _ h g in subst (λ x. IsHeader x.0) (ok_same _ h w.2)
-            (header_with_is (item_at item) e w.0 is w.1)
+        (header_with_is (item_at item) e w.0 is w.1)
     by NoItem g rest = absurd (err_not_ok h _ g)
 
 pub header_is : (end : ℕ) (items : List Item) (h : Header × List Item) → header_of end no_entries items ≡ done h → IsHeader h.0

@@ -88,7 +88,7 @@ pub reward_digits : (ss : List Statement) → Each GivesRewards ss → digits_of
 reward_digits ss each =
     most_below (λ s. digits_of_value s.value) 9 0 ss (omega arith)
     (each_from GivesRewards (λ s. digits_of_value s.value ≤ 9)
-        (λ s g. digits_below s.value 9 (each_from IsReward (λ d. d.digits ≤ 9) (λ d h. h.0) (numbers_in s.value) g)) ss each)
+    (λ s g. digits_below s.value 9 (each_from IsReward (λ d. d.digits ≤ 9) (λ d h. h.0) (numbers_in s.value) g)) ss each)
 
 -- a reward over a scale of enough digits is at most 10^8 times the scale
 reward_bound : (cost : Bool) (digits : ℕ) (d : Decimal) → IsReward d → d.digits ≤ digits
@@ -112,7 +112,7 @@ reward_bound cost digits d is h = by cost
     positive =
         let times = unsigned_abs-mul d.units (pos (10 ^ digits / 10 ^ d.digits)) in
         let most = mul-le (unsigned_abs d.units) (10 ^ digits / 10 ^ d.digits) (10 ^ (8 + d.digits)) (10 ^ more) is.1
-            (subst (λ k. k ≤ 10 ^ more) (sym factor) (omega arith)) in
+        (subst (λ k. k ≤ 10 ^ more) (sym factor) (omega arith)) in
         subst (λ k. k ≤ 10 ^ 8 * 10 ^ digits) (sym times) (subst (λ k. unsigned_abs d.units * (10 ^ digits / 10 ^ d.digits) ≤ k) whole most)
 
     negated : (z : ℤ) → unsigned_abs (neg_ℤ z) ≡ unsigned_abs z
@@ -128,7 +128,7 @@ given_bound : (cost : Bool) (digits : ℕ) (sizes : List ℕ) (fields : ℕ) (ce
 given_bound cost digits sizes fields cell (Numbers ns) each h =
     let both = each_with IsReward (λ d. d.digits ≤ most_digits ns) ns each (each_below_most (λ d. d.digits) 0 ns) in
     let here = each_at (λ d. IsReward d × (d.digits ≤ most_digits ns)) ns
-        (joint_number (drop fields sizes) (drop fields cell)) no_number both ((omega arith, omega arith), omega arith) in
+    (joint_number (drop fields sizes) (drop fields cell)) no_number both ((omega arith, omega arith), omega arith) in
     reward_bound cost digits (number_at sizes fields cell ns) here.0 (let k = here.1 in omega arith)
 given_bound cost digits sizes fields cell Uniform each h = omega arith
 given_bound cost digits sizes fields cell Identity each h = omega arith
@@ -142,7 +142,7 @@ by_bound cost digits axes cell (s ∷ ss) each = by (covers axes s.fields cell) 
     by : (b : Bool) → unsigned_abs (reward_by cost (10 ^ digits) axes cell
         (find (λ s. covers axes s.fields cell) ss)) ≤ 10 ^ 8 * 10 ^ digits
         → unsigned_abs (reward_by cost (10 ^ digits) axes cell
-            (cond b (Some s) (find (λ s. covers axes s.fields cell) ss))) ≤ 10 ^ 8 * 10 ^ digits
+        (cond b (Some s) (find (λ s. covers axes s.fields cell) ss))) ≤ 10 ^ 8 * 10 ^ digits
     by true rest = given_bound cost digits (map axis_size axes) (length s.fields) cell s.value each.0.0 each.0.1
     by false rest = rest
 
@@ -152,5 +152,5 @@ pub cell_bound : (cost : Bool) (axes : List Axis) (ss : List Statement) (cell : 
 unfolding reward_of_cell
 cell_bound cost axes ss cell each =
     let both = each_with GivesRewards (λ s. digits_of_value s.value ≤ digits_of_statements ss) ss each
-        (each_below_most (λ s. digits_of_value s.value) 0 ss) in
+    (each_below_most (λ s. digits_of_value s.value) 0 ss) in
     by_bound cost (digits_of_statements ss) axes cell (reverse ss) (each_reverse _ ss both)

@@ -39,7 +39,7 @@ value_is table rest next (piece ∷ pieces) v e =
     by false false f =
         let w = bind_ok (numbers (is_number_of table) next (product (map axis_size rest)) (piece ∷ pieces)) _ v f in
         subst (AreNumbersOf table) (ok_same (Numbers w.0) v w.2)
-            (numbers_fit (is_number_of table) next (product (map axis_size rest)) (piece ∷ pieces) w.0 w.1)
+        (numbers_fit (is_number_of table) next (product (map axis_size rest)) (piece ∷ pieces) w.0 w.1)
 
 -- each number of a statement is one of its table's
 abbrev pub IsStatement : Statement → Type 0
@@ -51,10 +51,10 @@ statement_is header table item s e =
     let fields = bind_ok (all_parts (axes_of header table) (fields_of (after_colon item)).fields) _ s e in
     let enough = bind_ok (unless_too_few (least_fields table) fields.0 item.first.ends) _ s fields.2 in
     let value = bind_ok (value_of table (drop (length fields.0) (axes_of header table)) item.next
-        ((fields_of (after_colon item)).rest ++ flat_map pieces_of item.more)) _ s enough.2 in
+    ((fields_of (after_colon item)).rest ++ flat_map pieces_of item.more)) _ s enough.2 in
     subst IsStatement (ok_same _ s value.2)
     (value_is table (drop (length fields.0) (axes_of header table)) item.next
-        ((fields_of (after_colon item)).rest ++ flat_map pieces_of item.more) value.0 value.1)
+    ((fields_of (after_colon item)).rest ++ flat_map pieces_of item.more) value.0 value.1)
 
 statement_of_kind_is : (header : Header) (item : Item) (kind : ItemKind) (s : Statement) → statement_of_kind header item kind ≡ done s
     → IsStatement s

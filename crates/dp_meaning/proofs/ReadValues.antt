@@ -85,7 +85,7 @@ unfolding names_after
 names_kept before [] names e room are = subst IsNameList (ok_same before names e) are
 names_kept before (piece ∷ pieces) names e room are =
     by (is_name piece.text) refl (has_name before piece.text) refl (names_after (before ++ piece.text ∷ []) pieces) e
-      (names_count (before ++ piece.text ∷ []) pieces names) (λ f l. names_kept (before ++ piece.text ∷ []) pieces names f room l)
+    (names_count (before ++ piece.text ∷ []) pieces names) (λ f l. names_kept (before ++ piece.text ∷ []) pieces names f room l)
   where
     by : (b : Bool) → is_name piece.text ≡ b → (c : Bool) → has_name before piece.text ≡ c → (rest : Result (List (List ℕ)) Fault)
         → cond (not b) (fault Expected piece.at) (cond c (fault DoubleName piece.at) rest) ≡ done names
@@ -128,7 +128,7 @@ list_is next (piece ∷ pieces) list e = by (is_index piece.text) e
         let names = bind_ok (names_after [] (piece ∷ pieces)) _ list f in
         let long : 1 ≤ length names.0 = (let h = names_count [] (piece ∷ pieces) names.0 names.1 in omega arith) in
         subst IsList (ok_same (Named names.0) list names.2)
-            (record { some = long; names = λ h. names_kept [] (piece ∷ pieces) names.0 names.1 h empty-kept })
+        (record { some = long; names = λ h. names_kept [] (piece ∷ pieces) names.0 names.1 h empty-kept })
 
 -- so many lists that are read are so many
 pub lists_are : (next n : ℕ) (lines : List (List Piece)) (lists : List NameList) → name_lists next n lines ≡ done lists

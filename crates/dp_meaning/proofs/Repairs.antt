@@ -9,7 +9,7 @@ use Rattle.std.proofs.lemmas.List.Sums.{sum_by-le, sum_by-set, sum_by-cons, pass
 use Rattle.dp_spec.specs.Sums.{nat_sum}
 use Rattle.dp_meaning.specs.declared.why.Why.TheVariants.{RowSum}
 use Rattle.dp_meaning.specs.Faults.{fault}
-use Rattle.dp_meaning.specs.Rows.{Row, Repaired, greatest_cell, repaired_cells, is_near, repair_at, row_place, repair, repair_all}
+use Rattle.dp_meaning.specs.Rows.{Row, Repaired, greatest_cell, greatest_place, repaired_cells, is_near, repair_at, row_place, repair, repair_all}
 use Rattle.dp_meaning.proofs.FaultSteps.{done, ok_same, err_not_ok, bind_ok}
 use Rattle.dp_meaning.proofs.Lists.{below_greatest, first_greatest, nat_sum_ext, sum_of_places}
 
@@ -28,7 +28,7 @@ sum_of_repaired scale (x ∷ xs) short near =
     let at : get_or (x ∷ xs) (position_or_len (λ n. n == greatest_cell (x ∷ xs)) (x ∷ xs)) 0 ≡ greatest_cell (x ∷ xs) =
     equal _ _ (passes_at_first (λ n. n == greatest_cell (x ∷ xs)) (x ∷ xs) 0 first) in
     let written = sum_by-set (λ n. n) (x ∷ xs) (position_or_len (λ n. n == greatest_cell (x ∷ xs)) (x ∷ xs))
-        (greatest_cell (x ∷ xs) + scale - sum (x ∷ xs)) 0 first in
+    (greatest_cell (x ∷ xs) + scale - sum (x ∷ xs)) 0 first in
     let most = sum_by-le (λ n. n) (greatest_cell (x ∷ xs)) (x ∷ xs) (below_greatest (x ∷ xs)) in
     enough (length (x ∷ xs)) (greatest_cell (x ∷ xs)) scale (sum (x ∷ xs)) _ _ short most (near_parts scale (sum (x ∷ xs)) near) at written
   where
@@ -81,6 +81,8 @@ pub record IsRepair (scale : ℕ) (given : List ℕ) (x : Repaired) : Type 0 whe
   pub sums : length given < 1000 → sum x.cells ≡ scale
   pub zeros : (i : ℕ) → i < length given → get_or given i 0 ≡ 0 → get_or x.cells i 0 ≡ 0
   pub kept : sum given ≡ scale → x.cells ≡ given
+  pub near : is_near scale (sum given) ≡ true
+  pub others : (i : ℕ) → i ≢ greatest_place given → get_or x.cells i 0 ≡ get_or given i 0
 
 repaired_at : (at scale : ℕ) (given : List ℕ) (x : Repaired) → repair_at at scale given ≡ done x → IsRepair scale given x
 unfolding repaired_cells
@@ -89,12 +91,15 @@ repaired_at at scale given x e = by (sum given == scale) refl (is_near scale (su
     equal : (a b : ℕ) → (a == b) ≡ true → a ≡ b
     equal a b f = grind (arith, nat_tests)
 
+    itself : (n : ℕ) → is_near n n ≡ true
+    itself n = let small : ((n - n) + (n - n)) * 1000 ≤ n = omega arith in grind (arith, nat_tests)
+
     clash : sum given ≡ scale → (sum given == scale) ≡ false → ⊥
     clash h f = grind (arith, nat_tests)
 
     by : (t : Bool) → (sum given == scale) ≡ t → (n : Bool) → is_near scale (sum given) ≡ n
         → cond t (done (record { cells = given; repaired = 0 }))
-            (cond n (done (record { cells = repaired_cells scale given; repaired = 1 })) (fault RowSum at)) ≡ done x
+        (cond n (done (record { cells = repaired_cells scale given; repaired = 1 })) (fault RowSum at)) ≡ done x
         → IsRepair scale given x
     by true s n m f = let same = ok_same _ x f in subst (IsRepair scale given) same (record {
       len = refl;
@@ -102,6 +107,8 @@ repaired_at at scale given x e = by (sum given == scale) refl (is_near scale (su
       sums = λ h. equal _ _ s;
       zeros = λ i h z. z;
       kept = λ h. refl;
+      near = ap (is_near scale) (equal _ _ s) ∙ itself scale;
+      others = λ i ne. refl;
     })
     by false s true m f = let same = ok_same _ x f in subst (IsRepair scale given) same (record {
       len = length-set given _ _;
@@ -109,6 +116,8 @@ repaired_at at scale given x e = by (sum given == scale) refl (is_near scale (su
       sums = λ h. sum_of_repaired scale given h m;
       zeros = λ i h z. zero_of_repaired scale given i h m z;
       kept = λ h. absurd (clash h s);
+      near = m;
+      others = λ i ne. get_or-set_other given (greatest_place given) i (greatest_cell given + scale - sum given) 0 ne;
     })
     by false s false m f = absurd (err_not_ok x _ f)
 
@@ -143,7 +152,7 @@ repaired_count end (row ∷ rows) x e =
 pub row_of_all : (end n : ℕ) (rows : List Row) (x : Repaired) → ((i : ℕ) (d : Row) → i < length rows → length (get_or rows i d).cells ≡ n)
     → repair_all end rows ≡ done x → (i : ℕ) (d : Row) → i < length rows
     → (y : Repaired) × IsRepair (get_or rows i d).scale (get_or rows i d).cells y ×
-        ((j : ℕ) → j < n → get_or x.cells (i * n + j) 0 ≡ get_or y.cells j 0)
+    ((j : ℕ) → j < n → get_or x.cells (i * n + j) 0 ≡ get_or y.cells j 0)
 row_of_all end n [] x len e i d h = absurd (omega arith)
 row_of_all end n (row ∷ rows) x len e zero d h =
     let w = repair_all_ok end row rows x e in
@@ -154,7 +163,7 @@ row_of_all end n (row ∷ rows) x len e zero d h =
           let at : 0 * n + j ≡ j = omega arith in
           let long : j < length w.0.cells = (let a = is.len in let b = len 0 d h in omega arith) in
           ap (λ y. get_or y.cells (0 * n + j) 0) (sym w.4) ∙ ap (λ k. get_or (w.0.cells ++ w.1.cells) k 0) at
-              ∙ get_or_append_left w.0.cells w.1.cells 0 j long,
+          ∙ get_or_append_left w.0.cells w.1.cells 0 j long,
     )
 row_of_all end n (row ∷ rows) x len e (suc i) d h =
     let w = repair_all_ok end row rows x e in
@@ -164,9 +173,9 @@ row_of_all end n (row ∷ rows) x len e (suc i) d h =
       rest.1,
       λ j l.
           let at : suc i * n + j ≡ length w.0.cells + (i * n + j) =
-              (let a = is.len in let b = len 0 d (omega arith) in behind i n j (length w.0.cells) (a ∙ b)) in
+          (let a = is.len in let b = len 0 d (omega arith) in behind i n j (length w.0.cells) (a ∙ b)) in
           ap (λ y. get_or y.cells (suc i * n + j) 0) (sym w.4) ∙ ap (λ k. get_or (w.0.cells ++ w.1.cells) k 0) at
-              ∙ get_or-append-add w.0.cells w.1.cells _ 0 ∙ rest.2 j l,
+          ∙ get_or-append-add w.0.cells w.1.cells _ 0 ∙ rest.2 j l,
     )
   where
     behind : (i n j len : ℕ) → len ≡ n → suc i * n + j ≡ len + (i * n + j)

@@ -1,8 +1,8 @@
 -- What holds of the meaning of a model file, in words that do not follow its reading.
-use Rattle.std.specs.Prelude.{◌≡◌, ℕ, ◌<◌, Bool, true, false, not, ◌==◌, ℤ, pos, List, [], ◌∷◌, ◌++◌, length, map, sum, count_by, Some, Ok}
+use Rattle.std.specs.Prelude.{◌≡◌, ◌≢◌, ℕ, ◌<◌, Bool, true, false, not, ◌==◌, ℤ, pos, List, [], ◌∷◌, ◌++◌, length, get_or, map, sum, count_by, Some, Ok}
 use Rattle.std.specs.List.{list_any}
 use Rattle.dp_lexer.specs.Comments.{first_bad}
-use Rattle.dp_spec.specs.Model.{joint_actions, joint_observations, trans_at, obs_at, reward_at, AreRows}
+use Rattle.dp_spec.specs.Model.{joint_actions, joint_observations, start_at, trans_at, obs_at, reward_at, AreRows}
 use Rattle.dp_model.specs.Names.{AreNames}
 use Rattle.dp_model.specs.Tables.{NamedModel, IsNamedModel}
 use Rattle.dp_meaning.specs.declared.why.Why.TheVariants.{BadByte}
@@ -11,7 +11,7 @@ use Rattle.dp_meaning.specs.Fields.{Axis}
 use Rattle.dp_meaning.specs.Statements.{axes_of, axis_size, Statement}
 use Rattle.dp_meaning.specs.Cells.{Cell, covers, statements_for, given_chance, given_reward, chance_of_cell, reward_of_cell}
 use Rattle.dp_meaning.specs.Scales.{Text, scales_of}
-use Rattle.dp_meaning.specs.Rows.{Row, row_cells, start_row, trans_rows, obs_rows}
+use Rattle.dp_meaning.specs.Rows.{Row, row_cells, greatest_place, is_near, start_row, trans_rows, obs_rows}
 use Rattle.dp_meaning.specs.Meaning.{text_of, ReadModel, Means, FaultAt, place_at, meaning}
 
 -- these bytes say this text and mean this model
@@ -46,7 +46,7 @@ abbrev pub UncoveredRewardsAreZero : Type 0
 UncoveredRewardsAreZero =
     (bytes : List ℕ) (text : Text) (r : ReadModel) → IsMeant bytes text r →
     (a s t o : ℕ) → a < joint_actions r.model.model → s < r.model.model.states → t < r.model.model.states
-        → o < joint_observations r.model.model →
+    → o < joint_observations r.model.model →
     IsUncovered text Reward (a ∷ s ∷ t ∷ o ∷ []) → reward_at r.model.model a s t o ≡ pos 0
 
 -- A statement that covers a cell gives its value, whatever stands before it, where no later one covers the cell.
@@ -103,12 +103,38 @@ RightObservationsAreKept =
     sum (map (given_obs text) (row_cells (a ∷ t ∷ []) (joint_observations r.model.model))) ≡ r.model.model.scales.obs →
     obs_at r.model.model a t o ≡ given_obs text (a ∷ t ∷ o ∷ [])
 
+-- In any row the sum of what is given misses the scale by at most a thousandth of it, and all cells but the first
+-- of the largest are as they are given.
+abbrev pub IsNearlyGiven : ℕ → List ℕ → (ℕ → ℕ) → Type 0
+IsNearlyGiven scale given cell_at =
+    (is_near scale (sum given) ≡ true)
+    × ((i : ℕ) → i < length given → i ≢ greatest_place given → cell_at i ≡ get_or given i 0)
+
+abbrev pub TransitionsAreNearlyGiven : Type 0
+TransitionsAreNearlyGiven =
+    (bytes : List ℕ) (text : Text) (r : ReadModel) → IsMeant bytes text r →
+    (a s : ℕ) → a < joint_actions r.model.model → s < r.model.model.states →
+    IsNearlyGiven r.model.model.scales.trans (map (given_trans text) (row_cells (a ∷ s ∷ []) r.model.model.states))
+    (trans_at r.model.model a s)
+
+abbrev pub ObservationsAreNearlyGiven : Type 0
+ObservationsAreNearlyGiven =
+    (bytes : List ℕ) (text : Text) (r : ReadModel) → IsMeant bytes text r →
+    (a t : ℕ) → a < joint_actions r.model.model → t < r.model.model.states →
+    IsNearlyGiven r.model.model.scales.obs (map (given_obs text) (row_cells (a ∷ t ∷ []) (joint_observations r.model.model)))
+    (obs_at r.model.model a t)
+
+abbrev pub StartIsNearlyGiven : Type 0
+StartIsNearlyGiven =
+    (bytes : List ℕ) (text : Text) (r : ReadModel) → IsMeant bytes text r →
+    IsNearlyGiven r.model.model.scales.start (start_row text).cells (start_at r.model.model)
+
 -- The rewards are as they are given.
 abbrev pub RewardsAreAsGiven : Type 0
 RewardsAreAsGiven =
     (bytes : List ℕ) (text : Text) (r : ReadModel) → IsMeant bytes text r →
     (a s t o : ℕ) → a < joint_actions r.model.model → s < r.model.model.states → t < r.model.model.states
-        → o < joint_observations r.model.model →
+    → o < joint_observations r.model.model →
     reward_at r.model.model a s t o ≡ given_rewards text (a ∷ s ∷ t ∷ o ∷ [])
 
 -- ---- rows

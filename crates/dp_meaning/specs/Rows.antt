@@ -66,7 +66,7 @@ table_rows text table scale len =
     let statements = statements_for table text.statements in
     let sizes = joint_actions_in text ∷ states_in text ∷ [] in
     map (λ r. table_row scale (axes_of text.header table) statements len (parts_of sizes r))
-        (range_with_len 0 (joint_actions_in text * states_in text))
+    (range_with_len 0 (joint_actions_in text * states_in text))
 
 unfoldable pub trans_rows : Text → List Row
 trans_rows text = table_rows text Trans (scales_of text).trans (states_in text)
@@ -84,11 +84,13 @@ pub record Repaired : Type 0 where
 abbrev pub greatest_cell : List ℕ → ℕ
 greatest_cell cells = fold max 0 cells
 
--- what is missing to the scale, or too much, goes to the first of the largest cells
+-- the place of the first of the largest cells
+abbrev pub greatest_place : List ℕ → ℕ
+greatest_place cells = position_or_len (λ n. n == greatest_cell cells) cells
+
+-- what is missing to the scale, or too much, goes there
 unfoldable pub repaired_cells : ℕ → List ℕ → List ℕ
-repaired_cells scale cells =
-    let greatest = greatest_cell cells in
-    slice_set cells (position_or_len (λ n. n == greatest) cells) (greatest + scale - sum cells)
+repaired_cells scale cells = slice_set cells (greatest_place cells) (greatest_cell cells + scale - sum cells)
 
 -- the sum misses the scale by at most a thousandth of it
 abbrev pub is_near : ℕ → ℕ → Bool

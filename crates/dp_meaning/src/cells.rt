@@ -3,9 +3,12 @@ ghost use Rattle.dp_meaning.specs.MeaningLaws.{
   LastCoveringRewardWins,
   OtherChancesAreKept,
   OtherRewardsAreKept,
+  ObservationsAreNearlyGiven,
   RewardsAreAsGiven,
   RightObservationsAreKept,
   RightTransitionsAreKept,
+  StartIsNearlyGiven,
+  TransitionsAreNearlyGiven,
   UncoveredObservationsAreZero,
   UncoveredRewardsAreZero,
   UncoveredTransitionsAreZero,
@@ -69,4 +72,22 @@ pub fn right_observations_are_kept()
 #[tactic(auto, using(crate::proofs::CellLaws::reward_as_given))]
 pub fn rewards_are_as_given()
     ensures { RewardsAreAsGiven }
+{}
+
+/// The start chances are those that are given, but for the first of the largest, and the given
+/// sum misses the scale by at most a thousandth.
+pub fn start_is_nearly_given()
+    ensures { StartIsNearlyGiven }
+{}
+
+/// The transitions of a row are those that are given, but for the first of the largest, and the
+/// given sum misses the scale by at most a thousandth.
+pub fn transitions_are_nearly_given()
+    ensures { TransitionsAreNearlyGiven }
+{}
+
+/// The observations of a row are those that are given, but for the first of the largest, and the
+/// given sum misses the scale by at most a thousandth.
+pub fn observations_are_nearly_given()
+    ensures { ObservationsAreNearlyGiven }
 {}

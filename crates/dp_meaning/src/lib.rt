@@ -10,9 +10,10 @@ mod rows;
 mod why;
 
 pub use cells::{
-    last_covering_chance_wins, last_covering_reward_wins, other_chances_are_kept,
-    other_rewards_are_kept, rewards_are_as_given, right_observations_are_kept,
-    right_transitions_are_kept, uncovered_observations_are_zero, uncovered_rewards_are_zero,
+    last_covering_chance_wins, last_covering_reward_wins, observations_are_nearly_given,
+    other_chances_are_kept, other_rewards_are_kept, rewards_are_as_given,
+    right_observations_are_kept, right_transitions_are_kept, start_is_nearly_given,
+    transitions_are_nearly_given, uncovered_observations_are_zero, uncovered_rewards_are_zero,
     uncovered_transitions_are_zero,
 };
 pub use faults::bad_bytes_come_first;
