@@ -1,11 +1,9 @@
 -- The model of a text, table by table.
-use Rattle.std.proofs.Common.{◌≡◌, ℕ, ◌+◌, ◌*◌, ◌<◌, List, [], ◌∷◌, ◌++◌, length, get_or, map, refl, sym, ap, subst, ◌∙◌, arith, pos, cond}
+use Rattle.std.proofs.Common.{◌≡◌, ℕ, ◌+◌, ◌*◌, ◌<◌, [], ◌∷◌, ◌++◌, length, get_or, refl, sym, ap, subst, ◌∙◌, arith, pos, cond}
 use Rattle.std.specs.Prelude.{not, ◌==◌, sum}
 use Rattle.std.proofs.lemmas.List.{append-nil}
 use Rattle.std.proofs.lemmas.List.FromFn.{length-map-range_with_len, get_or-map-range_with_len}
 use Rattle.dp_spec.specs.Sums.{nat_sum}
-use Rattle.dp_spec.specs.Model.{Model}
-use Rattle.dp_meaning.specs.NameLists.{size_of}
 use Rattle.dp_meaning.specs.Header.{Trans, Obs, Reward}
 use Rattle.dp_meaning.specs.Statements.{axes_of}
 use Rattle.dp_meaning.specs.Cells.{statements_for, reward_of_cell}

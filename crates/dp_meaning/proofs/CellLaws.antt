@@ -7,7 +7,7 @@ use Rattle.dp_meaning.specs.Statements.{axes_of}
 use Rattle.dp_meaning.specs.Cells.{statements_for}
 use Rattle.dp_meaning.specs.Scales.{Text, states_in, joint_observations_in, scales_of}
 use Rattle.dp_meaning.specs.Rows.{start_row, row_cells, table_row}
-use Rattle.dp_meaning.specs.Meaning.{table_model, ReadModel}
+use Rattle.dp_meaning.specs.Meaning.{ReadModel}
 use Rattle.dp_meaning.specs.MeaningLaws.{IsMeant, IsNearlyGiven, IsUncovered, given_trans, given_obs, given_rewards}
 use Rattle.dp_meaning.proofs.TableRows.{given_row, uncovered_of_table, kept_of_table, near_of_table}
 use Rattle.dp_meaning.proofs.CellValues.{reward_uncovered}
@@ -95,27 +95,33 @@ uncovered_reward bytes text r h a s t o ha hs ht ho none =
 
 pub near_transition : (bytes : List ℕ) (text : Text) (r : ReadModel) → IsMeant bytes text r
     → (a s : ℕ) → a < joint_actions r.model.model → s < r.model.model.states
-    → IsNearlyGiven r.model.model.scales.trans (map (given_trans text) (row_cells (a ∷ s ∷ []) r.model.model.states)) (trans_at r.model.model a s)
+    → IsNearlyGiven r.model.model.scales.trans (map (given_trans text) (row_cells (a ∷ s ∷ []) r.model.model.states))
+    (trans_at r.model.model a s)
 unfolding joint_actions trans_at
 near_transition bytes text r h a s =
     let w = built_of (length bytes) text r (meant_text bytes text r h).model in
     subst (λ m. a < joint_actions m → s < m.states
     → IsNearlyGiven m.scales.trans (map (given_trans text) (row_cells (a ∷ s ∷ []) m.states)) (trans_at m a s)) (sym w.model)
-    (λ ha hs. subst (λ cells. IsNearlyGiven (scales_of text).trans cells (λ t. get_or w.trans.cells ((a * states_in text + s) * states_in text + t) 0))
+    (λ ha hs. subst (λ cells. IsNearlyGiven (scales_of text).trans cells
+    (λ t. get_or w.trans.cells ((a * states_in text + s) * states_in text + t) 0))
     (given_trans_row text a s)
-    (near_of_table text Trans (scales_of text).trans (states_in text) w.trans.cells (trans_table (length bytes) text w.trans w.trans_is) a s ha hs))
+    (near_of_table text Trans (scales_of text).trans (states_in text) w.trans.cells
+    (trans_table (length bytes) text w.trans w.trans_is) a s ha hs))
 
 pub near_observation : (bytes : List ℕ) (text : Text) (r : ReadModel) → IsMeant bytes text r
     → (a t : ℕ) → a < joint_actions r.model.model → t < r.model.model.states
-    → IsNearlyGiven r.model.model.scales.obs (map (given_obs text) (row_cells (a ∷ t ∷ []) (joint_observations r.model.model))) (obs_at r.model.model a t)
+    → IsNearlyGiven r.model.model.scales.obs (map (given_obs text) (row_cells (a ∷ t ∷ []) (joint_observations r.model.model)))
+    (obs_at r.model.model a t)
 unfolding joint_actions joint_observations obs_at
 near_observation bytes text r h a t =
     let w = built_of (length bytes) text r (meant_text bytes text r h).model in
     subst (λ m. a < joint_actions m → t < m.states
     → IsNearlyGiven m.scales.obs (map (given_obs text) (row_cells (a ∷ t ∷ []) (joint_observations m))) (obs_at m a t)) (sym w.model)
-    (λ ha ht. subst (λ cells. IsNearlyGiven (scales_of text).obs cells (λ o. get_or w.obs.cells ((a * states_in text + t) * joint_observations_in text + o) 0))
+    (λ ha ht. subst (λ cells. IsNearlyGiven (scales_of text).obs cells
+    (λ o. get_or w.obs.cells ((a * states_in text + t) * joint_observations_in text + o) 0))
     (given_obs_row text a t)
-    (near_of_table text Obs (scales_of text).obs (joint_observations_in text) w.obs.cells (obs_table (length bytes) text w.obs w.obs_is) a t ha ht))
+    (near_of_table text Obs (scales_of text).obs (joint_observations_in text) w.obs.cells
+    (obs_table (length bytes) text w.obs w.obs_is) a t ha ht))
 
 pub near_start : (bytes : List ℕ) (text : Text) (r : ReadModel) → IsMeant bytes text r
     → IsNearlyGiven r.model.model.scales.start (start_row text).cells (start_at r.model.model)

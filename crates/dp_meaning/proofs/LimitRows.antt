@@ -1,6 +1,6 @@
 -- Worked rows, computed: limits that a text passes, and counts.
-use Rattle.std.proofs.Common.{◌≡◌, ℕ, List, [], ◌∷◌, ◌++◌, pos, refl}
-use Rattle.std.specs.Prelude.{codes, map, length, replicate, Some, None, false}
+use Rattle.std.proofs.Common.{◌≡◌, ℕ, List, [], ◌∷◌, pos, refl}
+use Rattle.std.specs.Prelude.{codes, map, replicate, Some, None, false}
 use Rattle.dp_meaning.specs.Entries.{AnyState}
 use Rattle.dp_meaning.specs.Header.{Reward}
 use Rattle.dp_meaning.specs.NameLists.{Counted}

@@ -20,7 +20,7 @@ use Rattle.dp_meaning.specs.Cells.{chance_of_cell, reward_of_cell}
 use Rattle.dp_meaning.specs.Scales.{scales_of}
 use Rattle.dp_meaning.specs.Rows.{start_row, table_row, trans_rows, obs_rows, repaired_cells, repair, repair_all}
 use Rattle.dp_meaning.specs.Limits.{passed_limit}
-use Rattle.dp_meaning.specs.Meaning.{ReadModel, Meaning, Means, text_of, rewards_of, model_of, meaning}
+use Rattle.dp_meaning.specs.Meaning.{Meaning, Means, text_of, rewards_of, model_of, meaning}
 
 -- ---- the models
 

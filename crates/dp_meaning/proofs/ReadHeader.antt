@@ -1,5 +1,5 @@
 -- What is known of a header that is read.
-use Rattle.std.proofs.Common.{◌≡◌, ℕ, ◌≤◌, true, List, [], ◌∷◌, length, refl, sym, ap, subst, ◌∙◌}
+use Rattle.std.proofs.Common.{◌≡◌, ℕ, true, List, [], ◌∷◌, length, refl, sym, ap, subst, ◌∙◌}
 use Rattle.std.specs.Prelude.{Option, Some, None}
 use Rattle.dp_num.specs.declared.decimal.Decimal.{Decimal}
 use Rattle.dp_meaning.specs.declared.why.Why.TheVariants as why

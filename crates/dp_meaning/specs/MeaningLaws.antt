@@ -4,7 +4,7 @@ use Rattle.std.specs.List.{list_any}
 use Rattle.dp_lexer.specs.Comments.{first_bad}
 use Rattle.dp_spec.specs.Model.{joint_actions, joint_observations, start_at, trans_at, obs_at, reward_at, AreRows}
 use Rattle.dp_model.specs.Names.{AreNames}
-use Rattle.dp_model.specs.Tables.{NamedModel, IsNamedModel}
+use Rattle.dp_model.specs.Tables.{IsNamedModel}
 use Rattle.dp_meaning.specs.declared.why.Why.TheVariants.{BadByte}
 use Rattle.dp_meaning.specs.Header.{Table, Trans, Obs, Reward}
 use Rattle.dp_meaning.specs.Fields.{Axis}
