@@ -64,9 +64,9 @@ unfoldable pub rewards_of : Text → List ℤ
 rewards_of text =
     let sizes = joint_actions_in text ∷ states_in text ∷ states_in text ∷ joint_observations_in text ∷ [] in
     let count = joint_actions_in text * states_in text * states_in text * joint_observations_in text in
-    let reward = reward_of_cell text.header.cost (scales_of text).reward (axes_of text.header Reward)
-    (statements_for Reward text.statements) in
-    map (λ k. reward (parts_of sizes k)) (range_with_len 0 count)
+    let axes = axes_of text.header Reward in
+    let statements = statements_for Reward text.statements in
+    map (λ k. reward_of_cell text.header.cost (scales_of text).reward axes statements (parts_of sizes k)) (range_with_len 0 count)
 
 -- the model of a text whose rows of chances these are
 abbrev pub table_model : Text → List ℕ → List ℕ → List ℕ → Model

@@ -65,8 +65,8 @@ abbrev pub table_rows : Text → Table → ℕ → ℕ → List Row
 table_rows text table scale len =
     let statements = statements_for table text.statements in
     let sizes = joint_actions_in text ∷ states_in text ∷ [] in
-    map (λ r. table_row scale (axes_of text.header table) statements len (parts_of sizes r))
-    (range_with_len 0 (joint_actions_in text * states_in text))
+    let count = joint_actions_in text * states_in text in
+    map (λ r. table_row scale (axes_of text.header table) statements len (parts_of sizes r)) (range_with_len 0 count)
 
 unfoldable pub trans_rows : Text → List Row
 trans_rows text = table_rows text Trans (scales_of text).trans (states_in text)
