@@ -7,7 +7,8 @@ use Rattle.dp_spec.specs.Sums.{nat_sum}
 use Rattle.dp_meaning.specs.Header.{Trans, Obs, Reward}
 use Rattle.dp_meaning.specs.Statements.{axes_of}
 use Rattle.dp_meaning.specs.Cells.{statements_for, reward_of_cell}
-use Rattle.dp_meaning.specs.Scales.{Text, states_in, joint_actions_in, joint_observations_in, scales_of}
+use Rattle.dp_meaning.specs.Text.{Text, states_in, joint_actions_in, joint_observations_in}
+use Rattle.dp_meaning.specs.Scales.{scales_of}
 use Rattle.dp_meaning.specs.Rows.{Repaired, start_chance, start_row, trans_rows, obs_rows, repair_all}
 use Rattle.dp_meaning.specs.Meaning.{table_model, names_given, ReadModel, rewards_of, model_of}
 use Rattle.dp_meaning.proofs.CellNumbers.{parts_of_cell, cell_below}

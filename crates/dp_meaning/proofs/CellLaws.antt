@@ -5,7 +5,8 @@ use Rattle.dp_spec.specs.Model.{joint_actions, joint_observations, start_at, tra
 use Rattle.dp_meaning.specs.Header.{Trans, Obs, Reward}
 use Rattle.dp_meaning.specs.Statements.{axes_of}
 use Rattle.dp_meaning.specs.Cells.{statements_for}
-use Rattle.dp_meaning.specs.Scales.{Text, states_in, joint_observations_in, scales_of}
+use Rattle.dp_meaning.specs.Text.{Text, states_in, joint_observations_in}
+use Rattle.dp_meaning.specs.Scales.{scales_of}
 use Rattle.dp_meaning.specs.Rows.{start_row, row_cells, table_row}
 use Rattle.dp_meaning.specs.Meaning.{ReadModel}
 use Rattle.dp_meaning.specs.MeaningLaws.{IsMeant, IsNearlyGiven, IsUncovered, given_trans, given_obs, given_rewards}

@@ -5,7 +5,7 @@ use Rattle.dp_meaning.specs.Entries.{AnyState}
 use Rattle.dp_meaning.specs.Header.{Reward}
 use Rattle.dp_meaning.specs.NameLists.{Counted}
 use Rattle.dp_meaning.specs.Statements.{Numbers}
-use Rattle.dp_meaning.specs.Scales.{Text}
+use Rattle.dp_meaning.specs.Text.{Text}
 use Rattle.dp_num.specs.DecimalShape.{is_decimal, is_index}
 use Rattle.dp_num.specs.Decimals.{significand, raised, lowered, decimal_of}
 use Rattle.dp_num.specs.Divisors.{gcd_of, lcm_of}

@@ -18,7 +18,8 @@ use Rattle.dp_meaning.specs.NameLists.{NameList, Counted, Named, size_of, names_
 use Rattle.dp_meaning.specs.Header.{Reward, header_of, no_entries}
 use Rattle.dp_meaning.specs.Statements.{axes_of, statements_of}
 use Rattle.dp_meaning.specs.Cells.{statements_for}
-use Rattle.dp_meaning.specs.Scales.{Text, states_in, joint_observations_in, digits_of_statements, scales_of}
+use Rattle.dp_meaning.specs.Text.{Text, states_in, joint_observations_in}
+use Rattle.dp_meaning.specs.Scales.{digits_of_statements, scales_of}
 use Rattle.dp_meaning.specs.Meaning.{table_model, names_given, pieces_of_tokens, unless_lines, text_of, rewards_of, ReadModel, Means, meaning}
 use Rattle.dp_meaning.proofs.FaultSteps.{ok_same, bind_ok}
 use Rattle.dp_meaning.proofs.Meant.{meant}

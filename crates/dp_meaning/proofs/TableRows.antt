@@ -10,7 +10,7 @@ use Rattle.dp_meaning.specs.Header.{Table}
 use Rattle.dp_meaning.specs.Fields.{Axis}
 use Rattle.dp_meaning.specs.Statements.{Statement, axes_of}
 use Rattle.dp_meaning.specs.Cells.{covers, statements_for, chance_of_cell}
-use Rattle.dp_meaning.specs.Scales.{Text, states_in, joint_actions_in}
+use Rattle.dp_meaning.specs.Text.{Text, states_in, joint_actions_in}
 use Rattle.dp_meaning.specs.Rows.{is_near, greatest_place, Row, Repaired, row_cells, table_row, table_rows, repair_all}
 use Rattle.dp_meaning.proofs.CellNumbers.{parts_of_row, row_below}
 use Rattle.dp_meaning.proofs.FaultSteps.{done}

@@ -6,7 +6,8 @@ use Rattle.dp_model.specs.declared.limit.Limit.{Limit}
 use Rattle.dp_model.specs.declared.limit.TooLarge.{TooLarge}
 use Rattle.dp_spec.specs.JointNumbers.{product}
 use Rattle.dp_meaning.specs.NameLists.{size_of}
-use Rattle.dp_meaning.specs.Scales.{Text, states_in, joint_actions_in, joint_observations_in, scales_of}
+use Rattle.dp_meaning.specs.Text.{Text, states_in, joint_actions_in, joint_observations_in}
+use Rattle.dp_meaning.specs.Scales.{scales_of}
 use Rattle.dp_meaning.specs.Limits.{at_most, first_passed, product_past, tried_limits, passed_limit}
 
 none_at : (xs : List (Option TooLarge)) → first_passed xs ≡ None → (k : ℕ) → get_or xs k None ≡ None

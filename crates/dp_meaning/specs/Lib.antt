@@ -6,6 +6,7 @@ pub mod Entries
 pub mod Header
 pub mod Fields
 pub mod Statements
+pub mod Text
 pub mod Cells
 pub mod Scales
 pub mod Rows

@@ -6,7 +6,8 @@ use Rattle.dp_model.specs.declared.limit.TooLarge.{TooLarge}
 use Rattle.dp_meaning.specs.NameLists.{size_of}
 use Rattle.dp_meaning.specs.Header.{Reward}
 use Rattle.dp_meaning.specs.Cells.{statements_for}
-use Rattle.dp_meaning.specs.Scales.{Text, states_in, joint_actions_in, joint_observations_in, scales_of}
+use Rattle.dp_meaning.specs.Text.{Text, states_in, joint_actions_in, joint_observations_in}
+use Rattle.dp_meaning.specs.Scales.{scales_of}
 
 -- the limit is passed where the count is more than the greatest allowed
 abbrev pub at_most : Limit → ℕ → ℕ → Option TooLarge

@@ -17,7 +17,8 @@ use Rattle.dp_meaning.specs.NameLists.{size_of, names_in}
 use Rattle.dp_meaning.specs.Header.{Reward, Header, header_of, no_entries}
 use Rattle.dp_meaning.specs.Statements.{axes_of, statements_of}
 use Rattle.dp_meaning.specs.Cells.{statements_for, reward_of_cell}
-use Rattle.dp_meaning.specs.Scales.{Text, states_in, joint_actions_in, joint_observations_in, scales_of}
+use Rattle.dp_meaning.specs.Text.{Text, states_in, joint_actions_in, joint_observations_in}
+use Rattle.dp_meaning.specs.Scales.{scales_of}
 use Rattle.dp_meaning.specs.Rows.{start_row, trans_rows, obs_rows, repair_all}
 use Rattle.dp_meaning.specs.Limits.{passed_limit}
 

@@ -9,7 +9,8 @@ use Rattle.dp_meaning.specs.Header.{Table, Trans, Obs}
 use Rattle.dp_meaning.specs.Fields.{Axis}
 use Rattle.dp_meaning.specs.Statements.{Statement, axes_of}
 use Rattle.dp_meaning.specs.Cells.{Cell, covers, statements_for, no_number, chance_over, chance_of_cell}
-use Rattle.dp_meaning.specs.Scales.{Text, states_in, joint_actions_in, joint_observations_in, scales_of}
+use Rattle.dp_meaning.specs.Text.{Text, states_in, joint_actions_in, joint_observations_in}
+use Rattle.dp_meaning.specs.Scales.{scales_of}
 
 -- a row, its scale, and where a wrong sum is answered, which is nowhere where no statement covers a cell of it
 pub record Row : Type 0 where

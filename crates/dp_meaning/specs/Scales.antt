@@ -4,29 +4,11 @@ use Rattle.std.specs.List.{fold, list_any}
 use Rattle.dp_num.specs.declared.decimal.Decimal.{Decimal}
 use Rattle.dp_num.specs.Divisors.{lcm_of}
 use Rattle.dp_spec.specs.declared.scales.Scales.{Scales}
-use Rattle.dp_meaning.specs.NameLists.{size_of}
 use Rattle.dp_meaning.specs.Entries.{Start, AnyState, OneState, StartRow}
-use Rattle.dp_meaning.specs.Header.{Header, Trans, Obs, Reward}
-use Rattle.dp_meaning.specs.Statements.{axis_size, Value, Uniform, Numbers, Statement}
+use Rattle.dp_meaning.specs.Header.{Trans, Obs, Reward}
+use Rattle.dp_meaning.specs.Statements.{Value, Uniform, Numbers, Statement}
+use Rattle.dp_meaning.specs.Text.{Text, states_in, joint_observations_in}
 use Rattle.dp_meaning.specs.Cells.{statements_for}
-
--- what the text of a file says: its header and its statements in order
-pub record Text : Type 0 where
-  pub header : Header
-  pub statements : List Statement
-
--- ---- sizes
-
-abbrev pub states_in : Text → ℕ
-states_in text = size_of text.header.states
-
-abbrev pub joint_actions_in : Text → ℕ
-joint_actions_in text = axis_size text.header.actions
-
-abbrev pub joint_observations_in : Text → ℕ
-joint_observations_in text = axis_size text.header.observations
-
--- ---- scales
 
 -- the greatest number of fraction digits
 abbrev pub most_digits : List Decimal → ℕ
