@@ -202,6 +202,8 @@ start_rows : List Faulty
 start_rows =
     -- a start row whose sum is too far from 1
     faulty (started (codes "states: 3\nstart: 0.332 0.332 0.332")) 5 8 RowSum
+    -- one whose sum misses 1 by a little more than a thousandth
+    ∷ faulty (started (codes "states: 2\nstart: 0.4989999 0.5")) 5 8 RowSum
     -- `00` is a row, where there is one state
     ∷ faulty (started (codes "states: 1\nstart: 00")) 5 8 RowSum
     ∷ []
