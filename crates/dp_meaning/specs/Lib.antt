@@ -1,0 +1,15 @@
+pub mod Faults
+pub mod Items
+pub mod Numbers
+pub mod NameLists
+pub mod Entries
+pub mod Header
+pub mod Fields
+pub mod Statements
+pub mod Text
+pub mod Cells
+pub mod Scales
+pub mod Rows
+pub mod Limits
+pub mod Meaning
+pub mod MeaningLaws
