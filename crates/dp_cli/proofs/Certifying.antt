@@ -1,5 +1,5 @@
 -- A call that is done put a certificate whose claims hold.
-use Rattle.std.proofs.Common.{◌≡◌, ◌≢◌, ℕ, List, [], ◌∷◌, Bool, Option, Some, None, Result, Ok, Err, IfSome, ⊎_elim, refl, sym, ap, ◌∙◌, subst}
+use Rattle.std.proofs.Common.{◌≡◌, ◌≢◌, ℕ, List, [], ◌∷◌, Bool, Option, Some, None, Result, Ok, Err, IfSome, ⊎_elim, refl, sym, ap, ◌∙◌}
 use Rattle.dp_io.specs.FetchLaws.{fetch_answer}
 use Rattle.dp_io.specs.Shelf.{Contents}
 use Rattle.dp_io.specs.Sink.{SinkView, Puts}
@@ -13,15 +13,14 @@ use Rattle.dp_words.specs.declared.job.Job.TheVariants.{Plan}
 use Rattle.dp_words.specs.declared.job.OrderWord.{OrderWord}
 use Rattle.dp_cli.specs.declared.refusal.FileRole.{FileRole}
 use Rattle.dp_cli.specs.declared.refusal.FileRole.TheVariants.{Model}
-use Rattle.dp_cli.specs.declared.refusal.Refusal.TheVariants as refusals
 use Rattle.dp_cli.specs.declared.status.Status.{Status}
 use Rattle.dp_cli.specs.declared.status.Status.TheVariants as statuses
-use Rattle.dp_cli.specs.Answer.{Answer, refused}
+use Rattle.dp_cli.specs.Answer.{Answer}
 use Rattle.dp_cli.specs.Certified.{CertifiesFor, IsCertified, PutsCertificateOf}
-use Rattle.dp_cli.specs.Job.{File, asks, IsReply}
+use Rattle.dp_cli.specs.Job.{File, IsReply}
 use Rattle.dp_cli.specs.ModelText.{model_of_text}
 use Rattle.dp_cli.specs.Planned.{IsPlanOf, IsPlanReply}
-use Rattle.dp_cli.specs.Put.{PutsAnswer, status_after}
+use Rattle.dp_cli.specs.Put.{status_after}
 use Rattle.dp_cli.specs.Refusal.{fetch_refusal, most_bytes, refusal_status}
 use Rattle.dp_cli.specs.Run.{IsToldAnswer, RunsAsTold}
 use Rattle.dp_spec.specs.Model as models

@@ -1,10 +1,8 @@
 -- The scales of a plain model are small.
-use Rattle.std.proofs.Common.{◌≡◌, ℕ, zero, ◌^◌, ◌<◌, ◌≤◌, List, Option, Some, refl, sym, subst, arith}
+use Rattle.std.proofs.Common.{◌≡◌, ℕ, ◌^◌, ◌<◌, ◌≤◌, List, Some, refl, subst, arith}
 use Rattle.std.proofs.Math.Nat.{pow-le-pow_right}
 use Rattle.dp_model.specs.Tables.{NamedModel}
 use Rattle.dp_plan.specs.PlanLaws.{AreSmallScales}
-use Rattle.dp_spec.specs.Model.{IsModel}
-use Rattle.dp_cli.specs.Plain.{◌>>=◌}
 use Rattle.dp_cli.specs.PlainModel.{PlainModel, meaning_of, model_of, named_model_of, plain_model}
 use Rattle.dp_cli.specs.PlainTables.{Table}
 use Rattle.dp_cli.proofs.PlainModelFacts.{IsPlain, model_is, plain_is}
