@@ -146,6 +146,8 @@ statements_rows =
     ∷ faulty (one_state ++ codes "T: * : 1 : 0 : 1 : 1\n") 10 8 UnknownName
     -- the line end, where there are too few Colons
     ∷ faulty (one_state ++ codes "T: *\nO: * : uniform\n") 10 5 Expected
+    -- a fault in a field, before the line end
+    ∷ faulty (one_state ++ codes "R: 7 : 1\n") 10 4 UnknownName
     -- the end of the text, where the line has no line end
     ∷ faulty (one_state ++ codes "R: * : 1") 10 9 Expected
     -- the line end comes before the value
