@@ -64,6 +64,12 @@ header_rows =
     faulty (codes "") 1 1 Header
     -- an entry that comes twice
     ∷ faulty (codes "agents: 1\nagents: 1\n") 2 1 Header
+    ∷ faulty (codes "discount: 1\ndiscount: 1\n") 2 1 Header
+    ∷ faulty (codes "values: cost\nvalues: cost\n") 2 1 Header
+    ∷ faulty (codes "states: 1\nstates: 1\n") 2 1 Header
+    ∷ faulty (codes "states: 1\nstart: 0\nstart: 0\n") 3 1 Header
+    ∷ faulty (codes "agents: 1\nactions: 1\nactions: 1\n") 3 1 Header
+    ∷ faulty (codes "agents: 1\nobservations: 1\nobservations: 1\n") 3 1 Header
     -- `start` before `states`
     ∷ faulty (codes "agents: 1\nstart: 0\n") 2 1 Header
     -- `actions` before `agents`
