@@ -64,6 +64,12 @@ header_rows =
     faulty (codes "") 1 1 Header
     -- an entry that comes twice
     ∷ faulty (codes "agents: 1\nagents: 1\n") 2 1 Header
+    ∷ faulty (codes "discount: 1\ndiscount: 1\n") 2 1 Header
+    ∷ faulty (codes "values: cost\nvalues: cost\n") 2 1 Header
+    ∷ faulty (codes "states: 1\nstates: 1\n") 2 1 Header
+    ∷ faulty (codes "states: 1\nstart: 0\nstart: 0\n") 3 1 Header
+    ∷ faulty (codes "agents: 1\nactions: 1\nactions: 1\n") 3 1 Header
+    ∷ faulty (codes "agents: 1\nobservations: 1\nobservations: 1\n") 3 1 Header
     -- `start` before `states`
     ∷ faulty (codes "agents: 1\nstart: 0\n") 2 1 Header
     -- `actions` before `agents`
@@ -146,6 +152,8 @@ statements_rows =
     ∷ faulty (one_state ++ codes "T: * : 1 : 0 : 1 : 1\n") 10 8 UnknownName
     -- the line end, where there are too few Colons
     ∷ faulty (one_state ++ codes "T: *\nO: * : uniform\n") 10 5 Expected
+    -- a fault in a field, before the line end
+    ∷ faulty (one_state ++ codes "R: 7 : 1\n") 10 4 UnknownName
     -- the end of the text, where the line has no line end
     ∷ faulty (one_state ++ codes "R: * : 1") 10 9 Expected
     -- the line end comes before the value
