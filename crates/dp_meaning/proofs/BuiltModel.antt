@@ -4,10 +4,11 @@ use Rattle.std.specs.Prelude.{not, ◌==◌, sum}
 use Rattle.std.proofs.lemmas.List.{append-nil}
 use Rattle.std.proofs.lemmas.List.FromFn.{length-map-range_with_len, get_or-map-range_with_len}
 use Rattle.dp_spec.specs.Sums.{nat_sum}
-use Rattle.dp_meaning.specs.Header.{Trans, Obs, Reward}
+use Rattle.dp_meaning.specs.declared.statement.Table.TheVariants.{Trans, Obs, Reward}
+use Rattle.dp_meaning.specs.declared.text.Text.{Text}
 use Rattle.dp_meaning.specs.Statements.{axes_of}
 use Rattle.dp_meaning.specs.Cells.{statements_for, reward_of_cell}
-use Rattle.dp_meaning.specs.Text.{Text, states_in, joint_actions_in, joint_observations_in}
+use Rattle.dp_meaning.specs.Text.{states_in, joint_actions_in, joint_observations_in}
 use Rattle.dp_meaning.specs.Scales.{scales_of}
 use Rattle.dp_meaning.specs.Rows.{Repaired, start_chance, start_row, trans_rows, obs_rows, repair_all}
 use Rattle.dp_meaning.specs.Meaning.{table_model, names_given, ReadModel, rewards_of, model_of}

@@ -2,10 +2,11 @@
 use Rattle.std.proofs.Common.{◌≡◌, get_or, ◌+◌, ◌*◌, ℕ, ◌<◌, List, [], ◌∷◌, length, map, refl, sym, ap, subst, ◌∙◌, pos}
 use Rattle.std.specs.Prelude.{sum}
 use Rattle.dp_spec.specs.Model.{joint_actions, joint_observations, start_at, trans_at, obs_at, reward_at}
-use Rattle.dp_meaning.specs.Header.{Trans, Obs, Reward}
+use Rattle.dp_meaning.specs.declared.statement.Table.TheVariants.{Trans, Obs, Reward}
+use Rattle.dp_meaning.specs.declared.text.Text.{Text}
 use Rattle.dp_meaning.specs.Statements.{axes_of}
 use Rattle.dp_meaning.specs.Cells.{statements_for}
-use Rattle.dp_meaning.specs.Text.{Text, states_in, joint_observations_in}
+use Rattle.dp_meaning.specs.Text.{states_in, joint_observations_in}
 use Rattle.dp_meaning.specs.Scales.{scales_of}
 use Rattle.dp_meaning.specs.Rows.{start_row, row_cells, table_row}
 use Rattle.dp_meaning.specs.Meaning.{ReadModel}

@@ -1,8 +1,9 @@
 -- The value of a cell by the statements that cover it.
 use Rattle.std.proofs.Common.{◌≡◌, ℕ, Bool, true, false, List, ◌∷◌, ◌++◌, length, map, ap, pos}
 use Rattle.std.specs.List.{list_any}
+use Rattle.dp_meaning.specs.declared.statement.Statement.{Statement}
 use Rattle.dp_meaning.specs.Fields.{Axis}
-use Rattle.dp_meaning.specs.Statements.{Statement, axis_size}
+use Rattle.dp_meaning.specs.Statements.{axis_size}
 use Rattle.dp_meaning.specs.Cells.{Cell, covers, given_chance, given_reward, chance_by, reward_by, chance_of_cell, reward_of_cell}
 use Rattle.dp_meaning.proofs.Lists.{last_none, last_is, last_other}
 

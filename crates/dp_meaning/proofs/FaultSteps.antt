@@ -1,7 +1,8 @@
 -- Steps that may fail.
 use Rattle.std.proofs.Common.{◌≡◌, refl}
 use Rattle.std.specs.Prelude.{Result, Ok, Err}
-use Rattle.dp_meaning.specs.Faults.{◌>>=◌, Fault}
+use Rattle.dp_meaning.specs.declared.why.Fault.{Fault}
+use Rattle.dp_meaning.specs.Faults.{◌>>=◌}
 
 abbrev pub done : {A : Type 0} → A → Result A Fault
 done x = Ok x

@@ -1,11 +1,6 @@
 -- Worked rows, computed: limits that a text passes, and counts.
 use Rattle.std.proofs.Common.{◌≡◌, ℕ, List, [], ◌∷◌, pos, refl}
 use Rattle.std.specs.Prelude.{codes, map, replicate, Some, None, false}
-use Rattle.dp_meaning.specs.Entries.{AnyState}
-use Rattle.dp_meaning.specs.Header.{Reward}
-use Rattle.dp_meaning.specs.NameLists.{Counted}
-use Rattle.dp_meaning.specs.Statements.{Numbers}
-use Rattle.dp_meaning.specs.Text.{Text}
 use Rattle.dp_num.specs.DecimalShape.{is_decimal, is_index}
 use Rattle.dp_num.specs.Decimals.{significand, raised, lowered, decimal_of}
 use Rattle.dp_num.specs.Divisors.{gcd_of, lcm_of}
@@ -13,6 +8,11 @@ use Rattle.dp_num.specs.Names.{is_word, is_name}
 use Rattle.dp_lexer.specs.Tokens.{tokens_from, tokens_of}
 use Rattle.dp_model.specs.declared.limit.Limit.{Limit}
 use Rattle.dp_model.specs.declared.limit.Limit.TheVariants as limits
+use Rattle.dp_meaning.specs.declared.header.Start.TheVariants.{AnyState}
+use Rattle.dp_meaning.specs.declared.statement.Table.TheVariants.{Reward}
+use Rattle.dp_meaning.specs.declared.given_list.GivenList.TheVariants.{Counted}
+use Rattle.dp_meaning.specs.declared.statement.Value.TheVariants.{Numbers}
+use Rattle.dp_meaning.specs.declared.text.Text.{Text}
 use Rattle.dp_meaning.specs.Items.{lines_of, items_of}
 use Rattle.dp_meaning.specs.Numbers.{number, numbers}
 use Rattle.dp_meaning.specs.NameLists.{names_after, name_list, name_lists, find_in}

@@ -2,8 +2,8 @@
 use Rattle.std.proofs.Common.{◌≡◌, ℕ, List, length, refl, sym, ap, subst, ◌∙◌}
 use Rattle.std.specs.Prelude.{Option, Some, None, Result, Ok, Err}
 use Rattle.dp_model.specs.declared.limit.TooLarge.{TooLarge}
-use Rattle.dp_meaning.specs.Faults.{Fault}
-use Rattle.dp_meaning.specs.Text.{Text}
+use Rattle.dp_meaning.specs.declared.why.Fault.{Fault}
+use Rattle.dp_meaning.specs.declared.text.Text.{Text}
 use Rattle.dp_meaning.specs.Limits.{passed_limit}
 use Rattle.dp_meaning.specs.Meaning.{text_of, ReadModel, model_of, Means, meaning_of_model, meaning_within, meaning_of_text, meaning}
 use Rattle.dp_meaning.specs.MeaningLaws.{IsMeant}

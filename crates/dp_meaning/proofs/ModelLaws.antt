@@ -12,13 +12,17 @@ use Rattle.dp_spec.specs.Model.{joint_actions, joint_observations, AreScales, Ar
 use Rattle.dp_model.specs.Names.{IsNameList, AreNames}
 use Rattle.dp_model.specs.Tables.{NamesAllOrNone, AreNamesOf, IsNamedModel}
 use Rattle.dp_model.proofs.NameLemmas.{empty-kept}
+use Rattle.dp_meaning.specs.declared.given_list.GivenList.{GivenList}
+use Rattle.dp_meaning.specs.declared.given_list.GivenList.TheVariants.{Counted, Named}
+use Rattle.dp_meaning.specs.declared.statement.Table.TheVariants.{Reward}
+use Rattle.dp_meaning.specs.declared.text.Text.{Text}
 use Rattle.dp_meaning.specs.Items.{items_of_pieces}
 use Rattle.dp_meaning.specs.Numbers.{is_at_most, is_chance}
-use Rattle.dp_meaning.specs.NameLists.{NameList, Counted, Named, size_of, names_in}
-use Rattle.dp_meaning.specs.Header.{Reward, header_of, no_entries}
+use Rattle.dp_meaning.specs.NameLists.{size_of, names_in}
+use Rattle.dp_meaning.specs.Header.{header_of, no_entries}
 use Rattle.dp_meaning.specs.Statements.{axes_of, statements_of}
 use Rattle.dp_meaning.specs.Cells.{statements_for}
-use Rattle.dp_meaning.specs.Text.{Text, states_in, joint_observations_in}
+use Rattle.dp_meaning.specs.Text.{states_in, joint_observations_in}
 use Rattle.dp_meaning.specs.Scales.{digits_of_statements, scales_of}
 use Rattle.dp_meaning.specs.Meaning.{table_model, names_given, pieces_of_tokens, unless_lines, text_of, rewards_of, ReadModel, Means, meaning}
 use Rattle.dp_meaning.proofs.FaultSteps.{ok_same, bind_ok}
@@ -52,12 +56,12 @@ text_is bytes text e =
 
 -- ---- sizes
 
-some_product : (lists : List NameList) → Each IsList lists → 0 < product (map size_of lists)
+some_product : (lists : List GivenList) → Each IsList lists → 0 < product (map size_of lists)
 some_product [] each = omega arith
 some_product (l ∷ lists) each =
     let h = mul-le 1 1 (size_of l) (product (map size_of lists)) each.0.some (some_product lists each.1) in omega arith
 
-count_of : (agents : NameList) (lists : List NameList) → AreLists agents lists → length (map size_of lists) ≡ size_of agents
+count_of : (agents : GivenList) (lists : List GivenList) → AreLists agents lists → length (map size_of lists) ≡ size_of agents
 count_of agents lists are = length-map lists size_of ∙ are.count
 
 table_model_sizes : (text : Text) (start trans obs : List ℕ) → IsText text → IsSmall text → AreSizes (table_model text start trans obs)
@@ -140,11 +144,11 @@ table_model_tables end text r w is fits = record {
 -- ---- names
 
 -- each list names all of its kind or none
-all_or_none : (list : NameList) → NamesAllOrNone (names_in list) (size_of list)
+all_or_none : (list : GivenList) → NamesAllOrNone (names_in list) (size_of list)
 all_or_none (Counted n) h = absurd (let none : 0 < 0 = h in omega arith)
 all_or_none (Named names) h = refl
 
-all_or_none_at : (lists : List NameList) (i : ℕ) → i < length lists → NamesAllOrNone (get_or (map names_in lists) i [])
+all_or_none_at : (lists : List GivenList) (i : ℕ) → i < length lists → NamesAllOrNone (get_or (map names_in lists) i [])
     (get_or (map size_of lists) i 0)
 all_or_none_at [] i h = absurd (omega arith)
 all_or_none_at (l ∷ lists) zero h = all_or_none l
@@ -167,7 +171,7 @@ table_names text start trans obs is =
     }
 
 -- a list in a product is no longer than the product
-names_within : (lists : List NameList) (most : ℕ) → Each IsList lists → product (map size_of lists) ≤ most → most ≤ 2 ^ 26
+names_within : (lists : List GivenList) (most : ℕ) → Each IsList lists → product (map size_of lists) ≤ most → most ≤ 2 ^ 26
     → (i : ℕ) → IsNameList (get_or (map names_in lists) i [])
 names_within [] most each h fits i = empty-kept
 names_within (l ∷ lists) most each h fits zero =

@@ -2,29 +2,36 @@
 use Rattle.std.proofs.Common.{◌≡◌, ℕ, true, List, [], ◌∷◌, length, refl, sym, ap, subst, ◌∙◌}
 use Rattle.std.specs.Prelude.{Option, Some, None}
 use Rattle.dp_num.specs.declared.decimal.Decimal.{Decimal}
+use Rattle.dp_meaning.specs.declared.given_list.GivenList.{GivenList}
+use Rattle.dp_meaning.specs.declared.header.Entry.{Entry}
+use Rattle.dp_meaning.specs.declared.header.Entry.TheVariants.{Agents, Discount, Values, States, StartEntry, Actions, Observations}
+use Rattle.dp_meaning.specs.declared.statement.ItemKind.{ItemKind}
+use Rattle.dp_meaning.specs.declared.statement.ItemKind.TheVariants.{HeaderEntry, StatementOf, NoItem}
+use Rattle.dp_meaning.specs.declared.header.Entries.{Entries}
+use Rattle.dp_meaning.specs.declared.header.Header.{Header}
 use Rattle.dp_meaning.specs.declared.why.Why.TheVariants as why
 use Rattle.dp_meaning.specs.Faults.{◌>>=◌, fault}
 use Rattle.dp_meaning.specs.Items.{Piece, Item, item_at, value_pieces}
 use Rattle.dp_meaning.specs.Numbers.{is_chance, number}
-use Rattle.dp_meaning.specs.NameLists.{NameList, size_of, name_list, name_lists}
+use Rattle.dp_meaning.specs.NameLists.{size_of, name_list, name_lists}
 use Rattle.dp_meaning.specs.Entries.{discount_of, is_cost, agent_lines, start_of}
-use Rattle.dp_meaning.specs.Header.{Entry, Agents, Discount, Values, States, StartEntry, Actions, Observations, ItemKind, HeaderEntry, StatementOf, NoItem, kind_of, Entries, Header, no_entries, unless_come, entry, with_entry, header_with, header_of}
+use Rattle.dp_meaning.specs.Header.{kind_of, no_entries, unless_come, entry, with_entry, header_with, header_of}
 use Rattle.dp_meaning.proofs.FaultSteps.{done, ok_same, err_not_ok, bind_ok}
 use Rattle.dp_meaning.proofs.Each.{Each}
 use Rattle.dp_meaning.proofs.ReadValues.{IsList, number_fits, ended_same, list_is, lists_are}
 
 -- lists for the agents: one for each
-pub record AreLists (agents : NameList) (lists : List NameList) : Type 0 where
+pub record AreLists (agents : GivenList) (lists : List GivenList) : Type 0 where
   pub count : length lists ≡ size_of agents
   pub each : Each IsList lists
 
 -- what is known of the entries that have come
 record AreEntries (e : Entries) : Type 0 where
-  agents : (l : NameList) → e.agents ≡ Some l → IsList l
-  states : (l : NameList) → e.states ≡ Some l → IsList l
+  agents : (l : GivenList) → e.agents ≡ Some l → IsList l
+  states : (l : GivenList) → e.states ≡ Some l → IsList l
   discount : (d : Decimal) → e.discount ≡ Some d → is_chance d ≡ true
-  actions : (ls : List NameList) → e.actions ≡ Some ls → (l : NameList) × (e.agents ≡ Some l) × AreLists l ls
-  observations : (ls : List NameList) → e.observations ≡ Some ls → (l : NameList) × (e.agents ≡ Some l) × AreLists l ls
+  actions : (ls : List GivenList) → e.actions ≡ Some ls → (l : GivenList) × (e.agents ≡ Some l) × AreLists l ls
+  observations : (ls : List GivenList) → e.observations ≡ Some ls → (l : GivenList) × (e.agents ≡ Some l) × AreLists l ls
 
 -- what is known of the header
 pub record IsHeader (h : Header) : Type 0 where
@@ -53,7 +60,7 @@ discount_fits next (piece ∷ pieces) d e =
     let w = bind_ok (number is_chance piece) _ d e in
     subst (λ n. is_chance n ≡ true) (ended_same w.0 d pieces w.2) (number_fits is_chance piece w.0 w.1)
 
-read_lists : (next : ℕ) (agents : NameList) (lines : List (List Piece)) (lists : List NameList)
+read_lists : (next : ℕ) (agents : GivenList) (lines : List (List Piece)) (lists : List GivenList)
     → name_lists next (size_of agents) lines ≡ done lists → AreLists agents lists
 read_lists next agents lines lists e = let w = lists_are next (size_of agents) lines lists e in record { count = w.0; each = w.1 }
 
@@ -71,7 +78,7 @@ with_entry_is Agents item e more is f =
       observations = λ ls s. absurd (clash none (is.observations ls s));
     })
   where
-    clash : {ls : List NameList} → e.agents ≡ None → (l : NameList) × (e.agents ≡ Some l) × AreLists l ls → ⊥
+    clash : {ls : List GivenList} → e.agents ≡ None → (l : GivenList) × (e.agents ≡ Some l) × AreLists l ls → ⊥
     clash none w = let some = w.1 in cc (none, some)
 with_entry_is Discount item e more is f =
     let first = bind_ok (unless_come (item_at item) e.discount) _ more f in
@@ -150,8 +157,8 @@ with_entry_is Observations item e more is f =
 
 -- ---- the header
 
-lists_of : (e : Entries) (agents : NameList) (lists : List NameList) → e.agents ≡ Some agents
-    → (l : NameList) × (e.agents ≡ Some l) × AreLists l lists → AreLists agents lists
+lists_of : (e : Entries) (agents : GivenList) (lists : List GivenList) → e.agents ≡ Some agents
+    → (l : GivenList) × (e.agents ≡ Some l) × AreLists l lists → AreLists agents lists
 lists_of e agents lists s w = subst (λ l. AreLists l lists) (some_same w.0 agents (sym w.1 ∙ s)) w.2
 
 header_with_is : (at : ℕ) (e : Entries) (h : Header) → AreEntries e → header_with at e ≡ done h → IsHeader h

@@ -11,11 +11,16 @@ use Rattle.dp_num.specs.Divisors.{lcm_of}
 use Rattle.dp_num.proofs.DivisorLaws.{lcm_of-IsLcm}
 use Rattle.dp_num.proofs.SignificandLaws.{some_tens}
 use Rattle.dp_spec.specs.JointNumbers.{joint_number}
+use Rattle.dp_meaning.specs.declared.header.Start.{Start}
+use Rattle.dp_meaning.specs.declared.header.Start.TheVariants.{AnyState, OneState, StartRow}
+use Rattle.dp_meaning.specs.declared.statement.Table.{Table}
+use Rattle.dp_meaning.specs.declared.statement.Table.TheVariants.{Trans, Obs, Reward}
+use Rattle.dp_meaning.specs.declared.statement.Value.{Value}
+use Rattle.dp_meaning.specs.declared.statement.Value.TheVariants.{Uniform, Identity, Numbers}
+use Rattle.dp_meaning.specs.declared.statement.Statement.{Statement}
 use Rattle.dp_meaning.specs.Numbers.{is_reward}
-use Rattle.dp_meaning.specs.Entries.{Start, AnyState, OneState, StartRow}
-use Rattle.dp_meaning.specs.Header.{Table, Trans, Obs, Reward}
 use Rattle.dp_meaning.specs.Fields.{Axis}
-use Rattle.dp_meaning.specs.Statements.{axis_size, is_number_of, Value, Uniform, Identity, Numbers, Statement}
+use Rattle.dp_meaning.specs.Statements.{axis_size, is_number_of}
 use Rattle.dp_meaning.specs.Cells.{Cell, covers, is_same_table, statements_for, no_number, number_at, reward_over, given_reward, reward_by, reward_of_cell}
 use Rattle.dp_meaning.specs.Scales.{most_digits, digits_of_value, digits_of_statements, scale_of, start_scale}
 use Rattle.dp_meaning.proofs.Each.{Each, each_at, each_with, each_from, each_reverse}

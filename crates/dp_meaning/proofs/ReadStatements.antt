@@ -4,13 +4,20 @@ use Rattle.std.specs.Prelude.{◌&&◌, codes}
 use Rattle.std.specs.List.{flat_map}
 use Rattle.dp_num.specs.declared.decimal.Decimal.{Decimal}
 use Rattle.dp_spec.specs.JointNumbers.{product}
+use Rattle.dp_meaning.specs.declared.statement.Table.{Table}
+use Rattle.dp_meaning.specs.declared.statement.ItemKind.{ItemKind}
+use Rattle.dp_meaning.specs.declared.statement.ItemKind.TheVariants.{HeaderEntry, StatementOf, NoItem}
+use Rattle.dp_meaning.specs.declared.header.Header.{Header}
+use Rattle.dp_meaning.specs.declared.statement.Value.{Value}
+use Rattle.dp_meaning.specs.declared.statement.Value.TheVariants.{Uniform, Identity, Numbers}
+use Rattle.dp_meaning.specs.declared.statement.Statement.{Statement}
 use Rattle.dp_meaning.specs.Faults.{◌>>=◌}
 use Rattle.dp_meaning.specs.Items.{Piece, Item, after_colon, pieces_of}
 use Rattle.dp_meaning.specs.Numbers.{numbers, ended}
 use Rattle.dp_meaning.specs.NameLists.{says}
-use Rattle.dp_meaning.specs.Header.{Table, ItemKind, HeaderEntry, StatementOf, NoItem, kind_of, Header}
+use Rattle.dp_meaning.specs.Header.{kind_of}
 use Rattle.dp_meaning.specs.Fields.{Axis, fields_of, all_parts}
-use Rattle.dp_meaning.specs.Statements.{axes_of, axis_size, least_fields, Value, Uniform, Identity, Numbers, allows_uniform, allows_identity, is_number_of, value_of, Statement, unless_too_few, statement, statement_of_kind, statements_of}
+use Rattle.dp_meaning.specs.Statements.{axes_of, axis_size, least_fields, allows_uniform, allows_identity, is_number_of, value_of, unless_too_few, statement, statement_of_kind, statements_of}
 use Rattle.dp_meaning.proofs.FaultSteps.{done, ok_same, err_not_ok, bind_ok}
 use Rattle.dp_meaning.proofs.Each.{Each}
 use Rattle.dp_meaning.proofs.ReadValues.{ended_same, numbers_fit}

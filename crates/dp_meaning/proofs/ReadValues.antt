@@ -10,11 +10,14 @@ use Rattle.dp_num.specs.Decimals.{decimal_of}
 use Rattle.dp_num.specs.Names.{is_name}
 use Rattle.dp_model.specs.Names.{has_name, IsNameList}
 use Rattle.dp_model.proofs.NameLemmas.{with_name-kept, empty-kept}
+use Rattle.dp_meaning.specs.declared.why.Fault.{Fault}
+use Rattle.dp_meaning.specs.declared.given_list.GivenList.{GivenList}
+use Rattle.dp_meaning.specs.declared.given_list.GivenList.TheVariants.{Counted, Named}
 use Rattle.dp_meaning.specs.declared.why.Why.TheVariants.{Expected, DoubleName, Number}
-use Rattle.dp_meaning.specs.Faults.{◌>>=◌, Fault, fault}
+use Rattle.dp_meaning.specs.Faults.{◌>>=◌, fault}
 use Rattle.dp_meaning.specs.Items.{Piece}
 use Rattle.dp_meaning.specs.Numbers.{number_in, number, ended, numbers}
-use Rattle.dp_meaning.specs.NameLists.{NameList, Counted, Named, size_of, index, names_in, names_after, count, name_list, name_lists}
+use Rattle.dp_meaning.specs.NameLists.{size_of, index, names_in, names_after, count, name_list, name_lists}
 use Rattle.dp_meaning.proofs.Each.{Each}
 use Rattle.dp_meaning.proofs.FaultSteps.{done, ok_same, err_not_ok, bind_ok}
 
@@ -107,11 +110,11 @@ count_above piece n e = by (nat_le 1 (index piece)) refl (nat_le (index piece) 6
     by false t c f = absurd (err_not_ok n _ f)
 
 -- what a list is: it is not empty, and if it is not too long its names are names, of which none stands twice
-pub record IsList (list : NameList) : Type 0 where
+pub record IsList (list : GivenList) : Type 0 where
   pub some : 1 ≤ size_of list
   pub names : size_of list ≤ 2 ^ 26 → IsNameList (names_in list)
 
-pub list_is : (next : ℕ) (pieces : List Piece) (list : NameList) → name_list next pieces ≡ done list → IsList list
+pub list_is : (next : ℕ) (pieces : List Piece) (list : GivenList) → name_list next pieces ≡ done list → IsList list
 unfolding name_list
 list_is next [] list e = absurd (err_not_ok list _ e)
 list_is next (piece ∷ pieces) list e = by (is_index piece.text) e
@@ -129,7 +132,7 @@ list_is next (piece ∷ pieces) list e = by (is_index piece.text) e
         (record { some = long; names = λ h. names_kept [] (piece ∷ pieces) names.0 names.1 h empty-kept })
 
 -- so many lists that are read are so many
-pub lists_are : (next n : ℕ) (lines : List (List Piece)) (lists : List NameList) → name_lists next n lines ≡ done lists
+pub lists_are : (next n : ℕ) (lines : List (List Piece)) (lists : List GivenList) → name_lists next n lines ≡ done lists
     → (length lists ≡ n) × Each IsList lists
 unfolding name_lists
 lists_are next zero [] lists e = subst (λ ls. (length ls ≡ 0) × Each IsList ls) (ok_same [] lists e) (refl, tt)

@@ -3,8 +3,9 @@ use Rattle.std.proofs.Common.{◌≡◌, ℕ, List, [], ◌∷◌, ◌++◌, len
 use Rattle.std.specs.Prelude.{not, ◌==◌, sum, count_by}
 use Rattle.std.proofs.lemmas.List.Sums.{sum_by-append}
 use Rattle.dp_spec.specs.Model.{joint_actions, joint_observations, start_at, trans_at, obs_at, AreRows}
-use Rattle.dp_meaning.specs.Header.{Trans, Obs}
-use Rattle.dp_meaning.specs.Text.{Text, states_in, joint_observations_in}
+use Rattle.dp_meaning.specs.declared.statement.Table.TheVariants.{Trans, Obs}
+use Rattle.dp_meaning.specs.declared.text.Text.{Text}
+use Rattle.dp_meaning.specs.Text.{states_in, joint_observations_in}
 use Rattle.dp_meaning.specs.Scales.{scales_of}
 use Rattle.dp_meaning.specs.Rows.{start_row, trans_rows, obs_rows}
 use Rattle.dp_meaning.specs.Meaning.{table_model, ReadModel, Means, meaning}

@@ -6,11 +6,13 @@ use Rattle.std.proofs.lemmas.List.{length-map, get_or-map}
 use Rattle.std.proofs.lemmas.List.FromFn.{length-map-range_with_len, get_or-map-range_with_len}
 use Rattle.dp_spec.specs.JointNumbers.{parts_of}
 use Rattle.dp_spec.specs.Sums.{nat_sum}
-use Rattle.dp_meaning.specs.Header.{Table}
+use Rattle.dp_meaning.specs.declared.statement.Table.{Table}
+use Rattle.dp_meaning.specs.declared.statement.Statement.{Statement}
+use Rattle.dp_meaning.specs.declared.text.Text.{Text}
 use Rattle.dp_meaning.specs.Fields.{Axis}
-use Rattle.dp_meaning.specs.Statements.{Statement, axes_of}
+use Rattle.dp_meaning.specs.Statements.{axes_of}
 use Rattle.dp_meaning.specs.Cells.{covers, statements_for, chance_of_cell}
-use Rattle.dp_meaning.specs.Text.{Text, states_in, joint_actions_in}
+use Rattle.dp_meaning.specs.Text.{states_in, joint_actions_in}
 use Rattle.dp_meaning.specs.Rows.{is_near, greatest_place, Row, Repaired, row_cells, table_row, table_rows, repair_all}
 use Rattle.dp_meaning.proofs.CellNumbers.{parts_of_row, row_below}
 use Rattle.dp_meaning.proofs.FaultSteps.{done}

@@ -3,10 +3,16 @@ use Rattle.std.specs.Prelude.{ℕ, ◌*◌, ◌/◌, ◌^◌, Bool, true, false,
 use Rattle.std.specs.List.{find}
 use Rattle.dp_num.specs.declared.decimal.Decimal.{Decimal}
 use Rattle.dp_spec.specs.JointNumbers.{joint_number, parts_of}
+use Rattle.dp_meaning.specs.declared.statement.Table.{Table}
+use Rattle.dp_meaning.specs.declared.statement.Table.TheVariants.{Trans, Obs, Reward}
+use Rattle.dp_meaning.specs.declared.statement.Part.{Part}
+use Rattle.dp_meaning.specs.declared.statement.Part.TheVariants.{Any, Only}
+use Rattle.dp_meaning.specs.declared.statement.Value.{Value}
+use Rattle.dp_meaning.specs.declared.statement.Value.TheVariants.{Uniform, Identity, Numbers}
+use Rattle.dp_meaning.specs.declared.statement.Statement.{Statement}
 use Rattle.dp_meaning.specs.NameLists.{size_of}
-use Rattle.dp_meaning.specs.Header.{Table, Trans, Obs, Reward}
-use Rattle.dp_meaning.specs.Fields.{Axis, Part, Any, Only}
-use Rattle.dp_meaning.specs.Statements.{axis_size, Value, Uniform, Identity, Numbers, Statement}
+use Rattle.dp_meaning.specs.Fields.{Axis}
+use Rattle.dp_meaning.specs.Statements.{axis_size}
 
 -- a cell of a table, by one number per axis
 abbrev pub Cell : Type 0

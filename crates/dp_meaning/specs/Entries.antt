@@ -3,11 +3,15 @@ use Rattle.std.specs.Prelude.{ℕ, Bool, true, false, not, ◌&&◌, ◌||◌, �
 use Rattle.dp_num.specs.declared.decimal.Decimal.{Decimal}
 use Rattle.dp_num.specs.DecimalShape.{is_index}
 use Rattle.dp_num.specs.Names.{is_name}
+use Rattle.dp_meaning.specs.declared.why.Fault.{Fault}
+use Rattle.dp_meaning.specs.declared.given_list.GivenList.{GivenList}
+use Rattle.dp_meaning.specs.declared.header.Start.{Start}
+use Rattle.dp_meaning.specs.declared.header.Start.TheVariants.{AnyState, OneState, StartRow}
 use Rattle.dp_meaning.specs.declared.why.Why.TheVariants.{Expected}
-use Rattle.dp_meaning.specs.Faults.{◌>>=◌, Fault, fault}
+use Rattle.dp_meaning.specs.Faults.{◌>>=◌, fault}
 use Rattle.dp_meaning.specs.Items.{Piece, Item, after_colon, pieces_of}
 use Rattle.dp_meaning.specs.Numbers.{is_chance, number, numbers, ended}
-use Rattle.dp_meaning.specs.NameLists.{NameList, size_of, says, find_in}
+use Rattle.dp_meaning.specs.NameLists.{size_of, says, find_in}
 
 -- `discount`: one Number from 0 to 1
 abbrev pub discount_of : ℕ → List Piece → Result Decimal Fault
@@ -32,12 +36,6 @@ agent_lines item = with_own_line (after_colon item) (map pieces_of item.more)
 
 -- ---- `start`
 
--- every state alike, or one state, or a row of chances and where it begins
-pub data Start : Type 0 where
-  AnyState : Start
-  OneState : ℕ → Start
-  StartRow : ℕ → List Decimal → Start
-
 -- One index where there are several states is that state. Where there is one state, `0` names it, and any other
 -- Number is a row.
 abbrev pub is_state_index : ℕ → Piece → Bool
@@ -47,7 +45,7 @@ is_state_index states piece = is_index piece.text && (not (states == 1) || says 
 abbrev pub is_one_state : ℕ → Piece → List Piece → Bool
 is_one_state states piece more = is_name piece.text || (length more == 0 && is_state_index states piece)
 
-unfoldable pub start_of : NameList → ℕ → List Piece → Result Start Fault
+unfoldable pub start_of : GivenList → ℕ → List Piece → Result Start Fault
 start_of states next [] = fault Expected next
 start_of states next (piece ∷ pieces) =
     if says (codes "uniform") piece then ended AnyState pieces

@@ -1,10 +1,7 @@
 -- A step of reading that may fail at an offset of the text. The first step that fails decides.
 use Rattle.std.specs.Prelude.{ℕ, Result, Ok, Err}
+use Rattle.dp_meaning.specs.declared.why.Fault.{Fault}
 use Rattle.dp_meaning.specs.declared.why.Why.{Why}
-
-pub record Fault : Type 0 where
-  pub at : ℕ
-  pub why : Why
 
 infixl 10 ◌>>=◌
 abbrev pub ◌>>=◌ : {A B : Type 0} → Result A Fault → (A → Result B Fault) → Result B Fault

@@ -1,10 +1,14 @@
 -- The fields of a statement, and what each allows.
 use Rattle.std.specs.Prelude.{ℕ, Bool, true, false, if◌then◌else◌, List, [], ◌∷◌, map, Result, Ok}
+use Rattle.dp_meaning.specs.declared.why.Fault.{Fault}
+use Rattle.dp_meaning.specs.declared.given_list.GivenList.{GivenList}
+use Rattle.dp_meaning.specs.declared.statement.Part.{Part}
+use Rattle.dp_meaning.specs.declared.statement.Part.TheVariants.{Any, Only}
 use Rattle.dp_meaning.specs.declared.why.Why.TheVariants.{Expected}
-use Rattle.dp_meaning.specs.Faults.{◌>>=◌, Fault, fault}
+use Rattle.dp_meaning.specs.Faults.{◌>>=◌, fault}
 use Rattle.dp_meaning.specs.Items.{Piece, is_colon, is_star}
 use Rattle.dp_meaning.specs.Numbers.{ended}
-use Rattle.dp_meaning.specs.NameLists.{NameList, find_in}
+use Rattle.dp_meaning.specs.NameLists.{find_in}
 
 -- a field, and the Colon that closes it
 pub record Field : Type 0 where
@@ -34,14 +38,9 @@ fields_of (piece ∷ pieces) = with_field_piece (is_colon piece.kind) piece (fie
 -- An axis of a table: the one list of the states, or the lists of the agents' actions or observations. Its
 -- numbers are the joint numbers of one part per list.
 abbrev pub Axis : Type 0
-Axis = List NameList
+Axis = List GivenList
 
--- every number of a list, or one of them
-pub data Part : Type 0 where
-  Any : Part
-  Only : ℕ → Part
-
-unfoldable pub part_of : NameList → Piece → Result Part Fault
+unfoldable pub part_of : GivenList → Piece → Result Part Fault
 part_of list piece = if is_star piece.kind then Ok Any else (find_in list piece >>= λ n. Ok (Only n))
 
 -- one part per list; a field that ends too early is wrong at the Colon that closes it

@@ -2,33 +2,24 @@
 use Rattle.std.specs.Prelude.{ℕ, Bool, if◌then◌else◌, List, [], ◌∷◌, codes, Option, Some, None, Result, Ok}
 use Rattle.std.specs.Str.{bytes_eq}
 use Rattle.dp_num.specs.declared.decimal.Decimal.{Decimal}
+use Rattle.dp_meaning.specs.declared.why.Fault.{Fault}
+use Rattle.dp_meaning.specs.declared.given_list.GivenList.{GivenList}
+use Rattle.dp_meaning.specs.declared.header.Start.{Start}
+use Rattle.dp_meaning.specs.declared.header.Entry.{Entry}
+use Rattle.dp_meaning.specs.declared.header.Entry.TheVariants.{Agents, Discount, Values, States, StartEntry, Actions, Observations}
+use Rattle.dp_meaning.specs.declared.statement.Table.{Table}
+use Rattle.dp_meaning.specs.declared.statement.Table.TheVariants.{Trans, Obs, Reward}
+use Rattle.dp_meaning.specs.declared.statement.ItemKind.{ItemKind}
+use Rattle.dp_meaning.specs.declared.statement.ItemKind.TheVariants.{HeaderEntry, StatementOf, NoItem}
+use Rattle.dp_meaning.specs.declared.header.Entries.{Entries}
+use Rattle.dp_meaning.specs.declared.header.Header.{Header}
 use Rattle.dp_meaning.specs.declared.why.Why.TheVariants as why
-use Rattle.dp_meaning.specs.Faults.{◌>>=◌, Fault, fault}
+use Rattle.dp_meaning.specs.Faults.{◌>>=◌, fault}
 use Rattle.dp_meaning.specs.Items.{Piece, Item, item_at, value_pieces}
-use Rattle.dp_meaning.specs.NameLists.{NameList, size_of, name_list, name_lists}
-use Rattle.dp_meaning.specs.Entries.{Start, discount_of, is_cost, agent_lines, start_of}
+use Rattle.dp_meaning.specs.NameLists.{size_of, name_list, name_lists}
+use Rattle.dp_meaning.specs.Entries.{discount_of, is_cost, agent_lines, start_of}
 
 -- ---- what an item is, by its first token
-
-pub data Entry : Type 0 where
-  Agents : Entry
-  Discount : Entry
-  Values : Entry
-  States : Entry
-  StartEntry : Entry
-  Actions : Entry
-  Observations : Entry
-
--- the tables that statements fill: the chances of next states, those of joint observations, the rewards
-pub data Table : Type 0 where
-  Trans : Table
-  Obs : Table
-  Reward : Table
-
-pub data ItemKind : Type 0 where
-  HeaderEntry : Entry → ItemKind
-  StatementOf : Table → ItemKind
-  NoItem : ItemKind
 
 abbrev pub item_words : List (List ℕ × ItemKind)
 item_words =
@@ -49,26 +40,6 @@ unfoldable pub kind_of : Item → ItemKind
 kind_of item = kind_of_pieces item.first.pieces
 
 -- ---- the entries
-
--- the entries that have come so far
-pub record Entries : Type 0 where
-  pub agents : Option NameList
-  pub discount : Option Decimal
-  pub cost : Option Bool
-  pub states : Option NameList
-  pub start : Option Start
-  pub actions : Option (List NameList)
-  pub observations : Option (List NameList)
-
--- all of them
-pub record Header : Type 0 where
-  pub agents : NameList
-  pub discount : Decimal
-  pub cost : Bool
-  pub states : NameList
-  pub start : Start
-  pub actions : List NameList
-  pub observations : List NameList
 
 abbrev pub no_entries : Entries
 no_entries = record { agents = None; discount = None; cost = None; states = None; start = None; actions = None; observations = None }

@@ -9,15 +9,19 @@ use Rattle.dp_lexer.specs.Bytes.{line_at, column_at}
 use Rattle.dp_lexer.specs.Tokens.{tokens_of}
 use Rattle.dp_spec.specs.JointNumbers.{parts_of}
 use Rattle.dp_spec.specs.Model.{Model}
+use Rattle.dp_meaning.specs.declared.why.Fault.{Fault}
+use Rattle.dp_meaning.specs.declared.statement.Table.TheVariants.{Reward}
+use Rattle.dp_meaning.specs.declared.header.Header.{Header}
+use Rattle.dp_meaning.specs.declared.text.Text.{Text}
 use Rattle.dp_meaning.specs.declared.why.Why.{Why}
 use Rattle.dp_meaning.specs.declared.why.Why.TheVariants.{BadByte, Expected}
-use Rattle.dp_meaning.specs.Faults.{◌>>=◌, Fault, fault}
+use Rattle.dp_meaning.specs.Faults.{◌>>=◌, fault}
 use Rattle.dp_meaning.specs.Items.{Piece, piece_of, Line, items_of_pieces, first_at}
 use Rattle.dp_meaning.specs.NameLists.{size_of, names_in}
-use Rattle.dp_meaning.specs.Header.{Reward, Header, header_of, no_entries}
+use Rattle.dp_meaning.specs.Header.{header_of, no_entries}
 use Rattle.dp_meaning.specs.Statements.{axes_of, statements_of}
 use Rattle.dp_meaning.specs.Cells.{statements_for, reward_of_cell}
-use Rattle.dp_meaning.specs.Text.{Text, states_in, joint_actions_in, joint_observations_in}
+use Rattle.dp_meaning.specs.Text.{states_in, joint_actions_in, joint_observations_in}
 use Rattle.dp_meaning.specs.Scales.{scales_of}
 use Rattle.dp_meaning.specs.Rows.{start_row, trans_rows, obs_rows, repair_all}
 use Rattle.dp_meaning.specs.Limits.{passed_limit}

@@ -5,12 +5,14 @@ use Rattle.dp_lexer.specs.Comments.{first_bad}
 use Rattle.dp_spec.specs.Model.{joint_actions, joint_observations, start_at, trans_at, obs_at, reward_at, AreRows}
 use Rattle.dp_model.specs.Names.{AreNames}
 use Rattle.dp_model.specs.Tables.{IsNamedModel}
+use Rattle.dp_meaning.specs.declared.statement.Table.{Table}
+use Rattle.dp_meaning.specs.declared.statement.Table.TheVariants.{Trans, Obs, Reward}
+use Rattle.dp_meaning.specs.declared.statement.Statement.{Statement}
+use Rattle.dp_meaning.specs.declared.text.Text.{Text}
 use Rattle.dp_meaning.specs.declared.why.Why.TheVariants.{BadByte}
-use Rattle.dp_meaning.specs.Header.{Table, Trans, Obs, Reward}
 use Rattle.dp_meaning.specs.Fields.{Axis}
-use Rattle.dp_meaning.specs.Statements.{axes_of, axis_size, Statement}
+use Rattle.dp_meaning.specs.Statements.{axes_of, axis_size}
 use Rattle.dp_meaning.specs.Cells.{Cell, covers, statements_for, given_chance, given_reward, chance_of_cell, reward_of_cell}
-use Rattle.dp_meaning.specs.Text.{Text}
 use Rattle.dp_meaning.specs.Scales.{scales_of}
 use Rattle.dp_meaning.specs.Rows.{Row, row_cells, greatest_place, is_near, start_row, trans_rows, obs_rows}
 use Rattle.dp_meaning.specs.Meaning.{text_of, ReadModel, Means, FaultAt, place_at, meaning}

@@ -5,22 +5,20 @@ use Rattle.std.specs.Str.Parse.{digits_value}
 use Rattle.dp_num.specs.DecimalShape.{is_index}
 use Rattle.dp_num.specs.Names.{is_name}
 use Rattle.dp_model.specs.Names.{has_name, place_of}
+use Rattle.dp_meaning.specs.declared.why.Fault.{Fault}
+use Rattle.dp_meaning.specs.declared.given_list.GivenList.{GivenList}
+use Rattle.dp_meaning.specs.declared.given_list.GivenList.TheVariants.{Counted, Named}
 use Rattle.dp_meaning.specs.declared.why.Why.TheVariants.{Expected, UnknownName, DoubleName, Number}
-use Rattle.dp_meaning.specs.Faults.{◌>>=◌, Fault, fault}
+use Rattle.dp_meaning.specs.Faults.{◌>>=◌, fault}
 use Rattle.dp_meaning.specs.Items.{Piece}
 use Rattle.dp_meaning.specs.Numbers.{ended}
 
--- a count, or one or more names
-pub data NameList : Type 0 where
-  Counted : ℕ → NameList
-  Named : List (List ℕ) → NameList
-
-abbrev pub size_of : NameList → ℕ
+abbrev pub size_of : GivenList → ℕ
 size_of (Counted n) = n
 size_of (Named names) = length names
 
 -- the names, of which there are none where the list is given as a count
-abbrev pub names_in : NameList → List (List ℕ)
+abbrev pub names_in : GivenList → List (List ℕ)
 names_in (Counted n) = []
 names_in (Named names) = names
 
@@ -47,14 +45,14 @@ abbrev pub count : Piece → Result ℕ Fault
 count piece = if nat_le 1 (index piece) && nat_le (index piece) 65536 then Ok (index piece) else fault Number piece.at
 
 -- one count, or one or more names
-unfoldable pub name_list : ℕ → List Piece → Result NameList Fault
+unfoldable pub name_list : ℕ → List Piece → Result GivenList Fault
 name_list next [] = fault Expected next
 name_list next (piece ∷ pieces) =
     if is_index piece.text then (count piece >>= λ n. ended (Counted n) pieces)
     else (names_after [] (piece ∷ pieces) >>= λ names. Ok (Named names))
 
 -- one line for each of so many agents, each with one list
-unfoldable pub name_lists : ℕ → ℕ → List (List Piece) → Result (List NameList) Fault
+unfoldable pub name_lists : ℕ → ℕ → List (List Piece) → Result (List GivenList) Fault
 name_lists next zero [] = Ok []
 name_lists next zero (line ∷ _) = ended [] line
 name_lists next (suc agents) [] = fault Expected next
@@ -69,13 +67,13 @@ abbrev pub if_below : ℕ → ℕ → Option ℕ
 if_below size n = if nat_lt n size then Some n else None
 
 -- the place of an index or of a name in a list, where the list has it
-abbrev pub place_in : NameList → Piece → Option ℕ
+abbrev pub place_in : GivenList → Piece → Option ℕ
 place_in list piece = if is_index piece.text then if_below (size_of list) (index piece) else place_of (names_in list) piece.text
 
 abbrev pub found_at : ℕ → Option ℕ → Result ℕ Fault
 found_at at (Some n) = Ok n
 found_at at None = fault UnknownName at
 
-unfoldable pub find_in : NameList → Piece → Result ℕ Fault
+unfoldable pub find_in : GivenList → Piece → Result ℕ Fault
 find_in list piece =
     if is_index piece.text || is_name piece.text then found_at piece.at (place_in list piece) else fault Expected piece.at

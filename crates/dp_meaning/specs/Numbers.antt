@@ -4,8 +4,9 @@ use Rattle.dp_num.specs.declared.decimal.Decimal.{Decimal}
 use Rattle.dp_num.specs.declared.decimal.NumFault.{NumFault}
 use Rattle.dp_num.specs.declared.decimal.NumFault.TheVariants.{Shape}
 use Rattle.dp_num.specs.Decimals.{decimal_of}
+use Rattle.dp_meaning.specs.declared.why.Fault.{Fault}
 use Rattle.dp_meaning.specs.declared.why.Why.TheVariants.{Expected, Number}
-use Rattle.dp_meaning.specs.Faults.{◌>>=◌, Fault, fault}
+use Rattle.dp_meaning.specs.Faults.{◌>>=◌, fault}
 use Rattle.dp_meaning.specs.Items.{Piece}
 
 -- 0, or a number above it that is at most n

@@ -2,14 +2,19 @@
 use Rattle.std.specs.Prelude.{ℕ, ◌+◌, ◌-◌, ◌*◌, ◌/◌, max, Bool, ◌==◌, nat_le, if◌then◌else◌, List, [], ◌∷◌, ◌++◌, map, reverse, sum, slice_index_or, slice_set, Option, Some, None, Result, Ok}
 use Rattle.std.specs.List.{fold, find, range_with_len, list_any, position_or_len}
 use Rattle.dp_spec.specs.JointNumbers.{parts_of}
+use Rattle.dp_meaning.specs.declared.why.Fault.{Fault}
+use Rattle.dp_meaning.specs.declared.header.Start.{Start}
+use Rattle.dp_meaning.specs.declared.header.Start.TheVariants.{AnyState, OneState, StartRow}
+use Rattle.dp_meaning.specs.declared.statement.Table.{Table}
+use Rattle.dp_meaning.specs.declared.statement.Table.TheVariants.{Trans, Obs}
+use Rattle.dp_meaning.specs.declared.statement.Statement.{Statement}
+use Rattle.dp_meaning.specs.declared.text.Text.{Text}
 use Rattle.dp_meaning.specs.declared.why.Why.TheVariants.{RowSum, MissingRow}
-use Rattle.dp_meaning.specs.Faults.{◌>>=◌, Fault, fault}
-use Rattle.dp_meaning.specs.Entries.{Start, AnyState, OneState, StartRow}
-use Rattle.dp_meaning.specs.Header.{Table, Trans, Obs}
+use Rattle.dp_meaning.specs.Faults.{◌>>=◌, fault}
 use Rattle.dp_meaning.specs.Fields.{Axis}
-use Rattle.dp_meaning.specs.Statements.{Statement, axes_of}
+use Rattle.dp_meaning.specs.Statements.{axes_of}
 use Rattle.dp_meaning.specs.Cells.{Cell, covers, statements_for, no_number, chance_over, chance_of_cell}
-use Rattle.dp_meaning.specs.Text.{Text, states_in, joint_actions_in, joint_observations_in}
+use Rattle.dp_meaning.specs.Text.{states_in, joint_actions_in, joint_observations_in}
 use Rattle.dp_meaning.specs.Scales.{scales_of}
 
 -- a row, its scale, and where a wrong sum is answered, which is nowhere where no statement covers a cell of it

@@ -4,10 +4,14 @@ use Rattle.std.specs.List.{fold, list_any}
 use Rattle.dp_num.specs.declared.decimal.Decimal.{Decimal}
 use Rattle.dp_num.specs.Divisors.{lcm_of}
 use Rattle.dp_spec.specs.declared.scales.Scales.{Scales}
-use Rattle.dp_meaning.specs.Entries.{Start, AnyState, OneState, StartRow}
-use Rattle.dp_meaning.specs.Header.{Trans, Obs, Reward}
-use Rattle.dp_meaning.specs.Statements.{Value, Uniform, Numbers, Statement}
-use Rattle.dp_meaning.specs.Text.{Text, states_in, joint_observations_in}
+use Rattle.dp_meaning.specs.declared.header.Start.{Start}
+use Rattle.dp_meaning.specs.declared.header.Start.TheVariants.{AnyState, OneState, StartRow}
+use Rattle.dp_meaning.specs.declared.statement.Table.TheVariants.{Trans, Obs, Reward}
+use Rattle.dp_meaning.specs.declared.statement.Value.{Value}
+use Rattle.dp_meaning.specs.declared.statement.Value.TheVariants.{Uniform, Numbers}
+use Rattle.dp_meaning.specs.declared.statement.Statement.{Statement}
+use Rattle.dp_meaning.specs.declared.text.Text.{Text}
+use Rattle.dp_meaning.specs.Text.{states_in, joint_observations_in}
 use Rattle.dp_meaning.specs.Cells.{statements_for}
 
 -- the greatest number of fraction digits

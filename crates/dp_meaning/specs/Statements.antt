@@ -3,13 +3,23 @@ use Rattle.std.specs.Prelude.{ℕ, Bool, true, false, not, ◌&&◌, ◌==◌, n
 use Rattle.std.specs.List.{flat_map}
 use Rattle.dp_num.specs.declared.decimal.Decimal.{Decimal}
 use Rattle.dp_spec.specs.JointNumbers.{product}
+use Rattle.dp_meaning.specs.declared.why.Fault.{Fault}
+use Rattle.dp_meaning.specs.declared.statement.Table.{Table}
+use Rattle.dp_meaning.specs.declared.statement.Table.TheVariants.{Trans, Obs, Reward}
+use Rattle.dp_meaning.specs.declared.statement.ItemKind.{ItemKind}
+use Rattle.dp_meaning.specs.declared.statement.ItemKind.TheVariants.{HeaderEntry, StatementOf, NoItem}
+use Rattle.dp_meaning.specs.declared.header.Header.{Header}
+use Rattle.dp_meaning.specs.declared.statement.Part.{Part}
+use Rattle.dp_meaning.specs.declared.statement.Value.{Value}
+use Rattle.dp_meaning.specs.declared.statement.Value.TheVariants.{Uniform, Identity, Numbers}
+use Rattle.dp_meaning.specs.declared.statement.Statement.{Statement}
 use Rattle.dp_meaning.specs.declared.why.Why.TheVariants as why
-use Rattle.dp_meaning.specs.Faults.{◌>>=◌, Fault, fault}
+use Rattle.dp_meaning.specs.Faults.{◌>>=◌, fault}
 use Rattle.dp_meaning.specs.Items.{Piece, Item, item_at, after_colon, pieces_of}
 use Rattle.dp_meaning.specs.Numbers.{is_chance, is_reward, numbers, ended}
 use Rattle.dp_meaning.specs.NameLists.{size_of, says}
-use Rattle.dp_meaning.specs.Header.{Table, Trans, Obs, Reward, ItemKind, HeaderEntry, StatementOf, NoItem, kind_of, Header}
-use Rattle.dp_meaning.specs.Fields.{Axis, Part, fields_of, all_parts}
+use Rattle.dp_meaning.specs.Header.{kind_of}
+use Rattle.dp_meaning.specs.Fields.{Axis, fields_of, all_parts}
 
 -- ---- the tables
 
@@ -38,11 +48,6 @@ least_fields _ = 1
 
 -- ---- the value of a statement, over the axes that have no field
 
-pub data Value : Type 0 where
-  Uniform : Value
-  Identity : Value
-  Numbers : List Decimal → Value
-
 -- `uniform` fills rows of chances
 abbrev pub allows_uniform : Table → List Axis → Bool
 allows_uniform table rest = not (is_reward_table table) && nat_lt 0 (length rest)
@@ -63,13 +68,6 @@ value_of table rest next (piece ∷ pieces) =
     else (numbers (is_number_of table) next (product (map axis_size rest)) (piece ∷ pieces) >>= λ ns. Ok (Numbers ns))
 
 -- ---- the statements
-
--- what a statement says, and where it begins
-pub record Statement : Type 0 where
-  pub at : ℕ
-  pub table : Table
-  pub fields : List (List Part)
-  pub value : Value
 
 -- where there are too few fields, the end of the line is wrong
 abbrev pub unless_too_few : ℕ → List (List Part) → ℕ → Result (Unit {0}) Fault

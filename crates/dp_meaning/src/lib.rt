@@ -5,8 +5,12 @@
 
 mod cells;
 mod faults;
+mod given_list;
+mod header;
 mod models;
 mod rows;
+mod statement;
+mod text;
 mod why;
 
 pub use cells::{
@@ -17,6 +21,10 @@ pub use cells::{
     uncovered_transitions_are_zero,
 };
 pub use faults::bad_bytes_come_first;
+pub use given_list::GivenList;
+pub use header::{Entries, Entry, Header, Start};
 pub use models::{meanings_are_models, names_are_names};
 pub use rows::{repaired_rows_are_counted, rows_sum_to_their_scales};
-pub use why::Why;
+pub use statement::{ItemKind, Part, Statement, Table, Value};
+pub use text::Text;
+pub use why::{Fault, Why};

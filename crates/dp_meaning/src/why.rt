@@ -18,3 +18,10 @@ pub enum Why {
     /// An entry of the header that comes twice or too early, or is missing.
     Header,
 }
+
+/// What is wrong with a text, and the offset at which it is.
+#[derive(Clone, Copy, Debug, PartialEq, Eq)]
+pub struct Fault {
+    pub at: u32,
+    pub why: Why,
+}

@@ -12,6 +12,7 @@ mod sizes;
 pub use items::Items;
 pub use limit::{Limit, TooLarge};
 pub use model::Model;
+pub use name_list::NameList;
 pub use names::Names;
 pub use sizes::{Cells, Sizes};
 

@@ -1,5 +1,5 @@
-// One list of names.
-ghost use Rattle.std.specs.Prelude.{◌≡◌, [], ◌<◌, ◌≤◌, ◌^◌, ◌↔◌, IsTrue, IsNone, not, length, slice_get, IfOk, OnOk, OnErr};
+//! One list of names.
+ghost use Rattle.std.specs.Prelude.{◌≡◌, [], ◌<◌, ◌^◌, ◌↔◌, IsTrue, IsNone, not, length, slice_get, IfOk, OnOk, OnErr};
 ghost use Rattle.std.specs.Option.{option_copied};
 ghost use Rattle.dp_num.specs.Names.{is_name};
 ghost use Rattle.dp_model.specs.Names.{IsNameList, has_name, place_of, with_name};
@@ -9,7 +9,8 @@ use indexmap::IndexSet;
 use std::alloc::Global;
 use std::marker::Model;
 
-/// Names in the order in which they were added, each of them once.
+/// Names in the order in which they were added, each of them once, and at most 2^26 of them.
+/// Contracts see the list of their bytes.
 #[derive(Drop)]
 pub struct NameList {
     names: IndexSet<String>,
@@ -17,10 +18,13 @@ pub struct NameList {
 
 impl Model for NameList {
     ghost use Rattle.std.specs.Prelude.{ℕ, List, map, string_bytes};
+    ghost use Rattle.dp_model.specs.Names.{IsNameList};
 
     ghost Value = { List (List ℕ) };
 
     ghost view = { λ l. map string_bytes l.names.keys };
+
+    ghost invariant = { λ l. IsNameList (map string_bytes l.names.keys) };
 }
 
 impl NameList {
@@ -33,15 +37,27 @@ impl NameList {
         }
     }
 
+    /// What holds of every list of names. It does nothing.
+    #[inline]
+    pub fn kept(&self)
+        ensures { IsNameList self.now }
+    {
+        let _ = &self.names;
+    }
+
     /// Appends a name, and answers whether it is new: a name that the list has stays as it is.
+    /// After want of memory nothing is changed.
     pub fn add(&mut self, alloc: Global, name: &str) -> Result<bool, Memory>
+        requires name { IsTrue (is_name name.now) }
+        requires room { length self.old < 2 ^ 26 }
         ensures is_new { IfOk result (λ is_new. is_new ≡ not (has_name self.old name.now)) }
         ensures added { OnOk result (self.new ≡ with_name self.old name.now) }
         ensures err { OnErr result (self.new ≡ self.old) }
-        ensures kept { IsNameList self.old → IsTrue (is_name name.now) → length self.old < 2 ^ 26 → IsNameList self.new }
+        ensures kept { IsNameList self.new }
     {
+        let names = &mut self.names;
         let name = String::from_str(alloc, name)?;
-        let is_new = self.names.insert(name)?;
+        let is_new = names.insert(name)?;
         Ok(is_new)
     }
 
@@ -57,7 +73,6 @@ impl NameList {
 
     /// The place of a name.
     pub fn find(&self, name: &str) -> Option<u32>
-        requires { length self.now ≤ 2 ^ 26 }
         ensures { result ≡ place_of self.now name.now }
     {
         let place = self.names.get_index_of(name)?;

@@ -46,6 +46,25 @@ impl Names {
         })
     }
 
+    /// The names of these lists, where a list without names stands for one that is given as a
+    /// count. It takes no memory.
+    pub fn of_lists(
+        agents: NameList,
+        states: NameList,
+        actions: Vec<NameList>,
+        observations: Vec<NameList>,
+    ) -> Names
+        requires { AreNames (record { agents = agents; states = states; actions = actions.items; observations = observations.items }) }
+        ensures { result ≡ record { agents = agents; states = states; actions = actions.items; observations = observations.items } }
+    {
+        Names {
+            agents,
+            states,
+            actions,
+            observations,
+        }
+    }
+
     /// What holds of all names. It does nothing.
     #[inline]
     pub fn kept(&self)

@@ -1,11 +1,11 @@
-use Rattle.std.proofs.Common.{ap, length}
+use Rattle.std.proofs.Common.{◌<◌, ◌^◌, ap, length}
 use Rattle.dp_model.proofs.names.Names.add_agent.Goals as goal
 
 pub invariant_of-self : goal.invariant_of-self
 invariant_of-self c =
     let old = c.self.invariant in
     record {
-      agents = c.add.ensures.kept old.agents c.requires.name (rw (ap (λ n. length n.agents) c.self.view_is) c.requires.room);
+      agents = c.add.ensures.kept;
       states = old.states;
       actions = old.actions;
       observations = old.observations;

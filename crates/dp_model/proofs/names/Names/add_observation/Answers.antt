@@ -9,10 +9,7 @@ invariant_of-self c =
     let old = c.self.invariant in
     let lists = c.self.inside.observations.items in
     let i = c.args.i in
-    let there : i < length lists = subst (λ n. i < length n.observations) (sym c.self.view_is) c.requires.agent in
-    let list : c.index_mut-list.result.now ≡ names_of lists i = get_or_read lists i c.index_mut-list.result.now there c.index_mut-list.ensures.value [] in
-    let room = subst (λ n. length (names_of n.observations i) < 2 ^ 26) (sym c.self.view_is) c.requires.room in
-    let kept = c.add.ensures.kept (subst IsNameList (sym list) (old.observations i)) c.requires.name (rw list room) in
+    let kept = c.add.ensures.kept in
     record {
       agents = old.agents;
       states = old.states;

@@ -1,4 +1,4 @@
-use Rattle.std.proofs.Common.{ap, length}
+use Rattle.std.proofs.Common.{◌<◌, ◌^◌, ap, length}
 use Rattle.dp_model.proofs.names.Names.add_state.Goals as goal
 
 pub invariant_of-self : goal.invariant_of-self
@@ -6,7 +6,7 @@ invariant_of-self c =
     let old = c.self.invariant in
     record {
       agents = old.agents;
-      states = c.add.ensures.kept old.states c.requires.name (rw (ap (λ n. length n.states) c.self.view_is) c.requires.room);
+      states = c.add.ensures.kept;
       actions = old.actions;
       observations = old.observations;
       alike = old.alike;

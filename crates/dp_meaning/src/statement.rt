@@ -1,0 +1,53 @@
+//! The statements of a model file, and what an item of it is.
+use crate::Entry;
+use dp_model::Items;
+use dp_num::Decimal;
+
+/// The tables that statements fill.
+#[derive(Clone, Copy)]
+pub enum Table {
+    /// The chances of next states.
+    Trans,
+    /// The chances of joint observations.
+    Obs,
+    /// The rewards.
+    Reward,
+}
+
+/// What an item of a model file is, by its first token.
+#[derive(Clone, Copy)]
+pub enum ItemKind {
+    HeaderEntry(Entry),
+    StatementOf(Table),
+    NoItem,
+}
+
+/// What a field of a statement says of one list.
+#[derive(Clone, Copy)]
+pub enum Part {
+    /// All of it.
+    Any,
+    /// One of its numbers.
+    Only(u32),
+}
+
+/// What a statement gives to the cells that it covers.
+#[derive(Drop)]
+pub enum Value {
+    /// Each cell of a row one over the row's length.
+    Uniform,
+    /// 1 where the next state is the state, and else 0.
+    Identity,
+    /// Numbers over the axes that have no field, the last axis fastest.
+    Numbers(Items<Decimal>),
+}
+
+/// A statement, and the offset at which it begins.
+#[derive(Drop)]
+pub struct Statement {
+    pub at: u32,
+    pub table: Table,
+    /// For each axis that has a field, one part for each of its lists.
+    pub fields: Items<Items<Part>>,
+    pub value: Value,
+}
