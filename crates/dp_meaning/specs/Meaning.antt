@@ -1,5 +1,5 @@
 -- What a model file means: a model, or one fault and its place, or one passed limit.
-use Rattle.std.specs.Prelude.{ℕ, ◌+◌, ◌*◌, ℤ, List, [], ◌∷◌, length, map, Option, Some, None, Result, Ok, Err}
+use Rattle.std.specs.Prelude.{◌≡◌, ℕ, ◌+◌, ◌*◌, ℤ, List, [], ◌∷◌, length, map, Option, Some, None, Result, Ok, Err}
 use Rattle.std.specs.List.{range_with_len}
 use Rattle.dp_model.specs.declared.limit.TooLarge.{TooLarge}
 use Rattle.dp_model.specs.Names.{NameLists}
@@ -47,6 +47,10 @@ text_of bytes = do
   header ← header_of end no_entries items.items
   statements ← statements_of header.0 header.1
   Ok (record { header = header.0; statements = statements })
+
+-- a text that some file says
+abbrev pub IsSaid : Text → Type 0
+IsSaid text = (bytes : List ℕ) × (text_of bytes ≡ Ok text)
 
 -- ---- the model
 

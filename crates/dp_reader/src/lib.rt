@@ -1,0 +1,3 @@
+//! Reading of model files.
+#![tactic(auto)]
+
