@@ -20,7 +20,7 @@ pub use exact::Exact;
 pub use memory::Memory;
 pub use outward::Outward;
 pub use rounding::{mul_down, mul_up};
-pub use shape::is_decimal;
+pub use shape::{is_decimal, is_index};
 pub use spans::add_spans;
 
 #[cfg(test)]

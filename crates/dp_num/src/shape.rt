@@ -45,6 +45,14 @@ fn all_digits(text: &[u8]) -> bool
     text.iter().all(|b| b.is_ascii_digit())
 }
 
+/// Whether a text is an index: digits alone, and at least one.
+#[tactic(auto, unfolding(crate::specs::DecimalShape::is_index))]
+pub fn is_index(text: &[u8]) -> bool
+    ensures { result ≡ spec.is_index text.now }
+{
+    !text.is_empty() && all_digits(text)
+}
+
 /// One to three digits.
 fn is_power(text: &[u8]) -> bool
     ensures { result ≡ spec.is_power text.now }

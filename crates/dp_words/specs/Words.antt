@@ -1,7 +1,9 @@
 -- What the words of the command line ask for. Each word is the list of its bytes.
-use Rattle.std.specs.Prelude.{◌≡◌, ℕ, Bool, true, ◌&&◌, not, nat_eq, List, [], ◌∷◌, Option, Some, None, Result, Ok, Err, codes, if◌then◌else◌}
+use Rattle.std.specs.Prelude.{◌≡◌, ℕ, ◌-◌, ◌^◌, Bool, true, ◌&&◌, ◌||◌, ◌==◌, not, nat_eq, nat_le, List, [], ◌∷◌, length, Option, Some, None, Result, Ok, Err, codes, if◌then◌else◌}
 use Rattle.std.specs.Str.{bytes_eq}
+use Rattle.std.specs.Str.Parse.{digits_value}
 use Rattle.std.specs.List.{starts_with}
+use Rattle.dp_num.specs.DecimalShape.{is_index}
 use Rattle.dp_words.specs.declared.job.Job.{Job}
 use Rattle.dp_words.specs.declared.job.Job.TheVariants.{Plan}
 use Rattle.dp_words.specs.declared.job.OrderWord.TheVariants.{First}
@@ -12,19 +14,37 @@ use Rattle.dp_words.specs.declared.job.WordFault.TheVariants as faults
 abbrev pub is_file : List ℕ → Bool
 is_file word = not (starts_with nat_eq word (codes "-"))
 
--- the words `plan MODEL --horizon 1`
-abbrev pub is_plan : List ℕ → List ℕ → List ℕ → List ℕ → Bool
-is_plan command model option horizon =
-    bytes_eq command (codes "plan") && bytes_eq option (codes "--horizon") && bytes_eq horizon (codes "1") && is_file model
+-- A number is written in digits that do not begin with 0, or as 0 alone.
+abbrev pub is_number : List ℕ → Bool
+is_number word = is_index word && (length word == 1 || not (starts_with nat_eq word (codes "0")))
+
+-- the number that a word writes, where it writes one from the least to the most
+abbrev pub number_of : ℕ → ℕ → List ℕ → Option ℕ
+number_of least most word =
+    let number = digits_value 10 word in
+    if is_number word && nat_le least number && nat_le number most then Some number else None
+
+-- a horizon is a number of at least 1 and 32 bits
+abbrev pub horizon_of : List ℕ → Option ℕ
+horizon_of word = number_of 1 (2 ^ 32 - 1) word
+
+-- the words `plan MODEL --horizon ..`
+abbrev pub is_plan : List ℕ → List ℕ → List ℕ → Bool
+is_plan command model option = bytes_eq command (codes "plan") && bytes_eq option (codes "--horizon") && is_file model
 
 -- a plan with that horizon, and all that the words do not say: a budget of 100,000 nodes, a
 -- look-ahead of one step, merging, and the first place of a front
 abbrev pub plain_plan : List ℕ → ℕ → Job
 plain_plan model horizon = Plan model horizon 100000 1 true First
 
+-- the plan of that horizon, where there is one
+abbrev pub plan_over : List ℕ → Option ℕ → Option Job
+plan_over model (Some horizon) = Some (plain_plan model horizon)
+plan_over model None = None
+
 -- the job of the words, where they ask for one
 abbrev pub job_of : List (List ℕ) → Option Job
-job_of (command ∷ model ∷ option ∷ horizon ∷ []) = if is_plan command model option horizon then Some (plain_plan model 1) else None
+job_of (command ∷ model ∷ option ∷ horizon ∷ []) = if is_plan command model option then plan_over model (horizon_of horizon) else None
 job_of _ = None
 
 -- The words were read as that job, or as a fault of usage where there is none, or memory ran out.

@@ -1,7 +1,8 @@
-ghost use Rattle.std.specs.Prelude.{◌≡◌, map, string_bytes};
-ghost use Rattle.dp_words.specs.Words.{IsReadAs, job_of};
+ghost use Rattle.std.specs.Prelude.{◌≡◌, Some, map, string_bytes};
+ghost use Rattle.dp_words.specs.Words.{IsReadAs, job_of, plain_plan};
 
 use crate::Name;
+use crate::number::number;
 use dp_num::Memory;
 use std::alloc::Global;
 
@@ -56,8 +57,9 @@ const DEFAULT_NODES: u32 = 100_000;
 const DEFAULT_LOOK: u32 = 1;
 
 /// The job that the words ask for: those after the program's name, each option with its default
-/// where it is not given. The words `plan MODEL --horizon 1` give a job, where MODEL does not
-/// begin with a dash. All others are a fault of usage.
+/// where it is not given. The words `plan MODEL --horizon H` give a job, where MODEL does not
+/// begin with a dash, and H is from 1 to 4,294,967,295, in digits that do not begin with 0. All
+/// others are a fault of usage.
 pub fn read_words(alloc: Global, words: &[String]) -> Result<Job, WordFault>
     ensures { IsReadAs (job_of (map string_bytes words.now)) result }
 {
@@ -66,14 +68,23 @@ pub fn read_words(alloc: Global, words: &[String]) -> Result<Job, WordFault>
     };
     let is_plan = command.as_str() == "plan"
         && option.as_str() == "--horizon"
-        && horizon.as_str() == "1"
         && !model.as_bytes().starts_with(b"-");
     if !is_plan {
         return Err(WordFault::Usage);
     }
+    match number(horizon.as_str(), 1) {
+        Some(horizon) => plain_plan(alloc, model.as_str(), horizon),
+        None => Err(WordFault::Usage),
+    }
+}
+
+// A plan with all that the words do not say.
+fn plain_plan(alloc: Global, model: &str, horizon: u32) -> Result<Job, WordFault>
+    ensures { IsReadAs (Some (plain_plan model.now horizon)) result }
+{
     Ok(Job::Plan {
-        model: Name::of(alloc, model.as_str())?,
-        horizon: 1,
+        model: Name::of(alloc, model)?,
+        horizon,
         nodes: DEFAULT_NODES,
         look: DEFAULT_LOOK,
         merge: true,

@@ -3,6 +3,7 @@
 
 mod job;
 mod name;
+mod number;
 
 pub use job::{Job, OrderWord, WordFault, read_words};
 pub use name::Name;
