@@ -1,0 +1,30 @@
+use Rattle.std.proofs.Common.{◌≡◌, ◌*◌, ◌^◌, ◌≤◌, max, ap, arith}
+use Rattle.dp_spec.specs.Mode.{greatest_magnitude}
+use Rattle.dp_spec.specs.Model.{step_scale}
+use Rattle.dp_model.proofs.HorizonLemmas.{condition, exact_where, steps_room, unit_room, value_scale_is, weights_room}
+use Rattle.dp_model.proofs.horizon.exact_unit.Goals as goal
+
+pub returns-in_err-weights-clause-is : goal.returns-in_err-weights-clause-is
+returns-in_err-weights-clause-is c =
+    rw c.from_residual.ensures (λ e. c.in_err-weights.ensures (weights_room c.args.m.now.model c.kept.ensures.model c.args.horizon c.requires e))
+
+pub returns-in_err-steps-clause-is : goal.returns-in_err-steps-clause-is
+returns-in_err-steps-clause-is c =
+    rw c.from_residual-in_err-steps.ensures (λ e. c.in_err-steps.ensures (rw (c.in_ok-weights.ensures.1, c.from.ensures) (steps_room c.args.m.now.model c.kept.ensures.model c.args.horizon e)))
+
+pub returns-in_err-product_within-clause-is : goal.returns-in_err-product_within-clause-is
+returns-in_err-product_within-clause-is c =
+    let scale : c.scales-scales.result.reward ≡ c.args.m.now.model.scales.reward = ap (λ s. s.reward) c.scales-scales.ensures in
+    rw c.from_residual-in_err-product_within.ensures
+    (λ e. c.in_err-product_within.ensures
+    (rw (c.in_ok-steps.ensures.1, c.in_ok-weights.ensures.1, c.from.ensures, c.from-2.ensures, c.max.ensures, c.greatest_reward.ensures, scale) (condition c.args.m.now.model c.kept.ensures.model c.args.horizon e)))
+
+pub overflow_mul-result : goal.overflow_mul-result
+overflow_mul-result c =
+    let x = c.in_ok-product_within.ensures in ?
+
+pub returns-clause-is : goal.returns-clause-is
+returns-clause-is c = ?
+
+pub returns-clause-limit : goal.returns-clause-limit
+returns-clause-limit c = ?

@@ -1,0 +1,177 @@
+//! The limits of a horizon, its mode and its unit.
+ghost use Rattle.std.specs.Prelude.{◌≡◌, ◌*◌, ◌-◌, ◌^◌, ◌<◌, ◌≤◌, true, IfOk, OnOk, IfSome, SomeIff};
+ghost use Rattle.std.specs.Result.{result_err};
+ghost use Rattle.dp_spec.specs.Mode.{IsWithin, is_exact_mode, own_history_count};
+ghost use Rattle.dp_spec.specs.Model.{AreScales, joint_observations, step_scale, value_scale};
+ghost use Rattle.dp_spec.specs.Sums.{nat_sum};
+ghost use Rattle.dp_model.specs.Horizons.{fit_of, horizon_limits};
+ghost use Rattle.dp_model.specs.Limits.{at_most, first_passed};
+
+use crate::{Limit, Model, TooLarge};
+use dp_num::Scales;
+
+const MOST_STEPS: u128 = 16;
+const MOST_OWN_HISTORIES: u128 = 2048;
+const MOST_STAGE_CELLS: u128 = 1 << 22;
+const MOST_GAME_CELLS: u128 = 1 << 24;
+
+// In exact mode no value is greater.
+const MOST_VALUE: u128 = 1 << 126;
+
+const OUTWARD_UNIT: i128 = 1_000_000_000;
+
+/// A horizon that keeps every limit of a model, with its mode and its unit.
+#[derive(Clone, Copy, Debug, PartialEq, Eq)]
+pub struct Fit {
+    /// How many steps a policy has.
+    pub horizon: u32,
+    /// Whether the mode is exact: no value can pass `2^126`. Else numbers are rounded outward.
+    pub exact: bool,
+    /// What values are counted in: in exact mode the expected reward is the value over the unit.
+    pub unit: i128,
+}
+
+/// The mode and the unit of a horizon of at least 1, or the first of the limits `Horizon`,
+/// `OwnHistories`, `StageCells` and `GameCells`, in this order, that it passes, with its count. It
+/// takes no memory.
+pub fn fits(m: &Model, horizon: u32) -> Result<Fit, TooLarge>
+    requires { 1 ≤ horizon }
+    ensures passed { result_err result ≡ first_passed (horizon_limits m.now.model horizon) }
+    ensures within { OnOk result (IsWithin m.now.model horizon) }
+    ensures fit { IfOk result (λ fit. fit ≡ fit_of m.now.model horizon) }
+{
+    keep_limits(m, horizon)?;
+    Ok(mode_and_unit(m, horizon))
+}
+
+// Tries the limits in order.
+fn keep_limits(m: &Model, horizon: u32) -> Result<(), TooLarge>
+    requires { 1 ≤ horizon }
+    ensures { result_err result ≡ first_passed (horizon_limits m.now.model horizon) }
+{
+    keep(Limit::Horizon, u128::from(horizon), MOST_STEPS)?;
+    keep(Limit::OwnHistories, own_histories(m, horizon), MOST_OWN_HISTORIES)?;
+    let histories = joint_histories(m, horizon);
+    keep(Limit::StageCells, u128::from(m.states()) * histories, MOST_STAGE_CELLS)?;
+    keep(Limit::GameCells, u128::from(m.joint_actions()) * histories, MOST_GAME_CELLS)
+}
+
+// A limit is passed where the count is more than the greatest allowed.
+fn keep(what: Limit, count: u128, most: u128) -> Result<(), TooLarge>
+    ensures { result_err result ≡ at_most what count most }
+{
+    if count > most {
+        Err(TooLarge { what, count })
+    } else {
+        Ok(())
+    }
+}
+
+// How many own histories shorter than the horizon the agents have together.
+fn own_histories(m: &Model, horizon: u32) -> u128
+    requires { horizon ≤ 16 }
+    ensures { result ≡ own_history_count m.now.model.observations horizon }
+{
+    m.kept();
+    let mut count = 0;
+    for agent in 0..m.agents() {
+        count += histories_of(m.observations(agent), horizon);
+    }
+    count
+}
+
+// How many own histories shorter than the horizon an agent of so many observations has.
+fn histories_of(observations: u32, horizon: u32) -> u128
+    requires few { observations ≤ 256 }
+    requires short { horizon ≤ 16 }
+    ensures is { result ≡ nat_sum horizon (λ t. observations ^ t) }
+    ensures limit { result ≤ 2 ^ 124 }
+{
+    let mut count = 0;
+    for seen in 0..horizon {
+        count += u128::from(observations).pow(seen);
+    }
+    count
+}
+
+// How many joint histories the last stage has.
+fn joint_histories(m: &Model, horizon: u32) -> u128
+    requires some { 1 ≤ horizon }
+    requires few { own_history_count m.now.model.observations horizon ≤ 2048 }
+    ensures is { result ≡ joint_observations m.now.model ^ (horizon - 1) }
+    ensures limit { result ≤ 2 ^ 66 }
+{
+    m.kept();
+    u128::from(m.joint_observations()).pow(horizon - 1)
+}
+
+// The mode and the unit.
+fn mode_and_unit(m: &Model, horizon: u32) -> Fit
+    requires { 1 ≤ horizon }
+    ensures { result ≡ fit_of m.now.model horizon }
+{
+    match exact_unit(m, horizon) {
+        Some(unit) => Fit {
+            horizon,
+            exact: true,
+            unit: unit as i128,
+        },
+        None => Fit {
+            horizon,
+            exact: false,
+            unit: OUTWARD_UNIT,
+        },
+    }
+}
+
+// The unit of exact mode, or `None` in outward mode.
+fn exact_unit(m: &Model, horizon: u32) -> Option<u128>
+    requires { 1 ≤ horizon }
+    ensures is { SomeIff result (is_exact_mode m.now.model horizon ≡ true) (value_scale m.now.model horizon) }
+    ensures limit { IfSome result (λ unit. unit ≤ 2 ^ 126) }
+{
+    m.kept();
+    let scales = m.scales();
+    let weights = weight_scale(m, horizon)?;
+    let steps = product_within(weights, u128::from(horizon))?;
+    product_within(steps, u128::from(m.greatest_reward().max(scales.reward)))?;
+    Some(weights * u128::from(scales.reward))
+}
+
+// What weights are counted in after so many steps, or `None` where it is more than 2^126.
+fn weight_scale(m: &Model, steps: u32) -> Option<u128>
+    ensures { let scale = m.now.model.scales.start * step_scale m.now.model ^ steps in SomeIff result (scale ≤ 2 ^ 126) scale }
+{
+    m.kept();
+    let scales = m.scales();
+    let mut scale = u128::from(scales.start);
+    for _step in 0..steps {
+        scale = match scale_after_step(scale, &scales) {
+            Some(next) => next,
+            None => return None,
+        };
+    }
+    Some(scale)
+}
+
+// The scale of weights one step on, or `None` where it is more than 2^126.
+fn scale_after_step(scale: u128, scales: &Scales) -> Option<u128>
+    requires { AreScales scales.now }
+    ensures { let next = scale * (scales.now.trans * scales.now.obs * scales.now.discount) in SomeIff result (next ≤ 2 ^ 126) next }
+{
+    let arrived = product_within(scale, u128::from(scales.trans))?;
+    let seen = product_within(arrived, u128::from(scales.obs))?;
+    product_within(seen, u128::from(scales.discount))
+}
+
+// The product, or `None` where it is more than 2^126.
+fn product_within(a: u128, b: u128) -> Option<u128>
+    ensures { SomeIff result (a * b ≤ 2 ^ 126) (a * b) }
+{
+    let product = a.checked_mul(b)?;
+    if product <= MOST_VALUE {
+        Some(product)
+    } else {
+        None
+    }
+}
