@@ -1,5 +1,5 @@
 -- Counts of histories, and the mode of a horizon.
-use Rattle.std.proofs.Common.{◌≡◌, ℕ, zero, suc, ◌+◌, ◌-◌, ◌*◌, ◌^◌, ◌<◌, ◌≤◌, Bool, true, false, max, ℤ, pos, unsigned_abs, to_z, List, [], ◌∷◌, length, get_or, drop, refl, sym, ap, subst, ◌∙◌, arith}
+use Rattle.std.proofs.Common.{◌≡◌, ℕ, zero, suc, ◌+◌, ◌-◌, ◌*◌, ◌^◌, ◌<◌, ◌≤◌, Bool, true, false, max, ℤ, pos, unsigned_abs, to_z, List, [], ◌∷◌, length, get_or, drop, add-one, refl, sym, ap, subst, ◌∙◌, arith}
 use Rattle.std.specs.Prelude.{Option, Some, None, SomeIff}
 use Rattle.std.proofs.Math.Nat.{le-mul_of_pos_right, mul-le-mul, mul-le-mul_left, one-le-pow, pow-le-pow_left, pow-le-pow_right, pow-suc, pow-zero}
 use Rattle.std.proofs.Math.Seq.{drop-cons}
@@ -8,7 +8,8 @@ use Rattle.std.proofs.lemmas.Int.{to_z_pos}
 use Rattle.std.proofs.lemmas.Nat.{mul-pow}
 use mir.Syntax.{w128}
 use Rattle.dp_laws.proofs.ModeCondition.{step_scale_some}
-use Rattle.dp_laws.proofs.Scales.{product_positive}
+use Rattle.dp_laws.proofs.Scales.{product_positive, scale_of_next, step_scale_is}
+use Rattle.dp_spec.specs.declared.scales.Scales.{Scales}
 use Rattle.dp_spec.specs.JointNumbers.{product}
 use Rattle.dp_spec.specs.Mode.{IsWithin, greatest_magnitude, is_exact_mode, own_history_count, unit_of}
 use Rattle.dp_spec.specs.Model.{IsModel, Model, joint_actions, joint_observations, step_scale, value_scale}
@@ -109,6 +110,15 @@ pub all_three : (x a b d a' b' d' p q n : ℕ) (r : Option ℕ) → a' ≡ a →
 all_three x a b d a' b' d' p q n r same_a same_b same_d first second h =
     let whole : q * d' ≡ x * (a * b * d) = rw (second, first, same_a, same_b, same_d) (omega arith) in
     subst (λ (k : ℕ). SomeIff r (k ≤ n) k) whole h
+
+-- the scale of weights one step on
+pub next_scale : (m : Model) (s : Scales) (t x : ℕ) → s ≡ m.scales → x ≡ m.scales.start * step_scale m ^ t → x * (s.trans * s.obs * s.discount) ≡ m.scales.start * step_scale m ^ (t + 1)
+next_scale m s t x same is =
+    ap (λ (c : Scales). x * (c.trans * c.obs * c.discount)) same
+    ∙ ap (λ (n : ℕ). x * n) (step_scale_is m)
+    ∙ ap (λ (n : ℕ). n * step_scale m) is
+    ∙ scale_of_next m t
+    ∙ rw add-one refl
 
 -- the scales of weights up to the horizon
 pub scale_before : (m : Model) → IsModel m → (t h : ℕ) → t ≤ h → m.scales.start * step_scale m ^ h ≤ 2 ^ 126 → m.scales.start * step_scale m ^ t ≤ 2 ^ 126

@@ -21,10 +21,22 @@ returns-in_err-product_within-clause-is c =
 
 pub overflow_mul-result : goal.overflow_mul-result
 overflow_mul-result c =
-    let x = c.in_ok-product_within.ensures in ?
+    let scale : c.scales-scales.result.reward ≡ c.args.m.now.model.scales.reward = ap (λ s. s.reward) c.scales-scales.ensures in
+    let room : c.args.m.now.model.scales.start * step_scale c.args.m.now.model ^ c.args.horizon * c.args.horizon * max (greatest_magnitude c.args.m.now.model.reward) c.args.m.now.model.scales.reward ≤ 2 ^ 126 =
+    rw (← scale, ← c.greatest_reward.ensures, ← c.max.ensures, ← c.from-2.ensures, ← c.in_ok-weights.ensures.1, ← c.from.ensures, ← c.in_ok-steps.ensures.1) c.in_ok-product_within.ensures.0 in
+    let unit = unit_room _ c.args.horizon (greatest_magnitude c.args.m.now.model.reward) c.args.m.now.model.scales.reward (2 ^ 126) c.requires room in
+    rw (c.in_ok-weights.ensures.1, c.from-3.ensures, scale) (omega arith)
 
 pub returns-clause-is : goal.returns-clause-is
-returns-clause-is c = ?
+returns-clause-is c =
+    let scale : c.scales-scales.result.reward ≡ c.args.m.now.model.scales.reward = ap (λ s. s.reward) c.scales-scales.ensures in
+    let room : c.args.m.now.model.scales.start * step_scale c.args.m.now.model ^ c.args.horizon * c.args.horizon * max (greatest_magnitude c.args.m.now.model.reward) c.args.m.now.model.scales.reward ≤ 2 ^ 126 =
+    rw (← scale, ← c.greatest_reward.ensures, ← c.max.ensures, ← c.from-2.ensures, ← c.in_ok-weights.ensures.1, ← c.from.ensures, ← c.in_ok-steps.ensures.1) c.in_ok-product_within.ensures.0 in
+    (exact_where c.args.m.now.model c.kept.ensures.model c.args.horizon room, rw (c.in_ok-weights.ensures.1, c.from-3.ensures, scale) (value_scale_is c.args.m.now.model c.args.horizon))
 
 pub returns-clause-limit : goal.returns-clause-limit
-returns-clause-limit c = ?
+returns-clause-limit c =
+    let scale : c.scales-scales.result.reward ≡ c.args.m.now.model.scales.reward = ap (λ s. s.reward) c.scales-scales.ensures in
+    let room : c.args.m.now.model.scales.start * step_scale c.args.m.now.model ^ c.args.horizon * c.args.horizon * max (greatest_magnitude c.args.m.now.model.reward) c.args.m.now.model.scales.reward ≤ 2 ^ 126 =
+    rw (← scale, ← c.greatest_reward.ensures, ← c.max.ensures, ← c.from-2.ensures, ← c.in_ok-weights.ensures.1, ← c.from.ensures, ← c.in_ok-steps.ensures.1) c.in_ok-product_within.ensures.0 in
+    rw (c.in_ok-weights.ensures.1, c.from-3.ensures, scale) (unit_room _ c.args.horizon (greatest_magnitude c.args.m.now.model.reward) c.args.m.now.model.scales.reward (2 ^ 126) c.requires room)
