@@ -135,7 +135,7 @@ pub condition : (m : Model) → IsModel m → (h : ℕ) → is_exact_mode m h �
 unfolding is_exact_mode
 condition m ok h e = rw (← most_reward (greatest_magnitude m.reward) m.scales.reward ok.scales.reward) (leb-true _ _ e)
 
-pub exact_where : (m : Model) → IsModel m → (h : ℕ) → m.scales.start * step_scale m ^ h * h * max (greatest_magnitude m.reward) m.scales.reward ≤ 2 ^ 126 → is_exact_mode m h ≡ true
+exact_where : (m : Model) → IsModel m → (h : ℕ) → m.scales.start * step_scale m ^ h * h * max (greatest_magnitude m.reward) m.scales.reward ≤ 2 ^ 126 → is_exact_mode m h ≡ true
 unfolding is_exact_mode
 exact_where m ok h le = rw (most_reward (greatest_magnitude m.reward) m.scales.reward ok.scales.reward) (le-leb _ _ le)
 
@@ -150,15 +150,26 @@ pub weights_room : (m : Model) → IsModel m → (h : ℕ) → 1 ≤ h → is_ex
 weights_room m ok h some e = grown (m.scales.start * step_scale m ^ h) h _ (2 ^ 126) some refl (steps_room m ok h e)
 
 -- and of the unit
-pub unit_room : (w h g d n : ℕ) → 1 ≤ h → w * h * max g d ≤ n → w * d ≤ n
+unit_room : (w h g d n : ℕ) → 1 ≤ h → w * h * max g d ≤ n → w * d ≤ n
 unit_room w h g d n some le =
     let longer : w ≤ w * h = le-mul_of_pos_right w some in
     let greater : d ≤ max g d = omega arith in
     omega (arith, mul-le-mul longer greater)
 
-pub value_scale_is : (m : Model) (h : ℕ) → m.scales.start * step_scale m ^ h * m.scales.reward ≡ value_scale m h
+value_scale_is : (m : Model) (h : ℕ) → m.scales.start * step_scale m ^ h * m.scales.reward ≡ value_scale m h
 unfolding value_scale
 value_scale_is m h = omega arith
+
+-- where the scale of weights, times the steps, times the greatest reward is within 2^126, the scale of weights times that of rewards is the unit
+pub unit_of_products : (m : Model) → IsModel m → (h weights steps product most scale : ℕ) → 1 ≤ h → weights ≡ m.scales.start * step_scale m ^ h → steps ≡ h → product ≡ weights * steps
+    → most ≡ max (greatest_magnitude m.reward) m.scales.reward → scale ≡ m.scales.reward → product * most ≤ 2 ^ 126
+    → (is_exact_mode m h ≡ true) × (weights * scale ≡ value_scale m h) × (weights * scale ≤ 2 ^ 126)
+unit_of_products m ok h weights steps product most scale some e f g k q le =
+    let room : m.scales.start * step_scale m ^ h * h * max (greatest_magnitude m.reward) m.scales.reward ≤ 2 ^ 126 = carried product most _ _ (2 ^ 126) (g ∙ rw (e, f) refl) k le in
+    (exact_where m ok h room, rw (e, q) (value_scale_is m h), rw (e, q) (unit_room _ h (greatest_magnitude m.reward) m.scales.reward (2 ^ 126) some room))
+  where
+    carried : (a b x y n : ℕ) → a ≡ x → b ≡ y → a * b ≤ n → x * y ≤ n
+    carried a b x y n e f le = rw (← e, ← f) le
 
 -- the unit of each mode
 pub exact_fit : (m : Model) (h u : ℕ) → is_exact_mode m h ≡ true → u ≡ value_scale m h → u ≤ 2 ^ 126 → record { horizon = h; exact = true; unit = to_z w128 u } ≡ fit_of m h

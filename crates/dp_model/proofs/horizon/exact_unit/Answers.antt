@@ -1,7 +1,6 @@
-use Rattle.std.proofs.Common.{◌≡◌, ◌*◌, ◌^◌, ◌≤◌, max, ap, arith}
+use Rattle.std.proofs.Common.{◌≡◌, max, refl, ap, ◌∙◌, arith}
 use Rattle.dp_spec.specs.Mode.{greatest_magnitude}
-use Rattle.dp_spec.specs.Model.{step_scale}
-use Rattle.dp_model.proofs.HorizonLemmas.{condition, exact_where, steps_room, unit_room, value_scale_is, weights_room}
+use Rattle.dp_model.proofs.HorizonLemmas.{condition, steps_room, unit_of_products, weights_room}
 use Rattle.dp_model.proofs.horizon.exact_unit.Goals as goal
 
 pub returns-in_err-weights-clause-is : goal.returns-in_err-weights-clause-is
@@ -22,21 +21,24 @@ returns-in_err-product_within-clause-is c =
 pub overflow_mul-result : goal.overflow_mul-result
 overflow_mul-result c =
     let scale : c.scales-scales.result.reward ≡ c.args.m.now.model.scales.reward = ap (λ s. s.reward) c.scales-scales.ensures in
-    let room : c.args.m.now.model.scales.start * step_scale c.args.m.now.model ^ c.args.horizon * c.args.horizon * max (greatest_magnitude c.args.m.now.model.reward) c.args.m.now.model.scales.reward ≤ 2 ^ 126 =
-    rw (← scale, ← c.greatest_reward.ensures, ← c.max.ensures, ← c.from-2.ensures, ← c.in_ok-weights.ensures.1, ← c.from.ensures, ← c.in_ok-steps.ensures.1) c.in_ok-product_within.ensures.0 in
-    let unit = unit_room _ c.args.horizon (greatest_magnitude c.args.m.now.model.reward) c.args.m.now.model.scales.reward (2 ^ 126) c.requires room in
-    rw (c.in_ok-weights.ensures.1, c.from-3.ensures, scale) (omega arith)
+    let most : c.from-2.result ≡ max (greatest_magnitude c.args.m.now.model.reward) c.args.m.now.model.scales.reward = rw (c.from-2.ensures, c.max.ensures, c.greatest_reward.ensures, scale) refl in
+    let unit = unit_of_products c.args.m.now.model c.kept.ensures.model c.args.horizon c.in_ok-weights.weights c.from.result c.in_ok-steps.steps c.from-2.result c.from-3.result
+    c.requires c.in_ok-weights.ensures.1 c.from.ensures c.in_ok-steps.ensures.1 most (c.from-3.ensures ∙ scale) c.in_ok-product_within.ensures.0 in
+    let limit = unit.2 in
+    omega arith
 
 pub returns-clause-is : goal.returns-clause-is
 returns-clause-is c =
     let scale : c.scales-scales.result.reward ≡ c.args.m.now.model.scales.reward = ap (λ s. s.reward) c.scales-scales.ensures in
-    let room : c.args.m.now.model.scales.start * step_scale c.args.m.now.model ^ c.args.horizon * c.args.horizon * max (greatest_magnitude c.args.m.now.model.reward) c.args.m.now.model.scales.reward ≤ 2 ^ 126 =
-    rw (← scale, ← c.greatest_reward.ensures, ← c.max.ensures, ← c.from-2.ensures, ← c.in_ok-weights.ensures.1, ← c.from.ensures, ← c.in_ok-steps.ensures.1) c.in_ok-product_within.ensures.0 in
-    (exact_where c.args.m.now.model c.kept.ensures.model c.args.horizon room, rw (c.in_ok-weights.ensures.1, c.from-3.ensures, scale) (value_scale_is c.args.m.now.model c.args.horizon))
+    let most : c.from-2.result ≡ max (greatest_magnitude c.args.m.now.model.reward) c.args.m.now.model.scales.reward = rw (c.from-2.ensures, c.max.ensures, c.greatest_reward.ensures, scale) refl in
+    let unit = unit_of_products c.args.m.now.model c.kept.ensures.model c.args.horizon c.in_ok-weights.weights c.from.result c.in_ok-steps.steps c.from-2.result c.from-3.result
+    c.requires c.in_ok-weights.ensures.1 c.from.ensures c.in_ok-steps.ensures.1 most (c.from-3.ensures ∙ scale) c.in_ok-product_within.ensures.0 in
+    (unit.0, unit.1)
 
 pub returns-clause-limit : goal.returns-clause-limit
 returns-clause-limit c =
     let scale : c.scales-scales.result.reward ≡ c.args.m.now.model.scales.reward = ap (λ s. s.reward) c.scales-scales.ensures in
-    let room : c.args.m.now.model.scales.start * step_scale c.args.m.now.model ^ c.args.horizon * c.args.horizon * max (greatest_magnitude c.args.m.now.model.reward) c.args.m.now.model.scales.reward ≤ 2 ^ 126 =
-    rw (← scale, ← c.greatest_reward.ensures, ← c.max.ensures, ← c.from-2.ensures, ← c.in_ok-weights.ensures.1, ← c.from.ensures, ← c.in_ok-steps.ensures.1) c.in_ok-product_within.ensures.0 in
-    rw (c.in_ok-weights.ensures.1, c.from-3.ensures, scale) (unit_room _ c.args.horizon (greatest_magnitude c.args.m.now.model.reward) c.args.m.now.model.scales.reward (2 ^ 126) c.requires room)
+    let most : c.from-2.result ≡ max (greatest_magnitude c.args.m.now.model.reward) c.args.m.now.model.scales.reward = rw (c.from-2.ensures, c.max.ensures, c.greatest_reward.ensures, scale) refl in
+    let unit = unit_of_products c.args.m.now.model c.kept.ensures.model c.args.horizon c.in_ok-weights.weights c.from.result c.in_ok-steps.steps c.from-2.result c.from-3.result
+    c.requires c.in_ok-weights.ensures.1 c.from.ensures c.in_ok-steps.ensures.1 most (c.from-3.ensures ∙ scale) c.in_ok-product_within.ensures.0 in
+    unit.2
