@@ -4,3 +4,4 @@ pub mod ModelLemmas
 pub mod LimitLemmas
 pub mod HorizonLemmas
 pub mod TwoAgents
+pub mod HorizonRows

@@ -1,5 +1,5 @@
 -- The first passed limit of a list.
-use Rattle.std.proofs.Common.{◌≡◌, ℕ, zero, suc, ◌≤◌, Bool, true, false, List, [], ◌∷◌, get_or, refl, sym, ap, ◌∙◌, arith, cond}
+use Rattle.std.proofs.Common.{◌≡◌, ℕ, zero, suc, ◌≤◌, Bool, true, false, List, [], ◌∷◌, get_or, refl, arith, cond}
 use Rattle.std.specs.Prelude.{nat_lt, Option, Some, None}
 use Rattle.std.proofs.lemmas.Bool.Decides.{nat_tests}
 use Rattle.dp_model.specs.declared.limit.Limit.{Limit}
@@ -21,11 +21,3 @@ not_passed what count most e = by (nat_lt most count) refl e
         → count ≤ most
     by true t f = cc
     by false t f = grind (arith, nat_tests)
-
--- a limit that is kept is passed over
-pub kept_first : (x : Option TooLarge) (xs : List (Option TooLarge)) → x ≡ None → first_passed (x ∷ xs) ≡ first_passed xs
-kept_first x xs e = rw e refl
-
--- a limit that is passed comes before the others
-pub passed_first : (x : Option TooLarge) (passed : TooLarge) (xs : List (Option TooLarge)) → x ≡ Some passed → first_passed (x ∷ xs) ≡ Some passed
-passed_first x passed xs e = rw e refl

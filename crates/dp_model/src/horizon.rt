@@ -11,8 +11,11 @@ use crate::{Limit, Model, TooLarge};
 use dp_num::Scales;
 
 const MOST_STEPS: u128 = 16;
+
 const MOST_OWN_HISTORIES: u128 = 2048;
+
 const MOST_STAGE_CELLS: u128 = 1 << 22;
+
 const MOST_GAME_CELLS: u128 = 1 << 24;
 
 // In exact mode no value is greater.
@@ -34,30 +37,33 @@ pub struct Fit {
 /// The mode and the unit of a horizon of at least 1, or the first of the limits `Horizon`,
 /// `OwnHistories`, `StageCells` and `GameCells`, in this order, that it passes, with its count. It
 /// takes no memory.
-pub fn fits(m: &Model, horizon: u32) -> Result<Fit, TooLarge>
+pub fn fits(model: &Model, horizon: u32) -> Result<Fit, TooLarge>
     requires { 1 ≤ horizon }
-    ensures passed { result_err result ≡ first_passed (horizon_limits m.now.model horizon) }
-    ensures within { OnOk result (IsWithin m.now.model horizon) }
-    ensures fit { IfOk result (λ fit. fit ≡ fit_of m.now.model horizon) }
+    ensures passed { result_err result ≡ first_passed (horizon_limits model.now.model horizon) }
+    ensures within { OnOk result (IsWithin model.now.model horizon) }
+    ensures fit { IfOk result (λ fit. fit ≡ fit_of model.now.model horizon) }
 {
-    keep_limits(m, horizon)?;
-    Ok(mode_and_unit(m, horizon))
+    within_limits(model, horizon)?;
+    Ok(mode_and_unit(model, horizon))
 }
 
 // Tries the limits in order.
-fn keep_limits(m: &Model, horizon: u32) -> Result<(), TooLarge>
+fn within_limits(model: &Model, horizon: u32) -> Result<(), TooLarge>
     requires { 1 ≤ horizon }
-    ensures { result_err result ≡ first_passed (horizon_limits m.now.model horizon) }
+    ensures { result_err result ≡ first_passed (horizon_limits model.now.model horizon) }
 {
-    keep(Limit::Horizon, u128::from(horizon), MOST_STEPS)?;
-    keep(Limit::OwnHistories, own_histories(m, horizon), MOST_OWN_HISTORIES)?;
-    let histories = joint_histories(m, horizon);
-    keep(Limit::StageCells, u128::from(m.states()) * histories, MOST_STAGE_CELLS)?;
-    keep(Limit::GameCells, u128::from(m.joint_actions()) * histories, MOST_GAME_CELLS)
+    within_limit(Limit::Horizon, u128::from(horizon), MOST_STEPS)?;
+    let own = own_histories(model, horizon);
+    within_limit(Limit::OwnHistories, own, MOST_OWN_HISTORIES)?;
+    let joint = joint_histories(model, horizon);
+    let stage_cells = u128::from(model.states()) * joint;
+    let game_cells = u128::from(model.joint_actions()) * joint;
+    within_limit(Limit::StageCells, stage_cells, MOST_STAGE_CELLS)?;
+    within_limit(Limit::GameCells, game_cells, MOST_GAME_CELLS)
 }
 
 // A limit is passed where the count is more than the greatest allowed.
-fn keep(what: Limit, count: u128, most: u128) -> Result<(), TooLarge>
+fn within_limit(what: Limit, count: u128, most: u128) -> Result<(), TooLarge>
     ensures { result_err result ≡ at_most what count most }
 {
     if count > most {
@@ -68,14 +74,14 @@ fn keep(what: Limit, count: u128, most: u128) -> Result<(), TooLarge>
 }
 
 // How many own histories shorter than the horizon the agents have together.
-fn own_histories(m: &Model, horizon: u32) -> u128
+fn own_histories(model: &Model, horizon: u32) -> u128
     requires { horizon ≤ 16 }
-    ensures { result ≡ own_history_count m.now.model.observations horizon }
+    ensures { result ≡ own_history_count model.now.model.observations horizon }
 {
-    m.kept();
+    model.kept();
     let mut count = 0;
-    for agent in 0..m.agents() {
-        count += histories_of(m.observations(agent), horizon);
+    for agent in 0..model.agents() {
+        count += histories_of(model.observations(agent), horizon);
     }
     count
 }
@@ -95,22 +101,22 @@ fn histories_of(observations: u32, horizon: u32) -> u128
 }
 
 // How many joint histories the last stage has.
-fn joint_histories(m: &Model, horizon: u32) -> u128
+fn joint_histories(model: &Model, horizon: u32) -> u128
     requires some { 1 ≤ horizon }
-    requires few { own_history_count m.now.model.observations horizon ≤ 2048 }
-    ensures is { result ≡ joint_observations m.now.model ^ (horizon - 1) }
+    requires few { own_history_count model.now.model.observations horizon ≤ 2048 }
+    ensures is { result ≡ joint_observations model.now.model ^ (horizon - 1) }
     ensures limit { result ≤ 2 ^ 66 }
 {
-    m.kept();
-    u128::from(m.joint_observations()).pow(horizon - 1)
+    model.kept();
+    u128::from(model.joint_observations()).pow(horizon - 1)
 }
 
 // The mode and the unit.
-fn mode_and_unit(m: &Model, horizon: u32) -> Fit
+fn mode_and_unit(model: &Model, horizon: u32) -> Fit
     requires { 1 ≤ horizon }
-    ensures { result ≡ fit_of m.now.model horizon }
+    ensures { result ≡ fit_of model.now.model horizon }
 {
-    match exact_unit(m, horizon) {
+    match exact_unit(model, horizon) {
         Some(unit) => Fit {
             horizon,
             exact: true,
@@ -125,25 +131,28 @@ fn mode_and_unit(m: &Model, horizon: u32) -> Fit
 }
 
 // The unit of exact mode, or `None` in outward mode.
-fn exact_unit(m: &Model, horizon: u32) -> Option<u128>
+fn exact_unit(model: &Model, horizon: u32) -> Option<u128>
     requires { 1 ≤ horizon }
-    ensures is { SomeIff result (is_exact_mode m.now.model horizon ≡ true) (value_scale m.now.model horizon) }
+    ensures is { SomeIff result (is_exact_mode model.now.model horizon ≡ true) (value_scale model.now.model horizon) }
     ensures limit { IfSome result (λ unit. unit ≤ 2 ^ 126) }
 {
-    m.kept();
-    let scales = m.scales();
-    let weights = weight_scale(m, horizon)?;
+    model.kept();
+    let scales = model.scales();
+    let weights = weight_scale(model, horizon)?;
     let steps = product_within(weights, u128::from(horizon))?;
-    product_within(steps, u128::from(m.greatest_reward().max(scales.reward)))?;
+    product_within(
+        steps,
+        u128::from(model.greatest_reward().max(scales.reward)),
+    )?;
     Some(weights * u128::from(scales.reward))
 }
 
 // What weights are counted in after so many steps, or `None` where it is more than 2^126.
-fn weight_scale(m: &Model, steps: u32) -> Option<u128>
-    ensures { let scale = m.now.model.scales.start * step_scale m.now.model ^ steps in SomeIff result (scale ≤ 2 ^ 126) scale }
+fn weight_scale(model: &Model, steps: u32) -> Option<u128>
+    ensures { let scale = model.now.model.scales.start * step_scale model.now.model ^ steps in SomeIff result (scale ≤ 2 ^ 126) scale }
 {
-    m.kept();
-    let scales = m.scales();
+    model.kept();
+    let scales = model.scales();
     let mut scale = u128::from(scales.start);
     for _step in 0..steps {
         scale = match scale_after_step(scale, &scales) {
