@@ -51,10 +51,12 @@ stage_cells_kept : first_passed (horizon_limits (four_agents 4 (2 ∷ 2 ∷ 2 �
 unfolding joint_actions joint_observations
 stage_cells_kept = refl
 
-stage_cells_passed : first_passed (horizon_limits (four_agents 5 (4 ∷ 4 ∷ 4 ∷ 4 ∷ [])) 6) ≡ Some (record { what = limits.StageCells; count = 5 * 16 ^ 5 })
+stage_cells_passed : first_passed (horizon_limits (four_agents 5 (4 ∷ 4 ∷ 4 ∷ 4 ∷ [])) 6)
+    ≡ Some (record { what = limits.StageCells; count = 5 * 16 ^ 5 })
 unfolding joint_actions joint_observations
 stage_cells_passed = refl
 
-game_cells_passed : first_passed (horizon_limits (four_agents 4 (3 ∷ 3 ∷ 2 ∷ 1 ∷ [])) 6) ≡ Some (record { what = limits.GameCells; count = 18 * 16 ^ 5 })
+game_cells_passed : first_passed (horizon_limits (four_agents 4 (3 ∷ 3 ∷ 2 ∷ 1 ∷ [])) 6)
+    ≡ Some (record { what = limits.GameCells; count = 18 * 16 ^ 5 })
 unfolding joint_actions joint_observations
 game_cells_passed = refl

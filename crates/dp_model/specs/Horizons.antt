@@ -7,7 +7,7 @@ use Rattle.dp_model.specs.declared.limit.Limit.TheVariants as limits
 use Rattle.dp_model.specs.declared.limit.TooLarge.{TooLarge}
 use Rattle.dp_model.specs.Limits.{at_most}
 
--- the limits of a horizon in order; the joint histories of the last stage have one observation fewer than there are steps
+-- the limits of a horizon, in order
 abbrev pub horizon_limits : Model → ℕ → List (Option TooLarge)
 horizon_limits m h =
     at_most limits.Horizon h 16

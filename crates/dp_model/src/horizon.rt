@@ -140,10 +140,8 @@ fn exact_unit(model: &Model, horizon: u32) -> Option<u128>
     let scales = model.scales();
     let weights = weight_scale(model, horizon)?;
     let steps = product_within(weights, u128::from(horizon))?;
-    product_within(
-        steps,
-        u128::from(model.greatest_reward().max(scales.reward)),
-    )?;
+    let reward = model.greatest_reward().max(scales.reward);
+    product_within(steps, u128::from(reward))?;
     Some(weights * u128::from(scales.reward))
 }
 

@@ -1,4 +1,4 @@
-use Rattle.std.proofs.Common.{◌≡◌, ◌+◌, ◌*◌, ◌^◌, ◌≤◌, add-one, ap, ◌∙◌, arith}
+use Rattle.std.proofs.Common.{◌≡◌, ◌+◌, ◌^◌, add-one, ap, ◌∙◌, arith}
 use Rattle.dp_model.proofs.HorizonLemmas.{power_small}
 use Rattle.dp_model.proofs.horizon.histories_of.Goals as goal
 

@@ -1,4 +1,4 @@
-use Rattle.std.proofs.Common.{◌≡◌, ◌-◌, ◌^◌, ap, ◌∙◌, arith}
+use Rattle.std.proofs.Common.{◌≡◌, ◌∙◌, arith}
 use Rattle.dp_spec.specs.Model.{joint_observations}
 use Rattle.dp_model.proofs.HorizonLemmas.{joint_histories_few}
 use Rattle.dp_model.proofs.horizon.joint_histories.Goals as goal
