@@ -1,29 +1,14 @@
 -- The limits that a text is within.
-use Rattle.std.proofs.Common.{◌≡◌, ℕ, zero, suc, ◌*◌, ◌≤◌, Bool, true, false, List, [], ◌∷◌, get_or, map, refl, arith, cond, ◌^◌}
-use Rattle.std.specs.Prelude.{nat_lt, Option, Some, None}
+use Rattle.std.proofs.Common.{◌≡◌, ℕ, ◌*◌, ◌≤◌, Bool, true, false, List, [], ◌∷◌, get_or, map, refl, arith, cond, ◌^◌}
+use Rattle.std.specs.Prelude.{nat_lt, None}
 use Rattle.std.proofs.lemmas.Bool.Decides.{nat_tests}
-use Rattle.dp_model.specs.declared.limit.Limit.{Limit}
-use Rattle.dp_model.specs.declared.limit.TooLarge.{TooLarge}
 use Rattle.dp_spec.specs.JointNumbers.{product}
 use Rattle.dp_meaning.specs.declared.text.Text.{Text}
 use Rattle.dp_meaning.specs.NameLists.{size_of}
 use Rattle.dp_meaning.specs.Text.{states_in, joint_actions_in, joint_observations_in}
 use Rattle.dp_meaning.specs.Scales.{scales_of}
-use Rattle.dp_meaning.specs.Limits.{at_most, first_passed, product_past, tried_limits, passed_limit}
-
-none_at : (xs : List (Option TooLarge)) → first_passed xs ≡ None → (k : ℕ) → get_or xs k None ≡ None
-none_at [] e k = refl
-none_at (Some passed ∷ xs) e k = cc
-none_at (None ∷ xs) e zero = refl
-none_at (None ∷ xs) e (suc k) = none_at xs e k
-
-not_passed : (what : Limit) (count most : ℕ) → at_most what count most ≡ None → count ≤ most
-not_passed what count most e = by (nat_lt most count) refl e
-  where
-    by : (b : Bool) → nat_lt most count ≡ b → cond {A = Option TooLarge} b (Some (record { what = what; count = count })) None ≡ None
-        → count ≤ most
-    by true t f = cc
-    by false t f = grind (arith, nat_tests)
+use Rattle.dp_meaning.specs.Limits.{product_past, tried_limits, passed_limit}
+use Rattle.dp_model.proofs.LimitLemmas.{none_at, not_passed}
 
 -- a product of which no part from the left passes is the product
 product_step : (most acc n p rest : ℕ) (b : Bool) → nat_lt most acc ≡ b → cond b acc rest ≤ most → (rest ≤ most → rest ≡ acc * n * p)

@@ -1,23 +1,14 @@
 -- The limits that a model file may pass, in the order in which they are tried.
-use Rattle.std.specs.Prelude.{ℕ, ◌*◌, ◌^◌, nat_lt, if◌then◌else◌, List, [], ◌∷◌, length, map, Option, Some, None}
-use Rattle.dp_model.specs.declared.limit.Limit.{Limit}
+use Rattle.std.specs.Prelude.{ℕ, ◌*◌, ◌^◌, nat_lt, if◌then◌else◌, List, [], ◌∷◌, length, map, Option}
 use Rattle.dp_model.specs.declared.limit.Limit.TheVariants as limits
 use Rattle.dp_model.specs.declared.limit.TooLarge.{TooLarge}
+use Rattle.dp_model.specs.Limits.{at_most, first_passed}
 use Rattle.dp_meaning.specs.declared.statement.Table.TheVariants.{Reward}
 use Rattle.dp_meaning.specs.declared.text.Text.{Text}
 use Rattle.dp_meaning.specs.NameLists.{size_of}
 use Rattle.dp_meaning.specs.Cells.{statements_for}
 use Rattle.dp_meaning.specs.Text.{states_in, joint_actions_in, joint_observations_in}
 use Rattle.dp_meaning.specs.Scales.{scales_of}
-
--- the limit is passed where the count is more than the greatest allowed
-abbrev pub at_most : Limit → ℕ → ℕ → Option TooLarge
-at_most what count most = if nat_lt most count then Some (record { what = what; count = count }) else None
-
-abbrev pub first_passed : List (Option TooLarge) → Option TooLarge
-first_passed [] = None
-first_passed (Some passed ∷ others) = Some passed
-first_passed (None ∷ others) = first_passed others
 
 -- the first product of the sizes of agents 0, 1 and so on that is more than `most`, or the product of all
 abbrev pub product_past : ℕ → ℕ → List ℕ → ℕ

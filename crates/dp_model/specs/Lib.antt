@@ -1,4 +1,5 @@
 pub mod Limits
+pub mod Horizons
 pub mod Names
 pub mod Parts
 pub mod Tables

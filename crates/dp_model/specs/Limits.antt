@@ -1,7 +1,8 @@
--- The limits, as printed lines name them.
-use Rattle.std.specs.Prelude.{ℕ, List, codes}
+-- The limits, as printed lines name them, and when one is passed.
+use Rattle.std.specs.Prelude.{ℕ, nat_lt, if◌then◌else◌, List, [], ◌∷◌, Option, Some, None, codes}
 use Rattle.dp_model.specs.declared.limit.Limit.{Limit}
 use Rattle.dp_model.specs.declared.limit.Limit.TheVariants as limits
+use Rattle.dp_model.specs.declared.limit.TooLarge.{TooLarge}
 
 -- the word of a limit in a printed line
 abbrev pub limit_word : Limit → List ℕ
@@ -24,3 +25,13 @@ limit_word limits.Depth = codes "depth"
 limit_word limits.ModelBytes = codes "model-bytes"
 limit_word limits.FileBytes = codes "file-bytes"
 limit_word limits.TextBytes = codes "text-bytes"
+
+-- a limit is passed where the count is more than the greatest allowed
+abbrev pub at_most : Limit → ℕ → ℕ → Option TooLarge
+at_most what count most = if nat_lt most count then Some (record { what = what; count = count }) else None
+
+-- the first of the limits, in their order, that is passed
+abbrev pub first_passed : List (Option TooLarge) → Option TooLarge
+first_passed [] = None
+first_passed (Some passed ∷ others) = Some passed
+first_passed (None ∷ others) = first_passed others

@@ -1,5 +1,6 @@
 -- A model with its names, as contracts see it.
 use Rattle.std.specs.Prelude.{ℕ, ◌<◌, ◌≡◌, List, length, slice_index}
+use Rattle.dp_spec.specs.Mode.{greatest_magnitude}
 use Rattle.dp_spec.specs.Model.{IsModel, Model}
 use Rattle.dp_spec.specs.declared.scales.Scales.{Scales}
 use Rattle.dp_model.specs.declared.sizes.Sizes.{Sizes}
@@ -40,3 +41,8 @@ pub record AreNamesOf (m : Model) (names : NameLists) : Type 0 where
 pub record IsNamedModel (m : NamedModel) : Type 0 where
   pub model : IsModel m.model
   pub names : AreNamesOf m.model m.names
+
+-- the same, with the greatest magnitude of a reward kept beside the model
+pub record IsStoredModel (m : NamedModel) (greatest : ℕ) : Type 0 where
+  pub named : IsNamedModel m
+  pub greatest_reward : greatest ≡ greatest_magnitude m.model.reward

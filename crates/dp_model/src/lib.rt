@@ -1,6 +1,7 @@
 //! Models: their tables, their names, and the limits on them.
 #![tactic(auto)]
 
+mod horizon;
 mod items;
 mod limit;
 mod model;
@@ -9,6 +10,7 @@ mod names;
 mod numbering;
 mod sizes;
 
+pub use horizon::{Fit, fits};
 pub use items::Items;
 pub use limit::{Limit, TooLarge};
 pub use model::Model;

@@ -1,6 +1,7 @@
 //! A model.
 ghost use Rattle.std.specs.Prelude.{◌≡◌, ◌<◌, ◌≤◌, length, slice_index};
 ghost use Rattle.dp_spec.specs.JointNumbers.{joint_number};
+ghost use Rattle.dp_spec.specs.Mode.{greatest_magnitude};
 ghost use Rattle.dp_spec.specs.Model.{IsModel, joint_actions, joint_observations, obs_at, reward_at, start_at, trans_at};
 ghost use Rattle.dp_model.specs.Parts.{AreParts, part_of};
 ghost use Rattle.dp_model.specs.Tables.{AreNamesOf, model_of};
@@ -21,17 +22,19 @@ pub struct Model {
     observations: Numbering,
     scales: Scales,
     cells: Cells,
+    // The greatest magnitude of a reward.
+    greatest_reward: u64,
     names: Names,
 }
 
 impl std::marker::Model for Model {
-    ghost use Rattle.dp_model.specs.Tables.{IsNamedModel, NamedModel, model_of};
+    ghost use Rattle.dp_model.specs.Tables.{IsStoredModel, NamedModel, model_of};
 
     ghost Value = { NamedModel };
 
     ghost view = { λ m. record { model = model_of (record { states = m.states; actions = m.actions; observations = m.observations }) m.scales m.cells; names = m.names } };
 
-    ghost invariant = { λ m. IsNamedModel (record { model = model_of (record { states = m.states; actions = m.actions; observations = m.observations }) m.scales m.cells; names = m.names }) };
+    ghost invariant = { λ m. IsStoredModel (record { model = model_of (record { states = m.states; actions = m.actions; observations = m.observations }) m.scales m.cells; names = m.names }) m.greatest_reward };
 }
 
 impl Model {
@@ -42,12 +45,14 @@ impl Model {
         requires names { AreNamesOf (model_of sizes scales cells) names }
         ensures { result ≡ record { model = model_of sizes scales cells; names = names } }
     {
+        let greatest_reward = greatest_magnitude(cells.reward.as_slice());
         Model {
             states: sizes.states,
             actions: Numbering::new(sizes.actions),
             observations: Numbering::new(sizes.observations),
             scales,
             cells,
+            greatest_reward,
             names,
         }
     }
@@ -168,6 +173,14 @@ impl Model {
         self.cells.reward.as_slice()[row * self.observations.count() as usize + o as usize]
     }
 
+    /// The greatest magnitude of a reward, over the scale `reward`.
+    #[inline]
+    pub(crate) fn greatest_reward(&self) -> u64
+        ensures { result ≡ greatest_magnitude self.now.model.reward }
+    {
+        self.greatest_reward
+    }
+
     /// The scales of the tables, and the discount.
     #[inline]
     pub fn scales(&self) -> Scales
@@ -224,4 +237,15 @@ impl Model {
     {
         self.observations.number_of(parts)
     }
+}
+
+// The greatest magnitude of a list of numbers.
+fn greatest_magnitude(numbers: &[i64]) -> u64
+    ensures { result ≡ greatest_magnitude numbers.now }
+{
+    let mut greatest = 0;
+    for number in numbers {
+        greatest = number.unsigned_abs().max(greatest);
+    }
+    greatest
 }

@@ -24,6 +24,29 @@ fn cells_and_joint_numbers_of_two_agents(rt: HostRuntime) -> Result<(), Fail> {
     Ok(())
 }
 
+// Agent 0 sees one thing and agent 1 two: shorter than `h` they have `h` and `2^h - 1` own histories.
+#[test]
+fn horizons_of_two_agents(rt: HostRuntime) -> Result<(), Fail> {
+    let model = two_agents(rt.alloc())?;
+    let longest = Fit {
+        horizon: 10,
+        exact: true,
+        unit: 1024,
+    };
+    let own_histories = TooLarge {
+        what: Limit::OwnHistories,
+        count: 2058,
+    };
+    let horizon = TooLarge {
+        what: Limit::Horizon,
+        count: 17,
+    };
+    assert_eq!(rt; fits(&model, 10), Ok(longest));
+    assert_eq!(rt; fits(&model, 11), Err(own_histories));
+    assert_eq!(rt; fits(&model, 17), Err(horizon));
+    Ok(())
+}
+
 // One state, 2 and 3 actions, 1 and 2 observations, and the rewards 0 to 11.
 fn two_agents(alloc: Global) -> Result<Model, Memory>
     ensures states { IfOk result (λ m. m.model.states ≡ 1) }

@@ -9,7 +9,7 @@ bounds-as_slice-row c =
     let now = c.self.view_is in
     let m : Model = c.args.self.now.model in
     let below : (c.args.a * m.states + c.args.t) * joint_observations m + c.args.o < length m.obs =
-    obs_place m (subst (λ n. IsModel n.model) now c.self.invariant.model) c.args.a c.args.t c.args.o c.requires.action c.requires.next c.requires.observation in
+    obs_place m (subst (λ n. IsModel n.model) now c.self.invariant.named.model) c.args.a c.args.t c.args.o c.requires.action c.requires.next c.requires.observation in
     let here = subst (λ n. (c.args.a * n.model.states + c.args.t) * joint_observations n.model + c.args.o < length n.model.obs) (sym now) below in
     rw (c.count.ensures.is, c.as_slice.ensures) here
 

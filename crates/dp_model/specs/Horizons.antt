@@ -1,0 +1,21 @@
+-- The limits of a horizon, and what a run needs of a horizon that keeps them.
+use Rattle.std.specs.Prelude.{ℕ, ◌*◌, ◌-◌, ◌^◌, pos, List, [], ◌∷◌, Option}
+use Rattle.dp_spec.specs.Mode.{is_exact_mode, own_history_count, unit_of}
+use Rattle.dp_spec.specs.Model.{Model, joint_actions, joint_observations}
+use Rattle.dp_model.specs.declared.horizon.Fit.{Fit}
+use Rattle.dp_model.specs.declared.limit.Limit.TheVariants as limits
+use Rattle.dp_model.specs.declared.limit.TooLarge.{TooLarge}
+use Rattle.dp_model.specs.Limits.{at_most}
+
+-- the limits of a horizon, in order
+abbrev pub horizon_limits : Model → ℕ → List (Option TooLarge)
+horizon_limits m h =
+    at_most limits.Horizon h 16
+    ∷ at_most limits.OwnHistories (own_history_count m.observations h) 2048
+    ∷ at_most limits.StageCells (m.states * joint_observations m ^ (h - 1)) (2 ^ 22)
+    ∷ at_most limits.GameCells (joint_actions m * joint_observations m ^ (h - 1)) (2 ^ 24)
+    ∷ []
+
+-- the horizon with its mode and its unit
+abbrev pub fit_of : Model → ℕ → Fit
+fit_of m h = record { horizon = h; exact = is_exact_mode m h; unit = pos (unit_of m h) }
