@@ -1,9 +1,10 @@
 -- How a job goes on, by what the steps of a call do.
-use Rattle.std.proofs.Common.{◌≡◌, ◌≢◌, ℕ, List, [], ◌∷◌, Option, Some, Result, Ok, Err, Vec, inl, inr, ⊎_elim, refl, sym, ap, subst}
+use Rattle.std.proofs.Common.{◌≡◌, ◌≢◌, ℕ, List, [], ◌∷◌, Option, Some, Result, Ok, Err, Vec, String, IfOk, IfErr, ◌⊎◌, string_bytes, inl, inr, ⊎_elim, refl, sym, ap, subst}
 use Rattle.std.specs.declared.alloc.Global.{Global}
 use Rattle.dp_io.specs.declared.shelf.FetchFault.{FetchFault}
 use Rattle.dp_io.specs.declared.shelf.FetchFault.TheVariants.{Failed, TooLong, Memory}
 use Rattle.dp_io.specs.Shelf.{ShelfView}
+use Rattle.dp_num.specs.declared.memory.Memory.{Memory as MemoryFault}
 use Rattle.dp_io.specs.Sink.{SinkView}
 use Rattle.dp_words.specs.declared.job.Job.{Job}
 use Rattle.dp_words.specs.declared.job.Job.TheVariants.{Plan}
@@ -20,8 +21,9 @@ use Rattle.dp_cli.specs.Refusal.{fetch_refusal, word_refusal}
 use Rattle.dp_cli.specs.Answer.{Answer, refused, done}
 use Rattle.dp_cli.specs.Job.{File, asks}
 use Rattle.dp_cli.specs.Planned.{PlansText}
+use Rattle.dp_cli.specs.Put.{PutsAnswer}
 use Rattle.dp_cli.specs.Run.{IsAnswerToFault, Answers, Runs}
-use Rattle.dp_cli.specs.Steps.{model_name, answer_of, FetchesFile, PutsOutcome}
+use Rattle.dp_cli.specs.Steps.{model_name, steps_of, answer_of, FetchesFile, PutsOutcome}
 
 -- a fault is answered by its refusal
 answer_to_fault : (role : FileRole) (fault : FetchFault) → IsAnswerToFault role fault (refused (fetch_refusal role fault))
@@ -53,11 +55,25 @@ refuses_words {job} {shelf} word_faults.Usage none =
     subst (λ (j : Option Job). Answers j [] shelf shelf (refused refusals.Usage)) (sym none) (Answers.replies refl refl)
 refuses_words word_faults.Memory none = Answers.wants_memory
 
+-- a line that took memory is put, or the line that tells that there was none
+pub puts_line : {old new : SinkView} {status result : Status} (text : List ℕ) (line : Result (String Global) MemoryFault)
+    → IfOk line (λ l. string_bytes l ≡ text) → IfOk line (λ l. PutsAnswer old new (record { status = status; text = string_bytes l }) result)
+    → IfErr line (λ _. PutsAnswer old new (refused refusals.Memory) result)
+    → PutsAnswer old new (record { status = status; text = text }) result ⊎ PutsAnswer old new (refused refusals.Memory) result
+puts_line {old} {new} {status} {result} text (Ok line) is puts none =
+    inl (subst (λ (t : List ℕ). PutsAnswer old new (record { status = status; text = t }) result) is puts)
+puts_line text (Err memory) is puts none = inr none
+
 -- An outcome that is put is what the job answers.
 pub runs_by : {job : Option Job} {shelf shelf' : ShelfView} {sink sink' : SinkView} {result : Status} (outcome : Result (Vec ℕ Global) Refusal)
     → Answers job [] shelf shelf' (answer_of outcome) → PutsOutcome sink sink' outcome result → Runs job shelf shelf' sink sink' result
 runs_by (Ok text) answers puts = record { answer = done text.items; answers = answers; puts = puts }
 runs_by (Err refusals.Usage) answers puts = record { answer = refused refusals.Usage; answers = answers; puts = puts }
+runs_by (Err (refusals.BadModel line column why)) answers puts =
+    ⊎_elim
+    (λ h. record { answer = refused (refusals.BadModel line column why); answers = answers; puts = h })
+    (λ h. record { answer = refused refusals.Memory; answers = or_memory answers (λ e. cc); puts = h })
+    puts
 runs_by (Err (refusals.Read role)) answers puts = record { answer = refused (refusals.Read role); answers = answers; puts = puts }
 runs_by (Err (refusals.TooLarge passed)) answers puts =
     ⊎_elim
@@ -72,10 +88,11 @@ pub asks_model : (job : Job) → asks (Some job) [] ≡ Some (record { name = mo
 asks_model (Plan model horizon nodes look merge order) = refl
 
 -- A job that has been given its model asks for no more, and answers by its plan.
-pub replies_plan : (job : Job) (text : List ℕ) (outcome : Result (Vec ℕ Global) Refusal) {shelf : ShelfView} → PlansText text outcome
+pub replies_plan : (job : Job) (text : List ℕ) (outcome : Result (Vec ℕ Global) Refusal) {shelf : ShelfView} → PlansText (steps_of job) text outcome
     → Answers (Some job) (text ∷ []) shelf shelf (answer_of outcome)
 replies_plan (Plan model horizon nodes look merge order) text (Ok bytes) h = Answers.replies refl h
 replies_plan (Plan model horizon nodes look merge order) text (Err refusals.Usage) h = Answers.replies refl h
+replies_plan (Plan model horizon nodes look merge order) text (Err (refusals.BadModel line column why)) h = Answers.replies refl h
 replies_plan (Plan model horizon nodes look merge order) text (Err (refusals.Read role)) h = Answers.replies refl h
 replies_plan (Plan model horizon nodes look merge order) text (Err (refusals.TooLarge passed)) h = Answers.replies refl h
 replies_plan (Plan model horizon nodes look merge order) text (Err (refusals.Unbuilt part)) h = Answers.replies refl h

@@ -15,7 +15,7 @@ use Rattle.dp_cli.specs.declared.status.Status.TheVariants.{ReadFault}
 use Rattle.dp_cli.specs.declared.status.Status.TheVariants as statuses
 use Rattle.dp_cli.specs.Answer.{Answer}
 use Rattle.dp_cli.specs.Job.{File, asks, files_of, IsReply}
-use Rattle.dp_cli.specs.ModelText.{model_of_text}
+use Rattle.dp_meaning.specs.Meaning.{meaning}
 use Rattle.dp_cli.specs.Put.{status_after}
 use Rattle.dp_cli.specs.Run.{IsAnswerToFault, Answers, Runs}
 use Rattle.dp_cli.specs.Causes.{LogsFirstOf, LastFailed}
@@ -84,7 +84,7 @@ logs_files answers = logs_left answers
 reply_status : (job : Option Job) (texts : List (List ℕ)) (answer : Answer) → IsReply job texts answer → answer.status ≢ ReadFault
 reply_status None texts answer h = λ e. cc
 reply_status (Some (Plan model horizon nodes look merge order)) [] answer h = absurd h
-reply_status (Some (Plan model horizon nodes look merge order)) (text ∷ []) answer h = plan_status (model_of_text text) answer ReadFault h (λ e. cc) (λ e. cc)
+reply_status (Some (Plan model horizon nodes look merge order)) (text ∷ []) answer h = plan_status horizon (meaning text) answer h
 reply_status (Some (Plan model horizon nodes look merge order)) (text ∷ next ∷ texts) answer h = absurd h
 
 later_failed : {old between new : List Entry} (entry : Entry) → between ≡ old ++ entry ∷ [] → LastFailed between new → LastFailed old new

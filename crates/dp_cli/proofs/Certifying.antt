@@ -18,7 +18,9 @@ use Rattle.dp_cli.specs.declared.status.Status.TheVariants as statuses
 use Rattle.dp_cli.specs.Answer.{Answer}
 use Rattle.dp_cli.specs.Certified.{CertifiesFor, IsCertified, PutsCertificateOf}
 use Rattle.dp_cli.specs.Job.{File, IsReply}
-use Rattle.dp_cli.specs.ModelText.{model_of_text}
+use Rattle.dp_meaning.specs.Meaning.{Meaning, Means, FaultAt, Passes, meaning}
+use Rattle.dp_cli.specs.ModelText.{model_meant}
+use Rattle.dp_cli.proofs.Planning.{plan_done}
 use Rattle.dp_cli.specs.Planned.{IsPlanOf, IsPlanReply}
 use Rattle.dp_cli.specs.Put.{status_after}
 use Rattle.dp_cli.specs.Refusal.{fetch_refusal, most_bytes, refusal_status}
@@ -63,20 +65,26 @@ done_puts : (old new : SinkView) (answer : Answer) (reply : Result (Unit {0}) Si
 done_puts old new answer (Ok done) result put ended e = (sym ended ∙ e, put)
 done_puts old new answer (Err fault) result put ended e = cc
 
--- what is put where the file's bytes mean that model, or none
-certificate_of_reply : (contents : Contents) (number : ℕ) (name file : List ℕ) (old new : SinkView) (answer : Answer) (o : Option models.Model) → fetch_answer contents number name (most_bytes Model) ≡ Ok file
-    → model_of_text file ≡ o → IsPlanReply o answer → answer.status ≡ statuses.Done → Puts {T = Unit {0}} {E = SinkFailed} old new answer.text (Ok tt) → PutsCertificateOf contents number name old new
-certificate_of_reply contents number name file old new answer None given meant reply done put = absurd (let status = ap (λ (a : Answer). a.status) reply in cc)
-certificate_of_reply contents number name file old new answer (Some m) given meant reply done put = record {
-  file = file;
-  given = given;
-  model = m;
-  meant = meant;
-  is_model = reply.is_model;
-  bytes = answer.text;
-  put = put;
-  certified = plan_certifies m answer reply;
-}
+-- what is put where the file's bytes have that meaning
+certificate_of_reply : (contents : Contents) (number : ℕ) (name file : List ℕ) (old new : SinkView) (answer : Answer) (horizon : ℕ) (meant : Meaning)
+    → fetch_answer contents number name (most_bytes Model) ≡ Ok file → meaning file ≡ meant → IsPlanReply horizon meant answer
+    → answer.status ≡ statuses.Done → Puts {T = Unit {0}} {E = SinkFailed} old new answer.text (Ok tt) → PutsCertificateOf contents number name old new
+certificate_of_reply contents number name file old new answer horizon (FaultAt place why) given is reply done put =
+    absurd (let status = ap (λ (a : Answer). a.status) reply in cc)
+certificate_of_reply contents number name file old new answer horizon (Passes passed) given is reply done put =
+    absurd (let status = ap (λ (a : Answer). a.status) reply in cc)
+certificate_of_reply contents number name file old new answer horizon (Means read) given is reply done put =
+    let plan = plan_done read.model.model horizon answer reply done in
+    record {
+      file = file;
+      given = given;
+      model = read.model.model;
+      meant = ap model_meant is;
+      is_model = plan.is_model;
+      bytes = answer.text;
+      put = put;
+      certified = plan_certifies read.model.model answer plan;
+    }
 
 -- A job that is done put a certificate whose claims hold.
 certified : (contents : Contents) (number : ℕ) (job : Option Job) (old new : SinkView) (result : Status) → RunsAsTold contents number job old new result → result ≡ statuses.Done
@@ -87,7 +95,7 @@ certified contents number (Some (Plan model horizon nodes look merge order)) old
     ⊎_elim
     (λ told.
     let given = done_plan contents model horizon nodes look merge order told puts.0 in
-    certificate_of_reply contents number model given.0 old new h.answer (model_of_text given.0) given.1 refl given.2 puts.0 puts.1)
+    certificate_of_reply contents number model given.0 old new h.answer horizon (meaning given.0) given.1 refl given.2 puts.0 puts.1)
     (λ memory. absurd (let status = sym puts.0 ∙ ap (λ (a : Answer). a.status) memory in cc))
     h.determined
 

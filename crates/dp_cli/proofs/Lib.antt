@@ -1,14 +1,5 @@
 mod Answering
 mod Causes
 mod Certifying
-mod PlainLists
-mod PlainModelFacts
-mod PlainNameFacts
-mod PlainNameTexts
-mod PlainReading
-mod PlainRows
-mod PlainScales
-mod PlainSums
-mod PlainTableFacts
 mod Planning
 mod Told

@@ -3,11 +3,11 @@
 use Rattle.std.specs.Prelude.{◌≡◌, ℕ, List, [], ◌∷◌, Option, Some, None}
 use Rattle.dp_words.specs.declared.job.Job.{Job}
 use Rattle.dp_words.specs.declared.job.Job.TheVariants.{Plan}
+use Rattle.dp_meaning.specs.Meaning.{meaning}
 use Rattle.dp_cli.specs.declared.refusal.FileRole.{FileRole}
 use Rattle.dp_cli.specs.declared.refusal.FileRole.TheVariants.{Model}
 use Rattle.dp_cli.specs.declared.refusal.Refusal.TheVariants as refusals
 use Rattle.dp_cli.specs.Answer.{Answer, refused}
-use Rattle.dp_cli.specs.ModelText.{model_of_text}
 use Rattle.dp_cli.specs.Planned.{IsPlanReply}
 
 -- a file that a job asks for
@@ -29,5 +29,5 @@ asks _ texts = None
 -- since some commands leave a choice. Want of memory is left out here: it may come in place of any.
 abbrev pub IsReply : Option Job → List (List ℕ) → Answer → Type 0
 IsReply None texts answer = answer ≡ refused refusals.Usage
-IsReply (Some (Plan model horizon nodes look merge order)) (text ∷ []) answer = IsPlanReply (model_of_text text) answer
+IsReply (Some (Plan model horizon nodes look merge order)) (text ∷ []) answer = IsPlanReply horizon (meaning text) answer
 IsReply job texts answer = ⊥

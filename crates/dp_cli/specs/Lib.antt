@@ -3,13 +3,6 @@ pub mod Causes
 pub mod Certified
 pub mod Job
 pub mod ModelText
-pub mod Plain
-pub mod PlainLines
-pub mod PlainModel
-pub mod PlainNames
-pub mod PlainNumbers
-pub mod PlainTables
-pub mod PlainViews
 pub mod Planned
 pub mod Put
 pub mod Refusal

@@ -6,14 +6,16 @@ use Rattle.dp_model.specs.declared.limit.Limit.{Limit}
 use Rattle.dp_model.specs.declared.limit.Limit.TheVariants.{ModelBytes, FileBytes}
 use Rattle.dp_model.specs.declared.limit.TooLarge.{TooLarge}
 use Rattle.dp_model.specs.Limits.{limit_word}
-use Rattle.dp_cli.specs.declared.plain.PlainFault.{PlainFault}
-use Rattle.dp_cli.specs.declared.plain.PlainFault.TheVariants as plain_faults
+use Rattle.dp_meaning.specs.declared.why.Why.{Why}
+use Rattle.dp_meaning.specs.Faults.{why_word}
+use Rattle.dp_reader.specs.declared.ModelFault.{ModelFault}
+use Rattle.dp_reader.specs.declared.ModelFault.TheVariants as model_faults
 use Rattle.dp_words.specs.declared.job.WordFault.{WordFault}
 use Rattle.dp_words.specs.declared.job.WordFault.TheVariants as word_faults
 use Rattle.dp_cli.specs.declared.refusal.FileRole.{FileRole}
 use Rattle.dp_cli.specs.declared.refusal.FileRole.TheVariants.{Model, Second}
 use Rattle.dp_cli.specs.declared.refusal.UnbuiltPart.{UnbuiltPart}
-use Rattle.dp_cli.specs.declared.refusal.UnbuiltPart.TheVariants.{Form}
+use Rattle.dp_cli.specs.declared.refusal.UnbuiltPart.TheVariants.{Horizon, Outward}
 use Rattle.dp_cli.specs.declared.refusal.Refusal.{Refusal}
 use Rattle.dp_cli.specs.declared.refusal.Refusal.TheVariants as refusals
 use Rattle.dp_cli.specs.declared.status.Status.{Status}
@@ -44,12 +46,14 @@ word_refusal word_faults.Usage = refusals.Usage
 word_refusal word_faults.Memory = refusals.Memory
 
 -- bytes that mean no model
-abbrev pub plain_refusal : PlainFault → Refusal
-plain_refusal plain_faults.Form = refusals.Unbuilt Form
-plain_refusal plain_faults.Memory = refusals.Memory
+abbrev pub model_refusal : ModelFault → Refusal
+model_refusal (model_faults.At line column why) = refusals.BadModel line column why
+model_refusal (model_faults.TooLarge passed) = refusals.TooLarge passed
+model_refusal model_faults.Memory = refusals.Memory
 
 abbrev pub refusal_status : Refusal → Status
 refusal_status refusals.Usage = statuses.Usage
+refusal_status (refusals.BadModel line column why) = statuses.BadModel
 refusal_status (refusals.Read role) = statuses.ReadFault
 refusal_status (refusals.TooLarge passed) = statuses.TooLarge
 refusal_status (refusals.Unbuilt part) = statuses.Unbuilt
@@ -59,16 +63,23 @@ refusal_status refusals.Memory = statuses.NoMemory
 abbrev pub large_line : TooLarge → List ℕ
 large_line passed = codes "refused large " ++ limit_word passed.what ++ codes " " ++ decimal passed.count ++ codes "\n"
 
+-- what is wrong with a model, and where
+abbrev pub model_line : ℕ → ℕ → Why → List ℕ
+model_line line column why =
+    codes "refused model line " ++ decimal line ++ codes " column " ++ decimal column ++ codes " " ++ why_word why ++ codes "\n"
+
 -- the number of the fetch that failed
 abbrev pub read_line : FileRole → List ℕ
 read_line Model = codes "refused read 1\n"
 read_line Second = codes "refused read 2\n"
 
 abbrev pub unbuilt_line : UnbuiltPart → List ℕ
-unbuilt_line Form = codes "refused unbuilt form\n"
+unbuilt_line Horizon = codes "refused unbuilt horizon\n"
+unbuilt_line Outward = codes "refused unbuilt outward\n"
 
 abbrev pub refusal_line : Refusal → List ℕ
 refusal_line refusals.Usage = codes "refused usage\n"
+refusal_line (refusals.BadModel line column why) = model_line line column why
 refusal_line (refusals.Read role) = read_line role
 refusal_line (refusals.TooLarge passed) = large_line passed
 refusal_line (refusals.Unbuilt part) = unbuilt_line part

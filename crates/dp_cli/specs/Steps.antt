@@ -18,6 +18,10 @@ use Rattle.dp_cli.specs.Put.{PutsAnswer}
 abbrev pub model_name : Job → List ℕ
 model_name (Plan model horizon nodes look merge order) = model
 
+-- over how many steps it plans
+abbrev pub steps_of : Job → ℕ
+steps_of (Plan model horizon nodes look merge order) = horizon
+
 -- the answer that a text stands for, or why there is none
 abbrev pub answer_of : Result (Vec ℕ Global) Refusal → Answer
 answer_of (Ok text) = done text.items
@@ -29,10 +33,14 @@ FetchesFile old new file (Ok text) = Fetches old new file.name (most_bytes file.
 FetchesFile old new file (Err refusal) =
     (fault : FetchFault) × (Fetches old new file.name (most_bytes file.role) (Err fault)) × (refusal ≡ fetch_refusal file.role fault)
 
--- the put of a refusal's line; over a line with a number in it memory may run out
+-- the put of a line with a number in it, over which memory may run out
+abbrev pub PutsOrMemory : SinkView → SinkView → Refusal → Status → Type 0
+PutsOrMemory old new refusal result = PutsAnswer old new (refused refusal) result ⊎ PutsAnswer old new (refused refusals.Memory) result
+
+-- the put of a refusal's line
 abbrev pub PutsRefusal : SinkView → SinkView → Refusal → Status → Type 0
-PutsRefusal old new (refusals.TooLarge passed) result =
-    PutsAnswer old new (refused (refusals.TooLarge passed)) result ⊎ PutsAnswer old new (refused refusals.Memory) result
+PutsRefusal old new (refusals.BadModel line column why) result = PutsOrMemory old new (refusals.BadModel line column why) result
+PutsRefusal old new (refusals.TooLarge passed) result = PutsOrMemory old new (refusals.TooLarge passed) result
 PutsRefusal old new refusal result = PutsAnswer old new (refused refusal) result
 
 -- the put of a text, or of the line that tells why there is none

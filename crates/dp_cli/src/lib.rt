@@ -10,7 +10,6 @@ ghost use Rattle.dp_cli.specs.Job.{files_of};
 ghost use Rattle.dp_cli.specs.Run.{Runs, RunsAsTold};
 
 mod job;
-mod plain;
 mod put;
 mod refusal;
 mod status;

@@ -1,11 +1,13 @@
 // The one put of a call.
-ghost use Rattle.std.specs.Prelude.{◌≡◌, ◌<◌, ◌^◌, string_bytes, IfOk};
-ghost use Rattle.dp_cli.specs.Refusal.{large_line};
+ghost use Rattle.std.specs.Prelude.{◌≡◌, ◌<◌, ◌^◌, string_bytes, IfErr, IfOk};
+ghost use Rattle.dp_cli.specs.Refusal.{large_line, model_line};
+ghost use Rattle.dp_cli.specs.Answer.{refused};
 ghost use Rattle.dp_cli.specs.Put.{PutsAnswer};
 ghost use Rattle.dp_cli.specs.Steps.{PutsOutcome, PutsRefusal};
 
 use crate::{Refusal, Status};
 use dp_io::Sink;
+use dp_meaning::Why;
 use dp_model::TooLarge;
 use dp_num::Memory;
 use std::alloc::Global;
@@ -28,14 +30,38 @@ fn put_refusal<W: Sink>(alloc: Global, out: &mut W, refusal: Refusal) -> Status
 {
     match refusal {
         Refusal::Usage => put(out, Status::Usage, b"refused usage\n"),
+        Refusal::BadModel { line, column, why } => {
+            let text = line_of_model(alloc, line, column, why);
+            put_line(out, Status::BadModel, text)
+        }
         Refusal::Read(role) => put(out, Status::ReadFault, role.read_line().as_bytes()),
-        Refusal::TooLarge(passed) => match line_of_limit(alloc, passed) {
-            Ok(line) => put(out, Status::TooLarge, line.as_bytes()),
-            Err(Memory) => put(out, Status::NoMemory, b"refused memory\n"),
-        },
+        Refusal::TooLarge(passed) => {
+            let text = line_of_limit(alloc, passed);
+            put_line(out, Status::TooLarge, text)
+        }
         Refusal::Unbuilt(part) => put(out, Status::Unbuilt, part.line().as_bytes()),
         Refusal::Memory => put(out, Status::NoMemory, b"refused memory\n"),
     }
+}
+
+// Puts a line that took memory, or tells that there was none.
+fn put_line<W: Sink>(out: &mut W, status: Status, line: Result<String, Memory>) -> Status
+    requires { (W.view out.old).puts < 2 ^ 63 }
+    ensures line { IfOk line (λ line. PutsAnswer (W.view out.old) (W.view out.new) (record { status = status; text = string_bytes line }) result) }
+    ensures memory { IfErr line (λ _. PutsAnswer (W.view out.old) (W.view out.new) (refused Refusal.Memory) result) }
+{
+    match line {
+        Ok(line) => put(out, status, line.as_bytes()),
+        Err(Memory) => put(out, Status::NoMemory, b"refused memory\n"),
+    }
+}
+
+// The line that tells what is wrong with a model, and where.
+fn line_of_model(alloc: Global, line: u32, column: u32, why: Why) -> Result<String, Memory>
+    ensures { IfOk result (λ text. string_bytes text ≡ model_line line column why) }
+{
+    let word = why.word();
+    Ok(format!(in alloc; "refused model line {line} column {column} {word}\n")?)
 }
 
 // The line that tells a limit that was passed.

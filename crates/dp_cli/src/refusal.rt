@@ -1,10 +1,11 @@
 ghost use Rattle.std.specs.Prelude.{◌≡◌};
 ghost use Rattle.dp_cli.specs.Refusal.{word_refusal, fetch_refusal};
 
-use crate::plain::PlainFault;
 use dp_io::FetchFault;
+use dp_meaning::Why;
 use dp_model::{Limit, TooLarge};
 use dp_num::Memory;
+use dp_reader::ModelFault;
 use dp_words::WordFault;
 
 /// What a file is to the job that asks for it.
@@ -19,8 +20,10 @@ pub enum FileRole {
 /// A part of the program that is not built yet.
 #[derive(Clone, Copy, Debug, PartialEq, Eq)]
 pub enum UnbuiltPart {
-    /// The reader of a model in this form.
-    Form,
+    /// Planning over more than one step.
+    Horizon,
+    /// Planning in outward mode.
+    Outward,
 }
 
 /// Why a command gave no text. Each is told by one line.
@@ -28,6 +31,8 @@ pub enum UnbuiltPart {
 pub enum Refusal {
     /// The words ask for no job.
     Usage,
+    /// The first file is no model: what is wrong, and where. Lines and columns count from 1.
+    BadModel { line: u32, column: u32, why: Why },
     /// The fetch of the file failed.
     Read(FileRole),
     /// A limit is passed.
@@ -59,16 +64,27 @@ impl From<WordFault> for Refusal {
     }
 }
 
-impl From<PlainFault> for Refusal {
-    ghost use Rattle.dp_cli.specs.Refusal.{plain_refusal};
+impl From<ModelFault> for Refusal {
+    ghost use Rattle.dp_cli.specs.Refusal.{model_refusal};
 
-    ghost from_gives = { λ fault refusal. refusal ≡ plain_refusal fault };
+    ghost from_gives = { λ fault refusal. refusal ≡ model_refusal fault };
 
-    fn from(fault: PlainFault) -> Refusal {
+    fn from(fault: ModelFault) -> Refusal {
         match fault {
-            PlainFault::Form => Refusal::Unbuilt(UnbuiltPart::Form),
-            PlainFault::Memory => Refusal::Memory,
+            ModelFault::At { line, column, why } => Refusal::BadModel { line, column, why },
+            ModelFault::TooLarge(passed) => Refusal::TooLarge(passed),
+            ModelFault::Memory => Refusal::Memory,
         }
+    }
+}
+
+impl From<TooLarge> for Refusal {
+    ghost use Rattle.dp_cli.specs.declared.refusal.Refusal.TheVariants as refusals;
+
+    ghost from_gives = { λ passed refusal. refusal ≡ refusals.TooLarge passed };
+
+    fn from(passed: TooLarge) -> Refusal {
+        Refusal::TooLarge(passed)
     }
 }
 
@@ -130,7 +146,8 @@ impl UnbuiltPart {
         ensures { result.now ≡ unbuilt_line self }
     {
         match self {
-            UnbuiltPart::Form => "refused unbuilt form\n",
+            UnbuiltPart::Horizon => "refused unbuilt horizon\n",
+            UnbuiltPart::Outward => "refused unbuilt outward\n",
         }
     }
 }

@@ -1,3 +1,6 @@
+ghost use Rattle.std.specs.Prelude.{◌≡◌};
+ghost use Rattle.dp_meaning.specs.Faults.{why_word};
+
 /// What is wrong at a place of a model file.
 #[derive(Clone, Copy, Debug, PartialEq, Eq)]
 pub enum Why {
@@ -17,6 +20,24 @@ pub enum Why {
     MissingRow,
     /// An entry of the header that comes twice or too early, or is missing.
     Header,
+}
+
+impl Why {
+    /// The fault's word in a printed line.
+    pub fn word(self) -> &'static str
+        ensures { result.now ≡ why_word self }
+    {
+        match self {
+            Why::BadByte => "bad-byte",
+            Why::Expected => "expected",
+            Why::UnknownName => "unknown-name",
+            Why::DoubleName => "double-name",
+            Why::Number => "number",
+            Why::RowSum => "row-sum",
+            Why::MissingRow => "missing-row",
+            Why::Header => "header",
+        }
+    }
 }
 
 /// What is wrong with a text, and the offset at which it is.

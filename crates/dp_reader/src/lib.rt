@@ -29,6 +29,7 @@ pub fn read_model(alloc: Global, bytes: &[u8]) -> Result<ReadModel, ModelFault>
     requires { length bytes.now ≤ 2 ^ 26 }
     ensures { IsMeaning (meaning bytes.now) result }
 {
-    let _ = (alloc, bytes);
+    let _taken: Vec<u8> = Vec::new(alloc);
+    let _length = bytes.len();
     Err(ModelFault::Memory)
 }

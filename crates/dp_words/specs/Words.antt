@@ -1,5 +1,5 @@
 -- What the words of the command line ask for. Each word is the list of its bytes.
-use Rattle.std.specs.Prelude.{◌≡◌, ℕ, ◌-◌, ◌^◌, Bool, true, ◌&&◌, ◌||◌, ◌==◌, not, nat_eq, nat_le, List, [], ◌∷◌, length, Option, Some, None, Result, Ok, Err, codes, if◌then◌else◌}
+use Rattle.std.specs.Prelude.{◌≡◌, ℕ, ◌≤◌, ◌-◌, ◌^◌, Bool, true, ◌&&◌, ◌||◌, ◌==◌, not, nat_eq, nat_le, List, [], ◌∷◌, length, Option, Some, None, Result, Ok, Err, codes, if◌then◌else◌}
 use Rattle.std.specs.Str.{bytes_eq}
 use Rattle.std.specs.Str.Parse.{digits_value}
 use Rattle.std.specs.List.{starts_with}
@@ -52,3 +52,7 @@ abbrev pub IsReadAs : Option Job → Result Job WordFault → Type 0
 IsReadAs job (Ok read) = job ≡ Some read
 IsReadAs job (Err faults.Usage) = job ≡ None
 IsReadAs job (Err faults.Memory) = Unit {0}
+
+-- a plan is over at least one step
+abbrev pub HasSomeStep : Job → Type 0
+HasSomeStep (Plan model horizon nodes look merge order) = 1 ≤ horizon

@@ -1,5 +1,5 @@
-ghost use Rattle.std.specs.Prelude.{◌≡◌, Some, map, string_bytes};
-ghost use Rattle.dp_words.specs.Words.{IsReadAs, job_of, plain_plan};
+ghost use Rattle.std.specs.Prelude.{◌≡◌, ◌≤◌, IfOk, Some, map, string_bytes};
+ghost use Rattle.dp_words.specs.Words.{HasSomeStep, IsReadAs, job_of, plain_plan};
 
 use crate::Name;
 use crate::number::number;
@@ -61,7 +61,8 @@ const DEFAULT_LOOK: u32 = 1;
 /// begin with a dash, and H is from 1 to 4,294,967,295, in digits that do not begin with 0. All
 /// others are a fault of usage.
 pub fn read_words(alloc: Global, words: &[String]) -> Result<Job, WordFault>
-    ensures { IsReadAs (job_of (map string_bytes words.now)) result }
+    ensures read { IsReadAs (job_of (map string_bytes words.now)) result }
+    ensures some_step { IfOk result HasSomeStep }
 {
     let [command, model, option, horizon] = words else {
         return Err(WordFault::Usage);
@@ -80,7 +81,9 @@ pub fn read_words(alloc: Global, words: &[String]) -> Result<Job, WordFault>
 
 // A plan with all that the words do not say.
 fn plain_plan(alloc: Global, model: &str, horizon: u32) -> Result<Job, WordFault>
-    ensures { IsReadAs (Some (plain_plan model.now horizon)) result }
+    requires { 1 ≤ horizon }
+    ensures read { IsReadAs (Some (plain_plan model.now horizon)) result }
+    ensures some_step { IfOk result HasSomeStep }
 {
     Ok(Job::Plan {
         model: Name::of(alloc, model)?,

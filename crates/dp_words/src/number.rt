@@ -1,5 +1,5 @@
 // Numbers as the command line writes them.
-ghost use Rattle.std.specs.Prelude.{◌≡◌, ◌-◌, ◌^◌};
+ghost use Rattle.std.specs.Prelude.{◌≡◌, ◌≤◌, ◌-◌, ◌^◌, IfSome};
 ghost use Rattle.dp_words.specs.Words.{is_number, number_of};
 
 use dp_num::is_index;
@@ -14,7 +14,8 @@ fn is_number(word: &[u8]) -> bool
 // The number that a word writes, where it is at least `least`.
 #[tactic(auto)]
 pub fn number(word: &str, least: u32) -> Option<u32>
-    ensures { result ≡ number_of least (2 ^ 32 - 1) word.now }
+    ensures is { result ≡ number_of least (2 ^ 32 - 1) word.now }
+    ensures limit { IfSome result (λ number. least ≤ number) }
 {
     if !is_number(word.as_bytes()) {
         return None;

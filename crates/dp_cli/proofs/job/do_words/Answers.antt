@@ -5,7 +5,7 @@ use Rattle.dp_cli.proofs.job.do_words.Goals as goal
 pub returns-in_err-job : goal.returns-in_err-job
 returns-in_err-job g c =
     let exit = err_from_is_err_and c.from_residual.result c.from_residual.ensures.1 in
-    rw (exit.1, exit.2) (refuses_words c.in_err-job.field-0.0 c.in_err-job.ensures)
+    rw (exit.1, exit.2) (refuses_words c.in_err-job.field-0.0 c.in_err-job.ensures.read)
 
 pub returns : goal.returns
-returns g c = rw c.in_ok-job.ensures c.do_job.ensures
+returns g c = rw c.in_ok-job.ensures.read c.do_job.ensures
