@@ -1,5 +1,6 @@
+pub mod JointNumberLaws
 mod NumberingRows
-mod SmallModels
+pub mod SmallModels
 mod SmallRows
 mod TigerRows
 pub mod RoundingLaws
