@@ -7,7 +7,6 @@ use Rattle.std.proofs.lemmas.List.{get_or-set_other}
 use Rattle.dp_laws.proofs.Best.{IsIn, IsIn-below, IsIn-filter, best_in}
 use Rattle.dp_laws.proofs.CompleteFronts.{parts_of_true}
 use Rattle.dp_laws.proofs.LongerLook.{greatest_under}
-use Rattle.dp_laws.proofs.OwnHistories.{Below, joint_below, parts-joint, parts_below}
 use Rattle.dp_laws.proofs.Sums.{dec_eq}
 use Rattle.dp_spec.specs.Bound.{agreeing_actions, agrees, all_agree}
 use Rattle.dp_spec.specs.Front.{AgentFront, Front, class_counts}
@@ -17,6 +16,7 @@ use Rattle.dp_spec.specs.Steps.{IsUnassigned, with_choice}
 use Rattle.dp_spec.specs.Sums.{greatest, numbers_below}
 use Rattle.dp_spec.specs.WellFormed.{AreAgentFronts, IsFront}
 use Rattle.dp_spec.specs.WellFormed.AreAgentFronts.{and_agent, no_agents}
+use Rattle.dp_spec.proofs.JointNumberLaws.{AreBelow, joint_number_below, parts_below, parts_of-joint_number, positive_left, positive_right}
 
 -- ---- members of lists
 pub some_in : (a : ℕ) (xs : List ℕ) → IsIn a xs → 0 < length xs
@@ -48,7 +48,7 @@ agrees_with_own : (o : Option ℕ) → agrees o (unwrap_or o 0) ≡ true
 agrees_with_own None = refl
 agrees_with_own (Some b) = grind (arith, nat_tests)
 
-chosen_agree : (ds : List AgentFront) (cs : List ℕ) → Below (class_counts ds) cs → all_agree ds cs (actions_for ds cs) ≡ true
+chosen_agree : (ds : List AgentFront) (cs : List ℕ) → AreBelow (class_counts ds) cs → all_agree ds cs (actions_for ds cs) ≡ true
 chosen_agree [] cs h = refl
 chosen_agree (d ∷ ds) [] h = absurd h
 chosen_agree (d ∷ ds) (c ∷ cs) h = both_true (agrees_with_own (get_or d.chosen c None)) (chosen_agree ds cs h.1)
@@ -57,19 +57,11 @@ own_below : (b : ℕ) (o : Option ℕ) → 0 < b → ((a : ℕ) → o ≡ Some a
 own_below b None p h = p
 own_below b (Some a) p h = h a refl
 
-first_positive : (b p : ℕ) → 0 < b * p → 0 < b
-first_positive zero p h = absurd (omega arith)
-first_positive (suc b) p h = omega arith
-
-rest_positive : (b p : ℕ) → 0 < b * p → 0 < p
-rest_positive b zero h = absurd (omega arith)
-rest_positive b (suc p) h = omega arith
-
-chosen_below : {f : ℕ} {bs ns : List ℕ} {ds : List AgentFront} → AreAgentFronts f bs ns ds → 0 < product bs → (cs : List ℕ) → Below (class_counts ds) cs → Below bs (actions_for ds cs)
+chosen_below : {f : ℕ} {bs ns : List ℕ} {ds : List AgentFront} → AreAgentFronts f bs ns ds → 0 < product bs → (cs : List ℕ) → AreBelow (class_counts ds) cs → AreBelow bs (actions_for ds cs)
 chosen_below no_agents p cs h = tt
 chosen_below (and_agent k ks) p [] h = absurd h
 chosen_below (and_agent {b = b} {d = d} k ks) p (c ∷ cs) h =
-    (own_below b (get_or d.chosen c None) (first_positive b _ p) (λ a e. k.chosen_below c a h.0 e), chosen_below ks (rest_positive b _ p) cs h.1)
+    (own_below b (get_or d.chosen c None) (positive_left b _ 0 p) (λ a e. k.chosen_below c a h.0 e), chosen_below ks (positive_right b _ 0 p) cs h.1)
 
 -- the joint action that is chosen for joint class C, with 0 for each class that has none
 unfoldable pub chosen_joint_action : Model → Front → ℕ → ℕ
@@ -82,8 +74,8 @@ chosen_action_agrees m ok h F front C p =
     let cs = parts_of (class_counts F.agents) C in
     let inside = parts_below (class_counts F.agents) C p in
     let actions_in = chosen_below front.agents ok.sizes.some_action cs inside in
-    IsIn-filter _ _ (numbers_below (joint_actions m)) (IsIn-below (joint_actions m) _ (joint_below m.actions _ actions_in))
-    (ap (all_agree F.agents cs) (parts-joint m.actions _ actions_in) ∙ chosen_agree F.agents cs inside)
+    IsIn-filter _ _ (numbers_below (joint_actions m)) (IsIn-below (joint_actions m) _ (joint_number_below m.actions _ actions_in))
+    (ap (all_agree F.agents cs) (parts_of-joint_number m.actions _ actions_in) ∙ chosen_agree F.agents cs inside)
 
 -- ---- after a choice
 agrees_without : (os : List (Option ℕ)) (c a e x : ℕ) → get_or os c None ≡ None → agrees (get_or (set os c (Some a)) e None) x ≡ true → agrees (get_or os e None) x ≡ true

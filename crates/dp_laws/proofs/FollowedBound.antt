@@ -8,7 +8,7 @@ use Rattle.dp_laws.proofs.Sums.{int_sum_ext, int_sum_le, int_sum_zero, int_sum_o
 use Rattle.dp_laws.proofs.Best.{best_in, IsIn-below, IsIn-filter}
 use Rattle.dp_laws.proofs.OneStep.{value_le_action_look_ahead, root_joint_action_below}
 use Rattle.dp_laws.proofs.ForwardValue.{int_history_sum_ext, int_history_sum_swap, forward_is_backward}
-use Rattle.dp_laws.proofs.OwnHistories.{joint_below, parts-joint, parts_below, own_histories_within, followed_from_start}
+use Rattle.dp_laws.proofs.OwnHistories.{own_histories_within, followed_from_start}
 use Rattle.dp_laws.proofs.FollowedFronts.{trees_of, trees_after_history_are, trees_at_stage, classes_below, class_trees_fit, class_trees_agree, class_actions_below}
 use Rattle.dp_laws.proofs.Keeping.{keeps_of_follows}
 use Rattle.dp_laws.proofs.KeptActions.{kept_joint_action}
@@ -22,6 +22,7 @@ use Rattle.dp_spec.specs.Model.{IsModel, Model, joint_actions, joint_observation
 use Rattle.dp_spec.specs.PolicyTree.{PolicyTree, root_action}
 use Rattle.dp_spec.specs.Sums.{greatest, int_sum, nat_sum, numbers_below}
 use Rattle.dp_spec.specs.Value.{backward_value, joint_root_action, policy_value}
+use Rattle.dp_spec.proofs.JointNumberLaws.{joint_number_below, parts_below, parts_of-joint_number}
 
 -- weights against one number
 pub int_history_sum_weigh : (n t : ℕ) (g : List ℕ → ℕ) (x : ℤ) → int_history_sum n t (λ H. pos (g H) *ℤ x) ≡ pos (nat_history_sum n t g) *ℤ x
@@ -55,13 +56,13 @@ unfolding joint_class joint_observations
 trees_by_class m F r qs uss ks H h =
     let w = own_histories_within m.observations F.stage H h in
     trees_after_history_are m qs (followed_from_start ks) F.stage H h ∙ trees_at_stage ks (own_histories m.observations H) w
-    ∙ ap (trees_of uss) (sym (parts-joint (class_counts F.agents) (own_classes F.agents (own_histories m.observations H)) (classes_below ks (own_histories m.observations H) w)))
+    ∙ ap (trees_of uss) (sym (parts_of-joint_number (class_counts F.agents) (own_classes F.agents (own_histories m.observations H)) (classes_below ks (own_histories m.observations H) w)))
 
 -- joint classes are below the product of the counts
 joint_class_below : (m : Model) (F : Front) (r : ℕ) (qs : List PolicyTree) (uss : List (ℕ → PolicyTree)) → FollowsAgentFronts F.stage r m.actions m.observations F.agents qs uss →
     (H : List ℕ) → IsJointHistory (joint_observations m) F.stage H → joint_class m F H < product (class_counts F.agents)
 unfolding joint_class joint_observations
-joint_class_below m F r qs uss ks H h = joint_below _ _ (classes_below ks (own_histories m.observations H) (own_histories_within m.observations F.stage H h))
+joint_class_below m F r qs uss ks H h = joint_number_below _ _ (classes_below ks (own_histories m.observations H) (own_histories_within m.observations F.stage H h))
 
 -- the value after a front, by joint classes
 pub value_by_joint_class : (m : Model) (F : Front) (r : ℕ) (qs : List PolicyTree) (uss : List (ℕ → PolicyTree)) → FollowsAgentFronts F.stage r m.actions m.observations F.agents qs uss →
@@ -86,7 +87,7 @@ unfolding agreeing_actions joint_root_action
 chosen_action_le_greatest m F r qs uss ks C p f =
     let cs = parts_of (class_counts F.agents) C in
     let inside = parts_below (class_counts F.agents) C p in
-    let e = parts-joint m.actions (map root_action (trees_of uss cs)) (class_actions_below ks cs inside) in
+    let e = parts_of-joint_number m.actions (map root_action (trees_of uss cs)) (class_actions_below ks cs inside) in
     best_in f _ (agreeing_actions m F C)
     (IsIn-filter _ _ (numbers_below (joint_actions m)) (IsIn-below (joint_actions m) _ (root_joint_action_below m r (trees_of uss cs) (class_trees_fit ks cs inside)))
     (rw e (class_trees_agree ks cs inside)))

@@ -10,7 +10,7 @@ use Rattle.dp_laws.proofs.CompleteFronts.{parts_of_true}
 use Rattle.dp_laws.proofs.Keeping.{tree_at_fits}
 use Rattle.dp_laws.proofs.CompleteFronts.{new_class, some_at}
 use Rattle.dp_laws.proofs.Sums.{dec_eq}
-use Rattle.dp_laws.proofs.Trees.{part_below, positive_factor, root_action_below}
+use Rattle.dp_laws.proofs.Trees.{root_action_below}
 use Rattle.dp_laws.proofs.WellFormedSteps.{before_or_at, chosen_is_front, no_choice}
 use Rattle.dp_spec.specs.Front.{AgentFront, Front}
 use Rattle.dp_spec.specs.Keeping.{KeepAgentFronts, KeepsAgentFront, KeepsFront, tree_at}
@@ -21,6 +21,7 @@ use Rattle.dp_spec.specs.PolicyTree.IsJointPolicy.{and_agent as and_policy, no_a
 use Rattle.dp_spec.specs.Steps.{IsUnassigned, advanced_agent, advanced_agents, advanced_front, advanced_if, all_chosen, chosen_front, front_after_choice, is_complete, with_choice}
 use Rattle.dp_spec.specs.WellFormed.{AreAgentFronts, IsAgentFront, IsFront}
 use Rattle.dp_spec.specs.WellFormed.AreAgentFronts.{and_agent as and_front, no_agents as no_fronts}
+use Rattle.dp_spec.proofs.JointNumberLaws.{part_below, positive_right}
 
 -- ---- choosing
 -- a tree that does action a after one history of class c keeps the choice of a for that class
@@ -83,7 +84,7 @@ keeps_next b n f d q front k all =
       alike = λ x y u v e.
           let u' : x < n ^ f * n = rw pow-suc at u in
           let v' : y < n ^ f * n = rw pow-suc at v in
-          let parts = same_parts n _ _ _ _ (mod_below x n (positive_factor (n ^ f) n x u')) (mod_below y n (positive_factor (n ^ f) n y v')) (sym (new_class n f x d.class_of u) ∙ e ∙ new_class n f y d.class_of v) in
+          let parts = same_parts n _ _ _ _ (mod_below x n (positive_right (n ^ f) n x u')) (mod_below y n (positive_right (n ^ f) n y v')) (sym (new_class n f x d.class_of u) ∙ e ∙ new_class n f y d.class_of v) in
           ap (λ z. subtree z (x % n)) (k.alike (x / n) (y / n) (part_below (n ^ f) n x u') (part_below (n ^ f) n y v') parts.0)
           ∙ ap (λ (z : ℕ). subtree (tree_at n q f (y / n)) z) parts.1;
       does_chosen = λ x a u s. let none = no_choice (length d.chosen * n) (get_or (map (λ x. get_or d.class_of (x / n) 0 * n + x % n) (range_with_len 0 (n ^ suc f))) x 0) in cc;

@@ -30,7 +30,6 @@ pub mod FullPolicies
 pub mod Graft
 pub mod HistorySums
 pub mod JointPairs
-pub mod JointParts
 pub mod JointPlaces
 pub mod Keeping
 pub mod KeptActions

@@ -12,13 +12,13 @@ use Rattle.dp_laws.proofs.CompleteFronts.{parts_of_true}
 use Rattle.dp_laws.proofs.MergedAgents.{get_or-renumbered, get_or-without_above, get_or-without_below, length-without, renumbered_below, renumbered_high, renumbered_low}
 use Rattle.dp_laws.proofs.CompleteFronts.{new_class, some_at}
 use Rattle.dp_laws.proofs.Sums.{dec_eq}
-use Rattle.dp_laws.proofs.Trees.{part_below, positive_factor, row_below}
 use Rattle.dp_spec.specs.Front.{AgentFront, Front}
 use Rattle.dp_spec.specs.Merge.{merged_agent, merged_agents, merged_front, renumbered}
 use Rattle.dp_spec.specs.Model.{Model}
 use Rattle.dp_spec.specs.Steps.{IsUnassigned, advanced_agent, advanced_agents, advanced_front, advanced_if, all_chosen, chosen_front, front_after_choice, is_complete, with_choice}
 use Rattle.dp_spec.specs.WellFormed.{AreAgentFronts, IsAgentFront, IsFront, NoneChosen}
 use Rattle.dp_spec.specs.WellFormed.AreAgentFronts.{and_agent, no_agents}
+use Rattle.dp_spec.proofs.JointNumberLaws.{part_below, positive_right, row_below}
 
 -- ---- choosing
 chosen_agent : (b n f : ℕ) (d : AgentFront) (c a : ℕ) → IsAgentFront b n f d → c < length d.chosen → a < b → IsAgentFront b n f (record d { chosen = set d.chosen c (Some a) })
@@ -86,11 +86,11 @@ next_agent b n f d k all =
       of_histories = length-map-range_with_len (λ x. get_or d.class_of (x / n) 0 * n + x % n) 0 (n ^ suc f);
       class_below = λ x u.
           let u' : x < n ^ f * n = rw pow-suc at u in
-          rw (new_class n f x d.class_of u, len) (row_below _ _ n _ (k.class_below (x / n) (part_below (n ^ f) n x u')) (mod_below x n (positive_factor (n ^ f) n x u')));
+          rw (new_class n f x d.class_of u, len) (row_below _ _ n _ (k.class_below (x / n) (part_below (n ^ f) n x u')) (mod_below x n (positive_right (n ^ f) n x u')));
       member = λ c u.
           let u' : c < length d.chosen * n = omega arith in
           let old_member = k.member (c / n) (part_below (length d.chosen) n c u') in
-          let lt : c % n < n = mod_below c n (positive_factor (length d.chosen) n c u') in
+          let lt : c % n < n = mod_below c n (positive_right (length d.chosen) n c u') in
           let x = old_member.0 * n + c % n in
           let x_in : x < n ^ suc f = rw pow-suc (row_below old_member.0 (n ^ f) n (c % n) old_member.1 lt) in
           let first : x / n ≡ old_member.0 = div-mul-add old_member.0 n (c % n) lt in
