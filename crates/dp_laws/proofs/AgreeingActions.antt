@@ -4,9 +4,7 @@ use Rattle.std.specs.Prelude.{unwrap_or}
 use Rattle.std.specs.Cmp.Derive.{both_true}
 use Rattle.std.proofs.lemmas.Bool.Decides.{nat_tests}
 use Rattle.std.proofs.lemmas.List.{get_or-set_other}
-use Rattle.dp_laws.proofs.Best.{IsIn, IsIn-below, IsIn-filter, best_in}
 use Rattle.dp_laws.proofs.CompleteFronts.{parts_of_true}
-use Rattle.dp_laws.proofs.LongerLook.{greatest_under}
 use Rattle.dp_laws.proofs.Sums.{dec_eq}
 use Rattle.dp_spec.specs.Bound.{agreeing_actions, agrees, all_agree}
 use Rattle.dp_spec.specs.Front.{AgentFront, Front, class_counts}
@@ -17,25 +15,8 @@ use Rattle.dp_spec.specs.Sums.{greatest, numbers_below}
 use Rattle.dp_spec.specs.WellFormed.{AreAgentFronts, IsFront}
 use Rattle.dp_spec.specs.WellFormed.AreAgentFronts.{and_agent, no_agents}
 use Rattle.dp_spec.proofs.JointNumberLaws.{AreBelow, joint_number_below, parts_below, parts_of-joint_number, positive_left, positive_right}
-
--- ---- members of lists
-pub some_in : (a : ℕ) (xs : List ℕ) → IsIn a xs → 0 < length xs
-some_in a [] h = absurd h
-some_in a (x ∷ xs) h = omega arith
-
-kept_in : (p : ℕ → Bool) (a x : ℕ) (xs : List ℕ) (t : Bool) → p x ≡ t → (IsIn a (filter p xs) → IsIn a xs × (p a ≡ true)) → IsIn a (cond t (x ∷ filter p xs) (filter p xs)) → IsIn a (x ∷ xs) × (p a ≡ true)
-kept_in p a x xs true e rest (inl same) = (inl same, ap p same ∙ e)
-kept_in p a x xs true e rest (inr h) = let more = rest h in (inr more.0, more.1)
-kept_in p a x xs false e rest h = let more = rest h in (inr more.0, more.1)
-
--- what a filter keeps is of the list, and passes the test
-pub IsIn_filter : (p : ℕ → Bool) (a : ℕ) (xs : List ℕ) → IsIn a (filter p xs) → IsIn a xs × (p a ≡ true)
-IsIn_filter p a [] h = absurd h
-IsIn_filter p a (x ∷ xs) h = kept_in p a x xs (p x) refl (IsIn_filter p a xs) h
-
--- the greatest over a part of a list that is not empty
-pub greatest_of_part : (f : ℕ → ℤ) (xs ys : List ℕ) → 0 < length xs → ((a : ℕ) → IsIn a xs → IsIn a ys) → greatest f xs ≤ℤ greatest f ys
-greatest_of_part f xs ys some part = greatest_under f xs (greatest f ys) some (λ a h. best_in f a ys (part a h))
+use Rattle.dp_laws.proofs.Members.{IsIn, IsIn-below, IsIn-filter}
+use Rattle.dp_laws.proofs.GreatestValues.{le_greatest}
 
 -- ---- the chosen actions
 -- the actions that are chosen for classes cs, and 0 where none is

@@ -15,6 +15,8 @@ use Rattle.dp_spec.specs.Steps.{root_agent, root_front}
 use Rattle.dp_spec.specs.Sums.{greatest, int_sum, numbers_below}
 use Rattle.dp_spec.specs.Value.{joint_root_action, policy_value}
 use Rattle.dp_spec.proofs.JointNumberLaws.{AreBelow, joint_number-parts_of, parts_below}
+use Rattle.dp_laws.proofs.GreatestValues.{greatest_ext}
+use Rattle.dp_laws.proofs.Members.{below-IsIn, filter_all}
 
 repeated_fits : (b n r c : ℕ) (q : PolicyTree) → IsPolicyTree b n r q → ArePolicyTrees b n r c (repeated_tree c q)
 repeated_fits b n r zero q h = tt
@@ -73,13 +75,6 @@ pub last_action : (m : Model) (w : ℕ → ℕ) (a k : ℕ) → action_look_ahea
 unfolding action_look_ahead
 last_action m w a k = none_more (joint_observations m) (weighted_reward m 0 w a)
 
-greatest_ext_below : (f g : ℕ → ℤ) (n : ℕ) → ((a : ℕ) → a < n → f a ≡ g a) → greatest f (numbers_below n) ≡ greatest g (numbers_below n)
-greatest_ext_below f g zero h = refl
-greatest_ext_below f g (suc zero) h = h 0 (omega arith)
-greatest_ext_below f g (suc (suc n)) h =
-    let rest : greatest f (numbers_below (suc n)) ≡ greatest g (numbers_below (suc n)) = greatest_ext_below f g (suc n) (λ a p. h a (omega arith)) in
-    rw (h (suc n) (omega arith), rest)
-
 -- ---- the root front
 root_counts : (bs : List ℕ) → product (class_counts (map (λ n. root_agent) bs)) ≡ 1
 root_counts [] = refl
@@ -105,10 +100,6 @@ root_agrees : (bs : List ℕ) (C a : ℕ) → all_agree (map (λ n. root_agent) 
 root_agrees [] C a = refl
 root_agrees (b ∷ bs) C a = rw (agrees_with_none _ _ (no_choice _), root_agrees bs)
 
-filter_all : (p : ℕ → Bool) (xs : List ℕ) → ((x : ℕ) → p x ≡ true) → filter p xs ≡ xs
-filter_all p [] h = refl
-filter_all p (x ∷ xs) h = rw (h x, filter_all p xs h)
-
 root_agreeing : (m : Model) (C : ℕ) → agreeing_actions m (root_front m) C ≡ numbers_below (joint_actions m)
 unfolding agreeing_actions root_front
 root_agreeing m C = filter_all _ (numbers_below (joint_actions m)) (λ a. root_agrees m.actions C a)
@@ -122,7 +113,7 @@ unfolding root_front
 root_bound_at_one m ok look =
     only_one _ _ (root_counts m.actions)
     ∙ ap (greatest (λ a. action_look_ahead m 0 (class_weight m (root_front m) 0) a look)) (root_agreeing m 0)
-    ∙ greatest_ext_below _ _ (joint_actions m) (λ a p.
+    ∙ greatest_ext _ _ (numbers_below (joint_actions m)) (λ a i.
     last_action m (class_weight m (root_front m) 0) a look
     ∙ ap (λ w. weighted_reward m 0 w a) (λ i s. root_weight m s i)
-    ∙ sym (constant_policy_value m ok a p))
+    ∙ sym (constant_policy_value m ok a (below-IsIn (joint_actions m) a i)))

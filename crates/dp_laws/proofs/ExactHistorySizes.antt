@@ -9,7 +9,7 @@ use Rattle.dp_laws.proofs.ModeCondition.{reward_most}
 use Rattle.dp_laws.proofs.NaturalSums.{nat_history_sum_times, nat_sum_times}
 use Rattle.dp_laws.proofs.OrderedSpans.{classes_total, total_size}
 use Rattle.dp_laws.proofs.Scales.{scale_of_first, scale_of_next}
-use Rattle.dp_laws.proofs.SizeSums.{action_look_le, agreeing_below, greatest_abs, nat_history_sum_le, nat_sum_le}
+use Rattle.dp_laws.proofs.SizeSums.{action_look_le, agreeing_below, nat_history_sum_le, nat_sum_le}
 use Rattle.dp_laws.proofs.Sums.{nat_sum_ext}
 use Rattle.dp_spec.specs.Arithmetic.{exact}
 use Rattle.dp_spec.specs.Bound.{agreeing_actions}
@@ -23,6 +23,7 @@ use Rattle.dp_spec.specs.Sizes.{reward_size}
 use Rattle.dp_spec.specs.SizesOfEarnings.{IsActing, earned_size}
 use Rattle.dp_spec.specs.SizesOfFronts.{IsChoosing, advanced_size, class_look_size, class_reward_size}
 use Rattle.dp_spec.specs.Sums.{greatest, nat_sum}
+use Rattle.dp_laws.proofs.GreatestValues.{greatest_abs}
 
 module _ (m : Model) (is : IsModel m) where
   -- a start weight is its chance

@@ -5,7 +5,6 @@ use Rattle.std.proofs.Math.IntN.{zero-*ℤ}
 use Rattle.dp_laws.proofs.Order.{add_le_right}
 use Rattle.dp_laws.proofs.Ring.{zle_trans, zle_of}
 use Rattle.dp_laws.proofs.Sums.{int_sum_ext, int_sum_le, int_sum_zero, int_sum_one, int_sum_weigh}
-use Rattle.dp_laws.proofs.Best.{best_in, IsIn-below, IsIn-filter}
 use Rattle.dp_laws.proofs.OneStep.{value_le_action_look_ahead, root_joint_action_below}
 use Rattle.dp_laws.proofs.ForwardValue.{int_history_sum_ext, int_history_sum_swap, forward_is_backward}
 use Rattle.dp_laws.proofs.OwnHistories.{own_histories_within, followed_from_start}
@@ -23,6 +22,8 @@ use Rattle.dp_spec.specs.PolicyTree.{PolicyTree, root_action}
 use Rattle.dp_spec.specs.Sums.{greatest, int_sum, nat_sum, numbers_below}
 use Rattle.dp_spec.specs.Value.{backward_value, joint_root_action, policy_value}
 use Rattle.dp_spec.proofs.JointNumberLaws.{joint_number_below, parts_below, parts_of-joint_number}
+use Rattle.dp_laws.proofs.GreatestValues.{le_greatest}
+use Rattle.dp_laws.proofs.Members.{IsIn-below, IsIn-filter}
 
 -- weights against one number
 pub int_history_sum_weigh : (n t : ℕ) (g : List ℕ → ℕ) (x : ℤ) → int_history_sum n t (λ H. pos (g H) *ℤ x) ≡ pos (nat_history_sum n t g) *ℤ x
@@ -88,7 +89,7 @@ chosen_action_le_greatest m F r qs uss ks C p f =
     let cs = parts_of (class_counts F.agents) C in
     let inside = parts_below (class_counts F.agents) C p in
     let e = parts_of-joint_number m.actions (map root_action (trees_of uss cs)) (class_actions_below ks cs inside) in
-    best_in f _ (agreeing_actions m F C)
+    le_greatest f _ (agreeing_actions m F C)
     (IsIn-filter _ _ (numbers_below (joint_actions m)) (IsIn-below (joint_actions m) _ (root_joint_action_below m r (trees_of uss cs) (class_trees_fit ks cs inside)))
     (rw e (class_trees_agree ks cs inside)))
 

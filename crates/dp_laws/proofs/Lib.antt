@@ -2,7 +2,7 @@ pub mod ActingHistories
 pub mod AdvancedBound
 pub mod AdvancedFronts
 pub mod AgreeingActions
-pub mod Best
+pub mod GreatestValues
 pub mod BoundOnPath
 pub mod CertificateTexts
 pub mod ChosenBound
@@ -46,6 +46,7 @@ pub mod MergedBound
 pub mod MergedFronts
 pub mod MergedKept
 pub mod MergedTrees
+pub mod Members
 pub mod Merging
 pub mod ModeCondition
 pub mod Modes

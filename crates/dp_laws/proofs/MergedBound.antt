@@ -2,7 +2,7 @@
 use Rattle.std.proofs.Common.{◌≡◌, ◌≢◌, inl, inr, ℕ, zero, suc, ◌+◌, ◌<◌, ◌≤◌, cond, eqb, ℤ, pos, ◌+ℤ◌, ◌≤ℤ◌, List, length, get_or, sym, ap, ◌∙◌, subst, arith}
 use Rattle.std.proofs.lemmas.Int.{ints}
 use Rattle.dp_laws.proofs.JointPlaces.{int_sum_placed, placed_number}
-use Rattle.dp_laws.proofs.LinearSteps.{action_look_ahead_together, greatest_together}
+use Rattle.dp_laws.proofs.LinearSteps.{action_look_ahead_together}
 use Rattle.dp_laws.proofs.MergedFronts.{agreeing_either, agreeing_kept, as_many_merged, counts_of_others, joined_weight, kept_below, kept_class, kept_high, kept_low, kept_weight, one_class_less, placed_weight, unassigned_agent}
 use Rattle.dp_laws.proofs.MergedTrees.{fixed_joint_action_merged}
 use Rattle.dp_laws.proofs.Order.{less_or_not}
@@ -19,6 +19,7 @@ use Rattle.dp_spec.specs.Model.{Model}
 use Rattle.dp_spec.specs.Steps.{IsUnassigned}
 use Rattle.dp_spec.specs.Sums.{greatest, int_sum}
 use Rattle.dp_spec.specs.WellFormed.{IsFront}
+use Rattle.dp_laws.proofs.GreatestValues.{greatest_of_sums}
 
 -- ---- sums with one class less
 swap_last : (x y z w : ℤ) → z ≡ w → (x +ℤ y) +ℤ z ≡ (x +ℤ w) +ℤ y
@@ -108,8 +109,8 @@ module _ (m : Model) (h r look : ℕ) (F : Front) (front : IsFront m h F) (lt : 
       zle_trans _ _ _
       (zle_of _ _ (λ j. greatest (λ y. action_look_ahead m r (λ s. weights s j) y look) (actions j)))
       (zle_trans _ _ _
-      (greatest_together (λ y. action_look_ahead m r (class_weight m F A) y look) (λ y. action_look_ahead m r (class_weight m F B) y look) (λ y. action_look_ahead m r (λ s. class_weight m F A s + class_weight m F B s) y look) (agreeing_actions m F A)
-      (λ y. action_look_ahead_together m r look (class_weight m F A) (class_weight m F B) y))
+      (greatest_of_sums (λ y. action_look_ahead m r (class_weight m F A) y look) (λ y. action_look_ahead m r (class_weight m F B) y look) (λ y. action_look_ahead m r (λ s. class_weight m F A s + class_weight m F B s) y look) (agreeing_actions m F A)
+      (λ y i. action_look_ahead_together m r look (class_weight m F A) (class_weight m F B) y))
       (zle_of _ _ (ap (λ l. best F A +ℤ greatest (λ y. action_look_ahead m r (class_weight m F B) y look) l) (sym (agreeing_either m F i a b free_a free_b x hx)))))
 
   -- all joint classes together

@@ -10,7 +10,7 @@ use Rattle.dp_laws.proofs.OrderedSpans.{classes_total, total_size, weight_ordere
 use Rattle.dp_laws.proofs.OutwardLookSizes.{looks_room}
 use Rattle.dp_laws.proofs.OutwardModeSizes.{limit_room, next_weights, outward_can_push, reward_room, state_squares}
 use Rattle.dp_laws.proofs.OutwardSizes.{next_total, start_total}
-use Rattle.dp_laws.proofs.SizeSums.{action_look_le, agreeing_below, greatest_abs, nat_history_sum_le, nat_sum_at, nat_sum_most}
+use Rattle.dp_laws.proofs.SizeSums.{action_look_le, agreeing_below, nat_history_sum_le, nat_sum_at, nat_sum_most}
 use Rattle.dp_spec.specs.Arithmetic.{outward}
 use Rattle.dp_spec.specs.Bound.{agreeing_actions}
 use Rattle.dp_spec.specs.Calls.{outward_calls}
@@ -26,6 +26,7 @@ use Rattle.dp_spec.specs.SizesOfFronts.{CanAdvance, IsChoosing, advanced_size, c
 use Rattle.dp_spec.specs.Sums.{greatest, nat_sum}
 use Rattle.dp_spec.specs.Value.{joint_root_action, trees_after}
 use Rattle.dp_spec.specs.WellFormed.{IsFront}
+use Rattle.dp_laws.proofs.GreatestValues.{greatest_abs}
 
 -- how many rewards a joint policy of r steps has at most, for n joint observations
 abbrev pub reward_count : ℕ → ℕ → ℕ

@@ -2,7 +2,6 @@
 use Rattle.std.proofs.Common.{◌≡◌, ◌⊎◌, ⊎_elim, true, false, ℕ, zero, suc, ◌<◌, ℤ, ◌≤ℤ◌, ◌<ℤ◌, refl, sym, ap, ◌∙◌, arith}
 use Rattle.std.proofs.lemmas.Int.{ints, clamps}
 use Rattle.std.specs.Int.Signed.{lt_z, lt_z_yes, lt_z_no}
-use Rattle.dp_laws.proofs.Best.{best_below}
 use Rattle.dp_laws.proofs.ConstantPolicies.{constant_policy_fits, root_bound_at_one}
 use Rattle.dp_laws.proofs.ExactArithmetic.{exact_sound}
 use Rattle.dp_laws.proofs.Order.{equal_of_le}
@@ -23,6 +22,7 @@ use Rattle.dp_spec.specs.Sums.{greatest, numbers_below}
 use Rattle.dp_plan.specs.BestConstant.{IsBestConstant, IsFirstGreatest, constant_value}
 use Rattle.dp_plan.specs.ConstantCertificate.{constant_certificate}
 use Rattle.dp_plan.proofs.Modes.{within_one_step}
+use Rattle.dp_laws.proofs.GreatestValues.{le_greatest_below}
 
 -- ---- the first greatest, one number after the other
 
@@ -74,7 +74,7 @@ greatest_at_most f x (suc (suc n)) some h =
 -- the first greatest has the greatest value
 greatest_is_first : (f : ℕ → ℤ) (n first : ℕ) → IsFirstGreatest f n first → greatest f (numbers_below n) ≡ f first
 greatest_is_first f n first h =
-    equal_of_le _ _ (greatest_at_most f (f first) n (let lt = h.below in omega arith) h.greatest) (best_below f n first h.below)
+    equal_of_le _ _ (greatest_at_most f (f first) n (let lt = h.below in omega arith) h.greatest) (le_greatest_below f n first h.below)
 
 -- ---- the certificate
 
