@@ -9,11 +9,9 @@ use Rattle.std.proofs.lemmas.Nat.{div-mul-add, mod-mul-add}
 use Rattle.dp_laws.proofs.AgreeingActions.{actions_for, chosen_joint_action}
 use Rattle.dp_laws.proofs.JointPairs.{pair_counts, pair_injective, pair_number}
 use Rattle.dp_laws.proofs.LinearSteps.{weights_after_histories}
-use Rattle.dp_laws.proofs.NaturalSums.{nat_history_sum_ext, nat_sum_one}
 use Rattle.dp_laws.proofs.OwnHistories.{Within, next_history_below, own_histories_within}
 use Rattle.dp_laws.proofs.KeptActions.{history_length}
 use Rattle.dp_laws.proofs.CompleteFronts.{new_class}
-use Rattle.dp_laws.proofs.Sums.{dec_eq, nat_sum_ext}
 use Rattle.dp_spec.specs.Front.{AgentFront, Front, class_counts, class_weight, fixed_actions, fixed_joint_action, joint_class, next_own_histories, own_classes, own_histories}
 use Rattle.dp_spec.specs.JointHistory.{IsJointHistory, history_weight}
 use Rattle.dp_spec.specs.JointNumbers.{joint_number, parts_of, product}
@@ -23,6 +21,9 @@ use Rattle.dp_spec.specs.Steps.{advanced_agent, advanced_agents, advanced_front}
 use Rattle.dp_spec.specs.WellFormed.{AreAgentFronts, IsFront}
 use Rattle.dp_spec.specs.WellFormed.AreAgentFronts.{and_agent, no_agents}
 use Rattle.dp_spec.proofs.JointNumberLaws.{AreBelow, joint_number_below, parts_below, parts_of-joint_number}
+use Rattle.dp_spec.proofs.NaturalSumLaws.{nat_sum_ext, nat_sum_one}
+use Rattle.std.proofs.lemmas.Bool.{cases_eq}
+use Rattle.dp_laws.proofs.HistorySums.{nat_history_sum_ext}
 
 -- ---- the lists of all agents
 -- each own history of the stage has a class
@@ -85,10 +86,10 @@ fixed_at {f} (and_agent {n = n} {d = d} k ks) (x ∷ xs) h =
 -- a test of pairs as two tests
 pub both_tests : (u v p p' q q' x y : ℕ) → (u ≡ v → (p ≡ p') × (q ≡ q')) → (p ≡ p' → q ≡ q' → u ≡ v) → (p ≡ p' → x ≡ y) → cond (eqb u v) x 0 ≡ cond (eqb q q') (cond (eqb p p') y 0) 0
 both_tests u v p p' q q' x y apart together same =
-    elim (dec_eq u v) [
+    elim (cases_eq u v) [
       | inl e ↦ let parts = apart e in equal (e, parts.0, parts.1, same parts.0)
-      | inr ne ↦ elim (dec_eq q q') [
-        | inl f ↦ elim (dec_eq p p') [ inl g ↦ absurd (ne (together g f)) | inr ng ↦ first_differs (ne, ng) ]
+      | inr ne ↦ elim (cases_eq q q') [
+        | inl f ↦ elim (cases_eq p p') [ inl g ↦ absurd (ne (together g f)) | inr ng ↦ first_differs (ne, ng) ]
         | inr nf ↦ second_differs (ne, nf)
       ]
     ]

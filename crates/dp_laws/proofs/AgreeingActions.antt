@@ -4,8 +4,6 @@ use Rattle.std.specs.Prelude.{unwrap_or}
 use Rattle.std.specs.Cmp.Derive.{both_true}
 use Rattle.std.proofs.lemmas.Bool.Decides.{nat_tests}
 use Rattle.std.proofs.lemmas.List.{get_or-set_other}
-use Rattle.dp_laws.proofs.CompleteFronts.{parts_of_true}
-use Rattle.dp_laws.proofs.Sums.{dec_eq}
 use Rattle.dp_spec.specs.Bound.{agreeing_actions, agrees, all_agree}
 use Rattle.dp_spec.specs.Front.{AgentFront, Front, class_counts}
 use Rattle.dp_spec.specs.JointNumbers.{joint_number, parts_of, product}
@@ -17,6 +15,7 @@ use Rattle.dp_spec.specs.WellFormed.AreAgentFronts.{and_agent, no_agents}
 use Rattle.dp_spec.proofs.JointNumberLaws.{AreBelow, joint_number_below, parts_below, parts_of-joint_number, positive_left, positive_right}
 use Rattle.dp_laws.proofs.Members.{IsIn, IsIn-below, IsIn-filter}
 use Rattle.dp_laws.proofs.GreatestValues.{le_greatest}
+use Rattle.std.proofs.lemmas.Bool.{and_parts, cases_eq}
 
 -- ---- the chosen actions
 -- the actions that are chosen for classes cs, and 0 where none is
@@ -61,7 +60,7 @@ chosen_action_agrees m ok h F front C p =
 -- ---- after a choice
 agrees_without : (os : List (Option ℕ)) (c a e x : ℕ) → get_or os c None ≡ None → agrees (get_or (set os c (Some a)) e None) x ≡ true → agrees (get_or os e None) x ≡ true
 agrees_without os c a e x free h =
-    elim (dec_eq c e) [
+    elim (cases_eq c e) [
       | inl same ↦ ap (λ o. agrees o x) (ap (λ z. get_or os z None) (sym same) ∙ free)
       | inr ne ↦ ap (λ o. agrees o x) (sym (get_or-set_other os c e (Some a) None (λ z. ne (sym z)))) ∙ h
     ]
@@ -72,5 +71,5 @@ agree_without zero c a (d ∷ ds) [] xs free h = h
 agree_without (suc i) c a (d ∷ ds) [] xs free h = h
 agree_without zero c a (d ∷ ds) (e ∷ cs) [] free h = h
 agree_without (suc i) c a (d ∷ ds) (e ∷ cs) [] free h = h
-agree_without zero c a (d ∷ ds) (e ∷ cs) (x ∷ xs) free h = let both = parts_of_true _ _ h in both_true (agrees_without d.chosen c a e x free.1 both.0) both.1
-agree_without (suc i) c a (d ∷ ds) (e ∷ cs) (x ∷ xs) free h = let both = parts_of_true _ _ h in both_true both.0 (agree_without i c a ds cs xs free both.1)
+agree_without zero c a (d ∷ ds) (e ∷ cs) (x ∷ xs) free h = let both = and_parts _ _ h in both_true (agrees_without d.chosen c a e x free.1 both.0) both.1
+agree_without (suc i) c a (d ∷ ds) (e ∷ cs) (x ∷ xs) free h = let both = and_parts _ _ h in both_true both.0 (agree_without i c a ds cs xs free both.1)

@@ -1,10 +1,10 @@
 -- The value of a joint policy by a recursion forwards, and as what is earned.
 use Rattle.std.proofs.Common.{◌≡◌, ℕ, zero, suc, ◌*◌, ◌^◌, ◌<◌, ℤ, pos, ◌+ℤ◌, ◌*ℤ◌, List, [], ◌∷◌, refl, sym, ap, ◌∙◌, arith}
 use Rattle.std.proofs.lemmas.Int.{ints}
-use Rattle.dp_laws.proofs.Sums.{int_sum_ext, nat_sum_ext, int_sum_weigh}
-use Rattle.dp_laws.proofs.ForwardValue.{forward_is_backward, int_history_sum_ext}
+use Rattle.dp_laws.proofs.Sums.{int_sum_ext, int_sum_weigh}
+use Rattle.dp_laws.proofs.ForwardValue.{forward_is_backward}
 use Rattle.dp_laws.proofs.OneStep.{one_step}
-use Rattle.dp_laws.proofs.HistorySums.{int_history_sum_zero}
+use Rattle.dp_laws.proofs.HistorySums.{int_history_sum_ext, int_history_sum_zero}
 use Rattle.dp_spec.specs.JointHistory.{IsJointHistory, earned_reward, trees_after_history}
 use Rattle.dp_spec.specs.LookAhead.{look_ahead, weighted_reward, weights_after}
 use Rattle.dp_spec.specs.MdpTable.{mdp_table}
@@ -13,6 +13,7 @@ use Rattle.dp_spec.specs.PolicyTree.{PolicyTree}
 use Rattle.dp_spec.specs.Sums.{greatest, int_sum, numbers_below}
 use Rattle.dp_spec.specs.Value.{backward_value, joint_root_action, policy_value, trees_after}
 use Rattle.dp_laws.proofs.GreatestValues.{greatest_ext}
+use Rattle.dp_spec.proofs.NaturalSumLaws.{nat_sum_ext}
 
 -- what a recursion that pushes weights forwards returns
 abbrev pub recursive_value : Model → ℕ → (ℕ → ℕ) → List PolicyTree → ℤ

@@ -4,12 +4,10 @@ use Rattle.std.proofs.Math.Nat.{pow-suc, mul-le-mul_left, mul-le-mul_right, mul-
 use Rattle.dp_spec.specs.declared.span.Span.{Span}
 use Rattle.dp_laws.proofs.ExactSizes.{carry_size, gained_total, pushed_total, reward_total, tail_size}
 use Rattle.dp_laws.proofs.ModeCondition.{reward_most}
-use Rattle.dp_laws.proofs.NaturalSums.{nat_sum_times}
 use Rattle.dp_laws.proofs.OneStep.{trees_after_fit, root_joint_action_below}
 use Rattle.dp_laws.proofs.OrderedSpans.{total_size}
 use Rattle.dp_laws.proofs.Scales.{step_scale_is}
-use Rattle.dp_laws.proofs.SizeSums.{abs_add, abs_min, int_sum_abs, nat_sum_le, reward_size_le, table_action_le}
-use Rattle.dp_laws.proofs.Sums.{nat_sum_scale}
+use Rattle.dp_laws.proofs.SizeSums.{abs_add, abs_min, int_sum_abs, reward_size_le, table_action_le}
 use Rattle.dp_spec.specs.Arithmetic.{exact}
 use Rattle.dp_spec.specs.Calls.{size}
 use Rattle.dp_spec.specs.Model.{IsModel, Model, joint_actions, joint_observations, step_scale, trans_at}
@@ -23,6 +21,7 @@ use Rattle.dp_spec.specs.Sums.{int_sum, nat_sum, numbers_below}
 use Rattle.dp_spec.specs.Value.{joint_root_action, trees_after}
 use Rattle.dp_laws.proofs.Members.{below-IsIn}
 use Rattle.dp_laws.proofs.GreatestValues.{greatest_abs}
+use Rattle.dp_spec.proofs.NaturalSumLaws.{nat_sum_le, nat_sum_scale, nat_sum_times}
 
 -- a reward now and r rewards after it
 one_more : (M K r most p q : ℕ) → q ≡ p * K → M * (most * q) + M * K * (r * most * p) ≡ M * (suc r * most * q)

@@ -50,7 +50,6 @@ pub mod Members
 pub mod Merging
 pub mod ModeCondition
 pub mod Modes
-pub mod NaturalSums
 pub mod OneStep
 pub mod Order
 pub mod OrderedSpans

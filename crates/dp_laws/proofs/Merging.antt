@@ -2,10 +2,10 @@
 use Rattle.std.proofs.Common.{◌≡◌, ℕ, zero, suc, ◌+◌, ◌<◌, Bool, true, false, cond, eqb, ℤ, pos, ◌+ℤ◌, ◌*ℤ◌, ◌≤ℤ◌, List, [], ◌∷◌, get_or, refl, sym, ap, ◌∙◌, subst, arith}
 use Rattle.dp_laws.proofs.JointPlaces.{below_others}
 use Rattle.dp_laws.proofs.Sums.{int_sum_ext, int_sum_two}
-use Rattle.dp_laws.proofs.ForwardValue.{int_history_sum_ext, forward_is_backward}
+use Rattle.dp_laws.proofs.ForwardValue.{forward_is_backward}
 use Rattle.dp_laws.proofs.OwnHistories.{own_histories_within, followed_from_start}
 use Rattle.dp_laws.proofs.FollowedFronts.{trees_of, trees_after_history_are, trees_at_stage, classes_below}
-use Rattle.dp_laws.proofs.FollowedBound.{int_history_sum_group, equal_of_test, follows_fixed}
+use Rattle.dp_laws.proofs.FollowedBound.{follows_fixed}
 use Rattle.dp_laws.proofs.Order.{add_le_right}
 use Rattle.dp_laws.proofs.ClassValue.{better_for_both}
 use Rattle.dp_laws.proofs.MergedTrees.{fixed_joint_action_merged, joined_trees_by_agent, joined_trees_of, merged_agents_follow, tree_for, trees_by_agent}
@@ -21,6 +21,8 @@ use Rattle.dp_spec.specs.Steps.{IsUnassigned}
 use Rattle.dp_spec.specs.Sums.{int_sum}
 use Rattle.dp_spec.specs.Value.{backward_value, policy_value}
 use Rattle.dp_spec.proofs.JointNumberLaws.{AreBelow, joint_number_below, parts_of-joint_number}
+use Rattle.dp_laws.proofs.HistorySums.{int_history_sum_ext, int_history_sum_group}
+use Rattle.std.proofs.lemmas.Bool.{eqb-true}
 
 -- a class of an agent is below its count
 class_in_count : (i c : ℕ) (ds : List AgentFront) (cs : List ℕ) → IsUnassigned i c ds → AreBelow (class_counts ds) cs → get_or cs i 0 < get_or (class_counts ds) i 0
@@ -60,7 +62,7 @@ module _ (m : Model) (F : Front) (r i : ℕ) (uss : List (ℕ → PolicyTree)) w
       let O = joint_observations m in
       int_history_sum_group O F.stage k _ (class_of_agent m F i) in_range
       ∙ int_sum_ext k _ _ (λ c p.
-      int_history_sum_ext O F.stage _ _ (λ H h. value_at_class (eqb (class_of_agent m F i H) c) m.states (weight H) (λ x s. value_with (class_of_others m F i H) x s) _ _ (λ e. ap z (equal_of_test _ _ e))))
+      int_history_sum_ext O F.stage _ _ (λ H h. value_at_class (eqb (class_of_agent m F i H) c) m.states (weight H) (λ x s. value_with (class_of_others m F i H) x s) _ _ (λ e. ap z (eqb-true _ _ e))))
 
   -- the value of a joint policy whose trees after the front are given by class
   value_of_policy : (qs : List PolicyTree) (F' : Front) (uss' : List (ℕ → PolicyTree)) (z : ℕ → PolicyTree) (k : ℕ) → F'.stage ≡ F.stage → fixed_joint_action m F' ≡ fixed_joint_action m F →

@@ -18,43 +18,8 @@ use Rattle.dp_spec.specs.SizesOfLookAhead.{next_look_size}
 use Rattle.dp_spec.specs.SizesOfTable.{table_later_size, table_reward_size}
 use Rattle.dp_spec.specs.Sums.{greatest, int_sum, nat_sum, numbers_below}
 use Rattle.dp_laws.proofs.Members.{IsIn, below-IsIn, filter-IsIn}
-
--- ---- sums of naturals
-
--- one of a sum
-pub nat_sum_at : (n : ℕ) (f : ℕ → ℕ) (i : ℕ) → i < n → f i ≤ nat_sum n f
-nat_sum_at zero f i h = absurd (omega arith)
-nat_sum_at (suc n) f i h = elim (cases i n h) [ inl e ↦ rw e (omega arith) | inr lt ↦ let rest = nat_sum_at n f i lt in omega arith ]
-  where
-    cases : (i n : ℕ) → i < suc n → (i ≡ n) ⊎ (i < n)
-    cases i n h = grind arith
-
--- smaller numbers have a smaller sum
-pub nat_sum_le : (n : ℕ) (f g : ℕ → ℕ) → ((i : ℕ) → i < n → f i ≤ g i) → nat_sum n f ≤ nat_sum n g
-nat_sum_le zero f g h = omega arith
-nat_sum_le (suc n) f g h = let here = h n (omega arith) in let rest = nat_sum_le n f g (λ i p. h i (omega arith)) in omega arith
-
--- n numbers of at most c
-pub nat_sum_most : (n c : ℕ) (f : ℕ → ℕ) → ((i : ℕ) → i < n → f i ≤ c) → nat_sum n f ≤ n * c
-nat_sum_most zero c f h = omega arith
-nat_sum_most (suc n) c f h = let here = h n (omega arith) in let rest = nat_sum_most n c f (λ i p. h i (omega arith)) in omega arith
-
--- a part of a sum
-pub nat_sum_part : (k n : ℕ) (f : ℕ → ℕ) → k ≤ n → nat_sum k f ≤ nat_sum n f
-nat_sum_part k zero f h = let e : k ≡ 0 = omega arith in rw e (omega arith)
-nat_sum_part k (suc n) f h =
-    elim (cases k n h) [
-      | inl e ↦ rw e (omega arith)
-      | inr le ↦ let rest = nat_sum_part k n f le in omega arith
-    ]
-  where
-    cases : (k n : ℕ) → k ≤ suc n → (k ≡ suc n) ⊎ (k ≤ n)
-    cases k n h = grind arith
-
--- the same over joint histories
-pub nat_history_sum_le : (n t : ℕ) (f g : List ℕ → ℕ) → ((H : List ℕ) → IsJointHistory n t H → f H ≤ g H) → nat_history_sum n t f ≤ nat_history_sum n t g
-nat_history_sum_le n zero f g h = h [] tt
-nat_history_sum_le n (suc t) f g h = nat_history_sum_le n t _ _ (λ H p. nat_sum_le n _ _ (λ o q. h (o ∷ H) (q, p)))
+use Rattle.dp_spec.proofs.NaturalSumLaws.{nat_sum_at, nat_sum_le, nat_sum_part}
+use Rattle.dp_laws.proofs.HistorySums.{nat_history_sum_le}
 
 -- ---- sums of whole numbers
 

@@ -1,4 +1,5 @@
 pub mod JointNumberLaws
+pub mod NaturalSumLaws
 mod NumberingRows
 pub mod SmallModels
 mod SmallRows
