@@ -6,7 +6,7 @@ use Rattle.dp_spec.specs.Model.{IsModel, Model, joint_observations, reward_at, s
 use Rattle.std.proofs.Math.Nat.{mul-pos}
 
 -- the magnitude that the condition of exact mode takes for a reward
-pub reward_most : Model → ℕ
+unfoldable pub reward_most : Model → ℕ
 reward_most m = max (max (greatest_magnitude m.reward) m.scales.reward) 1
 
 -- each number of a list is within the greatest magnitude
@@ -41,7 +41,7 @@ unfolding reward_at
 reward_within m is a s t o = is.tables.reward_limit (((a * m.states + s) * m.states + t) * joint_observations m + o)
 
 -- a limit of all numbers is one of the greatest magnitude
-magnitude_most : (rs : List ℤ) (c : ℕ) → ((i : ℕ) → unsigned_abs (get_or rs i (pos 0)) ≤ c) → greatest_magnitude rs ≤ c
+pub magnitude_most : (rs : List ℤ) (c : ℕ) → ((i : ℕ) → unsigned_abs (get_or rs i (pos 0)) ≤ c) → greatest_magnitude rs ≤ c
 magnitude_most [] c h = omega arith
 magnitude_most (r ∷ rs) c h = let here : unsigned_abs r ≤ c = h 0 in let rest = magnitude_most rs c (λ i. h (suc i)) in omega arith
 
