@@ -1,5 +1,5 @@
 -- the joint actions that agree with a well-formed front's choices: there is one, and choosing leaves no new one
-use Rattle.std.proofs.Common.{◌≡◌, inl, inr, ℕ, zero, suc, ◌*◌, ◌<◌, Bool, true, false, cond, ℤ, ◌≤ℤ◌, List, [], ◌∷◌, length, get_or, set, filter, Option, Some, None, refl, sym, ap, ◌∙◌, arith}
+use Rattle.std.proofs.Common.{◌≡◌, inl, inr, ℕ, zero, suc, ◌<◌, true, List, [], ◌∷◌, get_or, set, Option, Some, None, refl, sym, ap, ◌∙◌, arith}
 use Rattle.std.specs.Prelude.{unwrap_or}
 use Rattle.std.specs.Cmp.Derive.{both_true}
 use Rattle.std.proofs.lemmas.Bool.Decides.{nat_tests}
@@ -9,12 +9,11 @@ use Rattle.dp_spec.specs.Front.{AgentFront, Front, class_counts}
 use Rattle.dp_spec.specs.JointNumbers.{joint_number, parts_of, product}
 use Rattle.dp_spec.specs.Model.{IsModel, Model, joint_actions}
 use Rattle.dp_spec.specs.Steps.{IsUnassigned, with_choice}
-use Rattle.dp_spec.specs.Sums.{greatest, numbers_below}
+use Rattle.dp_spec.specs.Sums.{numbers_below}
 use Rattle.dp_spec.specs.WellFormed.{AreAgentFronts, IsFront}
 use Rattle.dp_spec.specs.WellFormed.AreAgentFronts.{and_agent, no_agents}
 use Rattle.dp_spec.proofs.JointNumberLaws.{AreBelow, joint_number_below, parts_below, parts_of-joint_number, positive_left, positive_right}
 use Rattle.dp_laws.proofs.Members.{IsIn, IsIn-below, IsIn-filter}
-use Rattle.dp_laws.proofs.GreatestValues.{le_greatest}
 use Rattle.std.proofs.lemmas.Bool.{and_parts, cases_eq}
 
 -- ---- the chosen actions

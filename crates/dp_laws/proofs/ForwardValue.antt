@@ -1,7 +1,6 @@
 -- Forward is backward: a value is what was earned and what remains.
-use Rattle.std.proofs.Common.{◌≡◌, ℕ, zero, suc, ◌+◌, ◌<◌, ℤ, pos, ◌+ℤ◌, ◌*ℤ◌, List, [], ◌∷◌, refl, sym, ap, ◌∙◌, arith}
+use Rattle.std.proofs.Common.{◌≡◌, ℕ, zero, suc, ◌+◌, ◌<◌, pos, ◌+ℤ◌, ◌*ℤ◌, List, ◌∷◌, sym, ap, ◌∙◌, arith}
 use Rattle.std.proofs.Math.IntN.{+ℤ_idl, +ℤ_assoc}
-use Rattle.dp_laws.proofs.Sums.{int_sum_ext, int_sum_add, int_sum_swap}
 use Rattle.dp_laws.proofs.OneStep.{one_step}
 use Rattle.dp_spec.specs.JointHistory.{IsJointHistory, earned_reward, history_weight, int_history_sum, trees_after_history}
 use Rattle.dp_spec.specs.LookAhead.{weighted_reward, weights_after}

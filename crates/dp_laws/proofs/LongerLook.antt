@@ -1,8 +1,6 @@
 -- more look never raises the look-ahead
-use Rattle.std.proofs.Common.{◌≡◌, inl, inr, ℕ, zero, suc, ◌+◌, ◌-◌, ◌<◌, ◌≤◌, ℤ, pos, ◌*ℤ◌, ◌≤ℤ◌, List, [], ◌∷◌, length, refl, subst, arith}
-use Rattle.std.specs.Int.{int_max}
-use Rattle.std.proofs.lemmas.Int.{ints, clamps}
-use Rattle.dp_laws.proofs.Order.{add_le_right, max_le}
+use Rattle.std.proofs.Common.{◌≡◌, ℕ, zero, suc, ◌+◌, ◌-◌, ◌≤◌, pos, ◌*ℤ◌, ◌≤ℤ◌, List, refl, subst, arith}
+use Rattle.dp_laws.proofs.Order.{add_le_right}
 use Rattle.dp_laws.proofs.Ring.{zle_trans, zle_of}
 use Rattle.dp_laws.proofs.Sums.{int_sum_le}
 use Rattle.dp_laws.proofs.TableBound.{look_ahead_le_table}
@@ -10,7 +8,7 @@ use Rattle.dp_laws.proofs.OneStep.{value_le_action_look_ahead}
 use Rattle.dp_spec.specs.LookAhead.{action_look_ahead, look_ahead, weighted_reward, weights_after}
 use Rattle.dp_spec.specs.Model.{IsModel, Model, joint_actions, joint_observations}
 use Rattle.dp_spec.specs.PolicyTree.{IsPolicyOf, PolicyTree}
-use Rattle.dp_spec.specs.Sums.{greatest, int_sum, numbers_below}
+use Rattle.dp_spec.specs.Sums.{int_sum, numbers_below}
 use Rattle.dp_spec.specs.Value.{backward_value, joint_root_action}
 use Rattle.dp_laws.proofs.GreatestValues.{greatest_mono}
 

@@ -16,7 +16,7 @@ use Rattle.dp_spec.specs.Calls.{outward_calls}
 use Rattle.dp_spec.specs.Front.{Front, class_counts, fixed_joint_action}
 use Rattle.dp_spec.specs.JointHistory.{IsJointHistory, nat_history_sum}
 use Rattle.dp_spec.specs.JointNumbers.{product}
-use Rattle.dp_spec.specs.Model.{IsModel, Model, joint_observations, obs_at, start_at}
+use Rattle.dp_spec.specs.Model.{IsModel, Model, joint_observations}
 use Rattle.dp_spec.specs.PolicyTree.{IsPolicyOf, PolicyTree}
 use Rattle.dp_spec.specs.Quantities.{action_look_ahead_in, class_weight_in, history_weight_in, weights_after_in}
 use Rattle.dp_spec.specs.Sizes.{AreWeights, reward_size, weight_limit}

@@ -1,10 +1,10 @@
 -- Own histories, joint numbers, and what remains of trees after them.
 use Rattle.std.proofs.Common.{◌≡◌, ℕ, zero, suc, ◌+◌, ◌*◌, ◌/◌, ◌%◌, ◌^◌, ◌<◌, List, [], ◌∷◌, map, refl, ap, arith}
-use Rattle.std.proofs.lemmas.Nat.{mod-mul-add, div-mul-add, mod_below}
+use Rattle.std.proofs.lemmas.Nat.{mod-mul-add, div-mul-add}
 use Rattle.std.proofs.Math.Nat.{pow-suc, pow-zero}
 use Rattle.dp_spec.specs.Front.{AgentFront, next_own_histories, own_histories}
 use Rattle.dp_spec.specs.JointHistory.{IsJointHistory}
-use Rattle.dp_spec.specs.JointNumbers.{joint_number, parts_of, product}
+use Rattle.dp_spec.specs.JointNumbers.{product}
 use Rattle.dp_spec.specs.Keeping.{tree_at}
 use Rattle.dp_laws.specs.Following.{FollowsAgentFronts}
 use Rattle.dp_laws.proofs.Keeping.{keep_agents}
@@ -12,7 +12,7 @@ use Rattle.dp_spec.specs.Keeping.{KeepAgentFronts}
 use Rattle.dp_spec.specs.Keeping.KeepAgentFronts.{and_agent as and_keeps, no_agents as none_keep}
 use Rattle.dp_spec.specs.PolicyTree.{PolicyTree}
 use Rattle.dp_spec.specs.Value.{subtrees_at}
-use Rattle.dp_spec.proofs.JointNumberLaws.{AreBelow, part_below, parts_below, positive_right, row_below}
+use Rattle.dp_spec.proofs.JointNumberLaws.{AreBelow, parts_below, row_below}
 
 -- each own history of length t is below the power
 abbrev pub Within : List ℕ → ℕ → List ℕ → Type 0

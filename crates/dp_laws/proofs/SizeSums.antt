@@ -1,13 +1,13 @@
 -- Magnitudes of sums: no part of a sum and no order of adding is larger than the magnitudes of all parts together.
-use Rattle.std.proofs.Common.{◌≡◌, ◌⊎◌, inl, inr, ℕ, zero, suc, ◌+◌, ◌-◌, ◌*◌, ◌<◌, ◌≤◌, ℤ, ◌+ℤ◌, unsigned_abs, List, [], ◌∷◌, refl, arith}
+use Rattle.std.proofs.Common.{ℕ, zero, suc, ◌+◌, ◌-◌, ◌<◌, ◌≤◌, ℤ, ◌+ℤ◌, unsigned_abs, List, ◌∷◌, arith}
 use Rattle.std.proofs.lemmas.Int.{ints, clamps}
-use Rattle.std.specs.Int.{int_max, int_min}
+use Rattle.std.specs.Int.{int_min}
 use Rattle.dp_spec.specs.declared.span.Span.{Span}
 use Rattle.dp_spec.specs.Arithmetic.{Arithmetic, span_add}
 use Rattle.dp_spec.specs.Bound.{agreeing_actions}
 use Rattle.dp_spec.specs.Calls.{size}
 use Rattle.dp_spec.specs.Front.{Front}
-use Rattle.dp_spec.specs.JointHistory.{IsJointHistory, nat_history_sum}
+use Rattle.dp_spec.specs.JointHistory.{nat_history_sum}
 use Rattle.dp_spec.specs.Model.{Model, joint_actions, joint_observations, obs_at, reward_at, trans_at}
 use Rattle.dp_spec.specs.Quantities.{action_look_ahead_in, earned_reward_in, look_ahead_in, history_weight_in, mdp_table_in, span_history_sum, span_sum, weighted_reward_in, weights_after_in, recursive_worth_in}
 use Rattle.dp_spec.specs.Sizes.{reward_size}
@@ -16,7 +16,7 @@ use Rattle.dp_spec.specs.SizesOfEarnings.{earned_size, worth_size}
 use Rattle.dp_spec.specs.Value.{joint_root_action, trees_after}
 use Rattle.dp_spec.specs.SizesOfLookAhead.{next_look_size}
 use Rattle.dp_spec.specs.SizesOfTable.{table_later_size, table_reward_size}
-use Rattle.dp_spec.specs.Sums.{greatest, int_sum, nat_sum, numbers_below}
+use Rattle.dp_spec.specs.Sums.{int_sum, nat_sum, numbers_below}
 use Rattle.dp_laws.proofs.Members.{IsIn, below-IsIn, filter-IsIn}
 use Rattle.dp_spec.proofs.NaturalSumLaws.{nat_sum_at, nat_sum_le, nat_sum_part}
 use Rattle.dp_laws.proofs.HistorySums.{nat_history_sum_le}

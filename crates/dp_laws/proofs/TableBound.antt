@@ -1,14 +1,14 @@
 -- A longer look is no higher than the table.
-use Rattle.std.proofs.Common.{ℕ, zero, suc, ◌<◌, ℤ, pos, ◌+ℤ◌, ◌*ℤ◌, ◌≤ℤ◌, refl, sym, ◌∙◌, arith}
+use Rattle.std.proofs.Common.{ℕ, zero, suc, ◌<◌, pos, ◌+ℤ◌, ◌*ℤ◌, ◌≤ℤ◌, refl, sym, ◌∙◌, arith}
 use Rattle.std.proofs.lemmas.Int.{ints}
-use Rattle.dp_laws.proofs.Order.{add_le_right, max_le}
+use Rattle.dp_laws.proofs.Order.{add_le_right}
 use Rattle.dp_laws.proofs.Ring.{zle_trans, zle_of, zmul_le}
 use Rattle.dp_laws.proofs.Sums.{int_sum_le, int_sum_weigh}
 use Rattle.dp_laws.proofs.OneStep.{one_step_to, step_le_table}
 use Rattle.dp_spec.specs.LookAhead.{look_ahead, weighted_reward, weights_after}
 use Rattle.dp_spec.specs.MdpTable.{mdp_table}
 use Rattle.dp_spec.specs.Model.{IsModel, Model, joint_actions, joint_observations}
-use Rattle.dp_spec.specs.Sums.{greatest, int_sum, numbers_below}
+use Rattle.dp_spec.specs.Sums.{int_sum}
 use Rattle.dp_laws.proofs.GreatestValues.{greatest_below_at_most}
 
 -- one joint action, where what comes after is at most the table

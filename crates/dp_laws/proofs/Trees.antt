@@ -1,6 +1,5 @@
 -- Parts of policy trees and of joint policies.
-use Rattle.std.proofs.Common.{ℕ, zero, suc, ◌+◌, ◌*◌, ◌/◌, ◌%◌, ◌<◌, List, map, arith}
-use Rattle.std.proofs.Math.Nat.{div-lt_iff_lt-mul, mul-le-mul_right}
+use Rattle.std.proofs.Common.{ℕ, zero, suc, ◌%◌, ◌<◌, List, map, arith}
 use Rattle.std.proofs.lemmas.Nat.{mod_below}
 use Rattle.dp_spec.specs.JointNumbers.{joint_number, parts_of, product}
 use Rattle.dp_spec.specs.PolicyTree.IsJointPolicy.{and_agent, no_agents}
