@@ -5,7 +5,7 @@ use Rattle.std.proofs.Math.Nat.{le-mul_of_pos_right, mul-le-mul_left, pow-le-pow
 use Rattle.std.proofs.lemmas.List.{length-replicate, get_or-replicate}
 use Rattle.std.proofs.lemmas.Bool.{eqb-true}
 use Rattle.dp_spec.specs.Model as spec
-use Rattle.dp_spec.specs.Model.{Model, IsModel, AreRows, AreScales, AreSizes, AreTables, joint_actions, joint_observations, start_at}
+use Rattle.dp_spec.specs.Model.{IsModel, AreRows, AreScales, AreSizes, AreTables, joint_actions, joint_observations, start_at}
 use Rattle.dp_spec.specs.Sums.{nat_sum}
 use Rattle.dp_model.specs.Names.{names_of}
 use Rattle.dp_model.specs.Tables.{AreNamesOf, NamesAllOrNone}

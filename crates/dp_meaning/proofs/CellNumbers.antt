@@ -1,6 +1,6 @@
 -- Cells and rows by their numbers.
-use Rattle.std.proofs.Common.{◌≡◌, ℕ, ◌+◌, ◌*◌, ◌%◌, ◌<◌, List, [], ◌∷◌, refl, ap, ◌∙◌, arith}
-use Rattle.dp_spec.specs.JointNumbers.{product, joint_number, parts_of}
+use Rattle.std.proofs.Common.{◌≡◌, ℕ, ◌+◌, ◌*◌, ◌<◌, [], ◌∷◌, ap, ◌∙◌, arith}
+use Rattle.dp_spec.specs.JointNumbers.{joint_number, parts_of}
 use Rattle.dp_spec.proofs.JointNumberLaws.{parts_of-joint_number, row_below}
 
 row_number : (actions states a s : ℕ) → a * states + s ≡ joint_number (actions ∷ states ∷ []) (a ∷ s ∷ [])

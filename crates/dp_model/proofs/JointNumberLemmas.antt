@@ -4,13 +4,9 @@ use Rattle.std.proofs.lemmas.Grind.{get_or-set_at}
 use Rattle.std.proofs.lemmas.List.{get_or-set_other}
 use Rattle.std.proofs.lemmas.Bool.{eqb-true, eqb-false}
 use Rattle.std.proofs.lemmas.List.{length-set}
-use Rattle.std.proofs.Common.{◌≢◌, Bool, true, false, ◌≡◌, ℕ, zero, suc, ◌+◌, ◌*◌, ◌/◌, ◌%◌, ◌<◌, ◌≤◌, List, [], ◌∷◌, length, get_or, drop, refl, sym, ap, ◌∙◌, arith}
-use Rattle.std.proofs.lemmas.Nat.{mod-mul-add, div-mul-add, mod_below, mul-add-lt}
-use Rattle.std.proofs.Math.Nat.{mod-eq_of_lt, div-add-mod, mod-mod_of_dvd, le-mul_of_pos_right, dvd-mul_left, mul_comm}
-use Rattle.std.proofs.lemmas.Nat.Gcd.{dvd_refl, dvd_trans}
-use Rattle.std.proofs.Math.Seq.{drop-cons}
-use Rattle.std.specs.Int.{◌∣◌}
-use Rattle.dp_spec.specs.JointNumbers.{joint_number, product}
+use Rattle.std.proofs.Common.{◌≢◌, Bool, true, false, ◌≡◌, ℕ, suc, ◌*◌, ◌<◌, ◌≤◌, List, length, get_or, drop, refl, sym, ap, ◌∙◌, arith}
+use Rattle.std.proofs.Math.Nat.{mul_comm}
+use Rattle.dp_spec.specs.JointNumbers.{product}
 use Rattle.dp_model.specs.Parts.{AreParts, AreSteps}
 use Rattle.dp_spec.proofs.JointNumberLaws.{AreBelow, below_each, product-drop}
 

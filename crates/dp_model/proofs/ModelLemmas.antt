@@ -1,8 +1,7 @@
 -- What follows of the numbers of a model.
-use Rattle.std.proofs.Common.{◌≡◌, ℕ, zero, suc, ◌+◌, ◌*◌, ◌^◌, ◌<◌, ◌≤◌, pos, unsigned_abs, get_or, length, arith}
+use Rattle.std.proofs.Common.{ℕ, ◌+◌, ◌*◌, ◌^◌, ◌<◌, ◌≤◌, pos, unsigned_abs, get_or, length, arith}
 use Rattle.std.proofs.Math.Nat.{pow-le-pow_right}
-use Rattle.dp_spec.specs.Sums.{nat_sum}
-use Rattle.dp_spec.specs.Model.{IsModel, Model, joint_actions, joint_observations, obs_at, start_at}
+use Rattle.dp_spec.specs.Model.{IsModel, Model, joint_actions, joint_observations}
 use Rattle.dp_spec.proofs.JointNumberLaws.{row_below}
 
 -- the place of a cell is within its table

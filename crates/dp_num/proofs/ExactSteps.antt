@@ -3,14 +3,14 @@ use Rattle.std.proofs.Common.{◌≡◌, ℕ, zero, suc, ◌+◌, ◌*◌, ◌^�
 use Rattle.std.proofs.lemmas.Grind.{common_steps}
 use Rattle.std.proofs.lemmas.Int.{fits_signed_from_abs, to_z-of_z, to_z_pos, unsigned_abs-mul}
 use Rattle.std.proofs.lemmas.Nat.{mul-mod}
-use Rattle.std.proofs.Math.Nat.{le-mul_of_pos_right, mod-eq_of_lt, mul-le-mul_left, mul-pos, pow-le-pow_left, pow-suc, pow-zero}
+use Rattle.std.proofs.Math.Nat.{le-mul_of_pos_right, mod-eq_of_lt, mul-pos, pow-le-pow_left, pow-suc, pow-zero}
 use Rattle.std.proofs.Math.Pow.{pow_mono}
 use mir.Syntax.{w128}
 use mir.Val.{SFits}
 use Rattle.dp_spec.specs.declared.scales.Scales.{Scales}
 use Rattle.dp_spec.specs.Arithmetic.{reward_factor}
 use Rattle.dp_spec.specs.Calls.{AreInRange}
-use Rattle.dp_laws.proofs.Ring.{by_ring, v, zmul_assoc, ◌⊗◌}
+use Rattle.dp_laws.proofs.Ring.{zmul_assoc}
 use Rattle.dp_num.specs.RewardFactors.{HoldsFactors}
 
 -- with no step left it is the scale of the discount

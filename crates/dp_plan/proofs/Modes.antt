@@ -1,5 +1,5 @@
 -- The limits and the mode of a horizon of one step.
-use Rattle.std.proofs.Common.{◌≡◌, true, ℕ, suc, ◌*◌, ◌^◌, ◌≤◌, max, ℤ, pos, List, [], ◌∷◌, length, get_or, unsigned_abs, refl, sym, ◌∙◌, subst, arith}
+use Rattle.std.proofs.Common.{◌≡◌, true, ℕ, ◌*◌, ◌^◌, ◌≤◌, max, List, [], ◌∷◌, length, refl, sym, ◌∙◌, subst, arith}
 use Rattle.std.proofs.lemmas.Bool.{le-leb}
 use Rattle.std.proofs.Math.Nat.{pow-zero, pow-suc, mul-le-mul}
 use Rattle.dp_spec.specs.Mode.{IsWithin, greatest_magnitude, is_exact_mode, own_history_count}

@@ -1,10 +1,10 @@
 -- Weights of a mode are pushable in the arithmetic of the mode.
-use Rattle.std.proofs.Common.{◌≡◌, ℕ, ◌<◌, ◌≤◌, Bool, true, false, refl, sym, subst, ◌∙◌, arith}
+use Rattle.std.proofs.Common.{◌≡◌, ℕ, ◌<◌, ◌≤◌, Bool, sym, subst, ◌∙◌, arith}
 use Rattle.dp_spec.specs.declared.span.Span.{Span}
 use Rattle.dp_spec.specs.declared.scales.Scales.{Scales}
 use Rattle.dp_spec.specs.Model.{IsModel, Model}
 use Rattle.dp_spec.specs.Mode.{is_exact_mode}
-use Rattle.dp_spec.specs.Arithmetic.{arithmetic, exact, outward}
+use Rattle.dp_spec.specs.Arithmetic.{arithmetic}
 use Rattle.dp_spec.specs.Calls.{calls_in}
 use Rattle.dp_spec.specs.Sizes.{AreWeights, CanPush}
 use Rattle.dp_laws.proofs.SizeLaws.{arithmetic_is_exact, mode_can_push}

@@ -1,4 +1,4 @@
-use Rattle.std.proofs.Common.{◌<◌, ◌*◌, ℕ, length, sym, subst}
+use Rattle.std.proofs.Common.{◌<◌, ℕ, sym, subst}
 use Rattle.dp_cli.specs.PlainViews.{names_of}
 use Rattle.std.proofs.Math.Nat.{mul-pos}
 use Rattle.dp_cli.proofs.plain.text.reward_cells.Goals as goal
