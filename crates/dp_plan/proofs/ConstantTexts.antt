@@ -1,5 +1,5 @@
 -- The text of the certificate of a constant policy over one step, part by part.
-use Rattle.std.proofs.Common.{◌≡◌, true, ℕ, suc, ◌+◌, ◌<◌, ℤ, pos, List, [], ◌∷◌, ◌++◌, codes, length, drop, get_or, refl, sym, ap, ◌∙◌, append_assoc, append-nil, add-one, arith}
+use Rattle.std.proofs.Common.{◌≡◌, true, ℕ, ◌+◌, ◌<◌, ℤ, pos, List, [], ◌∷◌, ◌++◌, codes, length, drop, get_or, refl, sym, ap, ◌∙◌, append_assoc, append-nil, add-one, arith}
 use Rattle.std.proofs.Math.Nat.{pow-zero}
 use Rattle.std.proofs.Math.Seq.{drop-cons, drop-length}
 use Rattle.std.proofs.lemmas.Fmt.{decimal_digit}
@@ -16,11 +16,7 @@ use Rattle.dp_spec.specs.TextLines.{Line, fixed, fixed_line, text_of_lines}
 use Rattle.dp_plan.specs.BestConstant.{constant_value}
 use Rattle.dp_plan.specs.ConstantCertificate.{constant_certificate}
 use Rattle.dp_plan.specs.ConstantPolicyText.{agent_text, agents_text, head_text, tree_text}
-
--- one part for each agent
-pub length-parts_of : (ns : List ℕ) (x : ℕ) → length (parts_of ns x) ≡ length ns
-length-parts_of [] x = refl
-length-parts_of (n ∷ ns) x = ap suc (length-parts_of ns _)
+use Rattle.dp_spec.proofs.JointNumberLaws.{length-parts_of}
 
 -- ---- one agent after the other
 
