@@ -1,20 +1,20 @@
 -- Counts of histories, and the mode of a horizon.
 use Rattle.std.proofs.Common.{◌≡◌, ℕ, zero, suc, ◌+◌, ◌-◌, ◌*◌, ◌^◌, ◌<◌, ◌≤◌, Bool, true, false, max, pos, to_z, List, [], ◌∷◌, length, get_or, add-one, refl, ap, subst, ◌∙◌, arith}
 use Rattle.std.specs.Prelude.{Option, SomeIff}
-use Rattle.std.proofs.Math.Nat.{le-mul_of_pos_right, mul-le-mul, mul-le-mul_left, pow-le-pow_left, pow-le-pow_right, pow-suc, pow-zero}
+use Rattle.std.proofs.Math.Nat.{le-mul_of_pos_right, mul-le-mul, mul-le-mul_left, mul-pos, pow-le-pow_left, pow-le-pow_right, pow-suc, pow-zero}
 use Rattle.std.proofs.lemmas.Bool.{le-leb, leb-true}
 use Rattle.std.proofs.lemmas.Int.{to_z_pos}
 use Rattle.std.proofs.lemmas.Nat.{mul-pow}
 use mir.Syntax.{w128}
 use Rattle.dp_laws.proofs.ModeCondition.{step_scale_some}
-use Rattle.dp_laws.proofs.Scales.{product_positive, scale_of_next, step_scale_is}
+use Rattle.dp_laws.proofs.Scales.{scale_of_next, step_scale_is}
 use Rattle.dp_spec.specs.declared.scales.Scales.{Scales}
 use Rattle.dp_spec.specs.JointNumbers.{product}
 use Rattle.dp_spec.specs.Mode.{greatest_magnitude, is_exact_mode, own_history_count, unit_of}
 use Rattle.dp_spec.specs.Model.{IsModel, Model, joint_observations, step_scale, value_scale}
 use Rattle.dp_model.specs.Horizons.{fit_of}
-use Rattle.dp_model.proofs.JointNumberLemmas.{product-drop, product-drop_above, product-drop_le}
-use Rattle.dp_model.proofs.ModelLemmas.{some_joint_observation}
+use Rattle.dp_spec.proofs.JointNumberLaws.{product-drop, product-drop_above, product-drop_le}
+use Rattle.dp_spec.proofs.ModelLaws.{some_joint_observation}
 
 -- ---- counts of histories
 -- an agent has at most as many observations as there are joint ones
@@ -69,7 +69,7 @@ grown a b c n some e le = let more = le-mul_of_pos_right a some in omega arith
 -- three factors of at least 1, one after the other: where a product passes, the whole does
 pub first_passes : (x a b d a' n : ℕ) → 0 < b → 0 < d → a' ≡ a → (x * a' ≤ n → ⊥) → x * (a * b * d) ≤ n → ⊥
 first_passes x a b d a' n some_b some_d same passes le =
-    passes (rw same (grown (x * a) (b * d) _ n (product_positive b d some_b some_d) (omega arith) le))
+    passes (rw same (grown (x * a) (b * d) _ n (mul-pos some_b some_d) (omega arith) le))
 
 pub second_passes : (x a b d a' b' p n : ℕ) → 0 < d → a' ≡ a → b' ≡ b → p ≡ x * a' → (p * b' ≤ n → ⊥)
     → x * (a * b * d) ≤ n → ⊥
