@@ -1,5 +1,10 @@
-//! Tables of rows that cross crates: whole calls over a shelf and a sink in memory.
+//! Tables of rows that cross crates: whole calls over a shelf and a sink in memory, and models that
+//! are read.
 #![tactic(auto)]
 
 #[cfg(test)]
-mod plan;
+mod calls;
+#[cfg(test)]
+mod files;
+#[cfg(test)]
+mod models;

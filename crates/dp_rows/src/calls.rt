@@ -1,0 +1,204 @@
+use crate::files::{ONE_STATE, SOLO_CHANCES, SOLO_LISTS, SOLO_REWARDS, TIGER, TINY, solo_with, text_of};
+use dp_cli::{Status, run};
+use dp_io::{MemShelf, MemSink};
+use dp_num::Memory;
+use std::alloc::Global;
+use std::test::Fail;
+
+// The certificates of one step. Those of one agent differ in their unit, their ends and their action.
+const TIGER_PLAN: &str = "decplan certificate 1\n\
+horizon 1\n\
+look 1\n\
+mode exact\n\
+unit 40000\n\
+lower -80000\n\
+upper -80000\n\
+inner 0\n\
+policy\n\
+agent 0\n\
+0\n\
+agent 1\n\
+0\n\
+tree\n\
+L -80000\n\
+end\n";
+
+const TINY_PLAN: &str = "decplan certificate 1\n\
+horizon 1\n\
+look 1\n\
+mode exact\n\
+unit 200\n\
+lower 200\n\
+upper 200\n\
+inner 0\n\
+policy\n\
+agent 0\n\
+1\n\
+tree\n\
+L 200\n\
+end\n";
+
+const SOLO_PLAN: &str = "decplan certificate 1\n\
+horizon 1\n\
+look 1\n\
+mode exact\n\
+unit 1\n\
+lower 3\n\
+upper 3\n\
+inner 0\n\
+policy\n\
+agent 0\n\
+1\n\
+tree\n\
+L 3\n\
+end\n";
+
+const COSTS_PLAN: &str = "decplan certificate 1\n\
+horizon 1\n\
+look 1\n\
+mode exact\n\
+unit 1\n\
+lower -1\n\
+upper -1\n\
+inner 0\n\
+policy\n\
+agent 0\n\
+0\n\
+tree\n\
+L -1\n\
+end\n";
+
+// A plan over a shelf in memory that holds the pieces of a file as `model`, and over a sink in
+// memory: the status that it ends with, and what it puts.
+#[derive(Drop)]
+struct Row<'a> {
+    file: &'a [&'a str],
+    horizon: &'a str,
+    status: Status,
+    put: &'a str,
+}
+
+fn row<'a>(file: &'a [&'a str], horizon: &'a str, status: Status, put: &'a str) -> Row<'a> {
+    Row {
+        file,
+        horizon,
+        status,
+        put,
+    }
+}
+
+fn is_kept(alloc: Global, row: &Row) -> Result<bool, Memory> {
+    let mut words = Vec::new(alloc);
+    for word in ["plan", "model", "--horizon", row.horizon] {
+        words.push(String::from_str(alloc, word)?)?;
+    }
+    let file = text_of(alloc, row.file)?;
+    let mut shelf = MemShelf::new(alloc)?;
+    shelf.hold(alloc, "model", file.as_bytes())?;
+    let mut sink = MemSink::new(alloc, 400)?;
+    let status = run(alloc, &words, &mut shelf, &mut sink);
+    Ok(status == row.status && sink.bytes() == row.put.as_bytes())
+}
+
+#[test]
+fn plans_over_one_step(rt: HostRuntime) -> Result<(), Fail> {
+    let costs = [
+        "agents: 1\ndiscount: 1\nvalues: cost\n",
+        ONE_STATE,
+        SOLO_LISTS,
+        SOLO_CHANCES,
+        SOLO_REWARDS,
+    ];
+    let solo = solo_with(ONE_STATE, SOLO_CHANCES);
+    for row in [
+        row(&TINY, "1", Status::Done, TINY_PLAN),
+        row(&TIGER, "1", Status::Done, TIGER_PLAN),
+        row(&solo, "1", Status::Done, SOLO_PLAN),
+        row(&costs, "1", Status::Done, COSTS_PLAN),
+    ] {
+        assert!(rt; is_kept(rt.alloc(), &row)?, "{:?}", row.put);
+    }
+    Ok(())
+}
+
+#[test]
+fn limits_and_parts_that_are_not_built(rt: HostRuntime) -> Result<(), Fail> {
+    let outward = solo_with(
+        "states: 2\nstart: 0.9999999999999999 0.0000000000000001\n",
+        "T: * : uniform\n\
+T: 0 : 0 : 0.9999999999999999 0.0000000000000001\n\
+O: * : uniform\n\
+O: 0 : 0 : 0.9999999999999999\n",
+    );
+    for row in [
+        row(&TIGER, "0", Status::Usage, "refused usage\n"),
+        row(&TIGER, "11", Status::TooLarge, "refused large own-histories 4094\n"),
+        row(&TIGER, "17", Status::TooLarge, "refused large horizon 17\n"),
+        row(&TIGER, "10", Status::Unbuilt, "refused unbuilt horizon\n"),
+        row(&TINY, "2", Status::Unbuilt, "refused unbuilt horizon\n"),
+        row(&outward, "1", Status::Unbuilt, "refused unbuilt outward\n"),
+    ] {
+        assert!(rt; is_kept(rt.alloc(), &row)?, "{:?}", row.put);
+    }
+    Ok(())
+}
+
+#[test]
+fn faults_of_models(rt: HostRuntime) -> Result<(), Fail> {
+    let no_states = ["agents: 1\ndiscount: 1\nvalues: reward\nstates:"];
+    let same_states = ["agents: 1\ndiscount: 1\nvalues: reward\nstates: a a"];
+    let short_row = solo_with("states: 3\nstart: 0.332 0.332 0.332\n", SOLO_CHANCES);
+    for (file, put) in [
+        (&[""][..], "refused model line 1 column 1 header\n"),
+        (&no_states, "refused model line 4 column 8 expected\n"),
+        (&same_states, "refused model line 4 column 11 double-name\n"),
+        (&short_row, "refused model line 5 column 8 row-sum\n"),
+    ] {
+        let row = row(file, "1", Status::BadModel, put);
+        assert!(rt; is_kept(rt.alloc(), &row)?, "{:?}", row.put);
+    }
+    Ok(())
+}
+
+// Each call over a shelf whose first fetch fails, or over a sink whose put fails after five bytes.
+#[test]
+fn calls_that_the_outside_fails(rt: HostRuntime) -> Result<(), Fail> {
+    let alloc = rt.alloc();
+    for (fails_to_fetch, option, status, put) in [
+        (true, "--horizon", Status::ReadFault, "refused read 1\n"),
+        (false, "--horizon", Status::WriteFault, "decpl"),
+        (false, "--horizons", Status::WriteFault, "refus"),
+    ] {
+        let mut words = Vec::new(alloc);
+        for word in ["plan", "model", option, "1"] {
+            words.push(String::from_str(alloc, word)?)?;
+        }
+        let mut shelf = MemShelf::new(alloc)?;
+        shelf.hold(alloc, "model", text_of(alloc, &TINY)?.as_bytes())?;
+        let mut sink = MemSink::new(alloc, 400)?;
+        if fails_to_fetch {
+            shelf.fail_at(alloc, 0)?;
+        } else {
+            sink.fail_at(0, 5);
+        }
+        assert_eq!(rt; run(alloc, &words, &mut shelf, &mut sink), status);
+        assert!(rt; sink.bytes() == put.as_bytes(), "{put:?}");
+    }
+    Ok(())
+}
+
+// A model of one byte too many.
+#[test]
+fn a_model_that_is_too_long(rt: HostRuntime) -> Result<(), Fail> {
+    let alloc = rt.alloc();
+    let mut words = Vec::new(alloc);
+    for word in ["plan", "model", "--horizon", "1"] {
+        words.push(String::from_str(alloc, word)?)?;
+    }
+    let mut shelf = MemShelf::new(alloc)?;
+    shelf.hold(alloc, "model", &vec![in alloc; b' '; 67_108_865]?)?;
+    let mut sink = MemSink::new(alloc, 400)?;
+    assert_eq!(rt; run(alloc, &words, &mut shelf, &mut sink), Status::TooLarge);
+    assert!(rt; sink.bytes() == b"refused large model-bytes 67108865\n");
+    Ok(())
+}

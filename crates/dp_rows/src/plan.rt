@@ -1,2 +1,0 @@
-// The command `plan`.
-mod one_step;
