@@ -1,5 +1,5 @@
 -- Plain facts that follow from how a job goes on.
-use Rattle.std.proofs.Common.{◌≡◌, ◌≢◌, ◌<◌, ◌↔◌, ℕ, ◌+◌, List, [], ◌∷◌, ◌++◌, length, drop, cond, Option, Some, None, Result, Ok, Err, ⊎_elim, refl, sym, ap, ◌∙◌, arith, append_assoc, append-nil}
+use Rattle.std.proofs.Common.{◌≡◌, ◌≢◌, ◌<◌, ◌↔◌, ℕ, ◌+◌, List, [], ◌∷◌, ◌++◌, length, drop, cond, Option, Some, None, Result, Ok, Err, ⊎_elim, refl, sym, subst, ap, ◌∙◌, arith, append_assoc, append-nil}
 use Rattle.std.proofs.lemmas.List.Sums.{sum_by-append}
 use Rattle.dp_io.specs.declared.shelf.Ending.TheVariants.{Failed}
 use Rattle.dp_io.specs.declared.shelf.FetchFault.{FetchFault}
@@ -19,7 +19,7 @@ use Rattle.dp_meaning.specs.Meaning.{meaning}
 use Rattle.dp_cli.specs.Put.{status_after}
 use Rattle.dp_cli.specs.Run.{IsAnswerToFault, Answers, Runs}
 use Rattle.dp_cli.specs.Causes.{LogsFirstOf, LastFailed}
-use Rattle.dp_cli.proofs.Planning.{plan_status}
+use Rattle.dp_cli.proofs.Planning.{no_read_fault, no_usage, plan_status}
 
 -- a job leaves what the shelf holds, and which fetches fail
 pub contents_unchanged : {job : Option Job} {texts : List (List ℕ)} {old new : ShelfView} {answer : Answer} → Answers job texts old new answer
@@ -84,7 +84,7 @@ logs_files answers = logs_left answers
 reply_status : (job : Option Job) (texts : List (List ℕ)) (answer : Answer) → IsReply job texts answer → answer.status ≢ ReadFault
 reply_status None texts answer h = λ e. cc
 reply_status (Some (Plan model horizon nodes look merge order)) [] answer h = absurd h
-reply_status (Some (Plan model horizon nodes look merge order)) (text ∷ []) answer h = plan_status horizon (meaning text) answer h
+reply_status (Some (Plan model horizon nodes look merge order)) (text ∷ []) answer h = plan_status horizon (meaning text) answer ReadFault h no_read_fault
 reply_status (Some (Plan model horizon nodes look merge order)) (text ∷ next ∷ texts) answer h = absurd h
 
 later_failed : {old between new : List Entry} (entry : Entry) → between ≡ old ++ entry ∷ [] → LastFailed between new → LastFailed old new
@@ -151,3 +151,53 @@ pub read_fault_runs : {job : Option Job} {shelf shelf' : ShelfView} {sink sink' 
 read_fault_runs h no_fault =
     let kept = kept_status h.puts.reply _ _ h.puts.ended no_fault in
     (λ e. read_fault_failed h.answers (sym kept ∙ e), λ failed. kept ∙ failed_read_fault h.answers failed)
+
+-- ---- a fault of usage is answered exactly where the words give no job
+
+fault_no_usage : (role : FileRole) (fault : FetchFault) (answer : Answer) → IsAnswerToFault role fault answer → answer.status ≢ statuses.Usage
+fault_no_usage role faults.Failed answer why = λ e. cc
+fault_no_usage role (faults.TooLong count) answer why = λ e. ⊎_elim (λ is. cc) (λ is. cc) why
+fault_no_usage role faults.Memory answer why = λ e. cc
+
+-- a job that was given its file replies no fault of usage
+given_reply : (job : Option Job) (first : List ℕ) (texts : List (List ℕ)) (answer : Answer) → IsReply job (first ∷ texts) answer → job ≢ None
+    → answer.status ≢ statuses.Usage
+given_reply None first texts answer reply some = λ e. some refl
+given_reply (Some (Plan model horizon nodes look merge order)) first [] answer reply some =
+    plan_status horizon (meaning first) answer statuses.Usage reply no_usage
+given_reply (Some (Plan model horizon nodes look merge order)) first (next ∷ texts) answer reply some = absurd reply
+
+-- words that are answered with no file give no job
+first_reply : (job : Option Job) (answer : Answer) → IsReply job [] answer → job ≡ None
+first_reply None answer reply = refl
+first_reply (Some (Plan model horizon nodes look merge order)) answer reply = absurd reply
+
+given_no_usage : {job : Option Job} {first : List ℕ} {texts : List (List ℕ)} {old new : ShelfView} {answer : Answer} → Answers job (first ∷ texts) old new answer
+    → job ≢ None → answer.status ≢ statuses.Usage
+given_no_usage {job} {first} {texts} (Answers.replies asked reply) some = given_reply job first texts _ reply some
+given_no_usage (Answers.refuses file fault asked fetched why) some = fault_no_usage file.role fault _ why
+given_no_usage (Answers.goes_on file text asked fetched rest) some = given_no_usage rest some
+given_no_usage Answers.wants_memory some = λ e. cc
+
+asks_some : (job : Option Job) (texts : List (List ℕ)) (file : File) → asks job texts ≡ Some file → job ≢ None
+asks_some None texts file asked = λ e. cc
+asks_some (Some job) texts file asked = λ e. cc
+
+usage_no_job : {job : Option Job} {old new : ShelfView} {answer : Answer} → Answers job [] old new answer → answer.status ≡ statuses.Usage → job ≡ None
+usage_no_job {job} (Answers.replies asked reply) e = first_reply job _ reply
+usage_no_job (Answers.refuses file fault asked fetched why) e = absurd (fault_no_usage file.role fault _ why e)
+usage_no_job {job} (Answers.goes_on file text asked fetched rest) e = absurd (given_no_usage rest (asks_some job [] file asked) e)
+usage_no_job Answers.wants_memory e = cc
+
+no_job_usage : {old new : ShelfView} {answer : Answer} → Answers None [] old new answer → answer.status ≢ statuses.NoMemory → answer.status ≡ statuses.Usage
+no_job_usage (Answers.replies asked reply) some = ap (λ (a : Answer). a.status) reply
+no_job_usage (Answers.refuses file fault asked fetched why) some = absurd (asks_some None [] file asked refl)
+no_job_usage (Answers.goes_on file text asked fetched rest) some = absurd (asks_some None [] file asked refl)
+no_job_usage Answers.wants_memory some = absurd (some refl)
+
+pub usage_runs : {job : Option Job} {shelf shelf' : ShelfView} {sink sink' : SinkView} {result : Status} → Runs job shelf shelf' sink sink' result
+    → result ≢ statuses.WriteFault → result ≢ statuses.NoMemory → (result ≡ statuses.Usage) ↔ (job ≡ None)
+usage_runs {job} {shelf} {shelf'} {sink} {sink'} {result} h no_fault found =
+    let kept = kept_status h.puts.reply _ _ h.puts.ended no_fault in
+    (λ e. usage_no_job h.answers (sym kept ∙ e),
+    λ none. kept ∙ no_job_usage (subst (λ (j : Option Job). Answers j [] shelf shelf' h.answer) none h.answers) (λ e. found (kept ∙ e)))

@@ -45,22 +45,39 @@ planned horizon bytes read (Err refusals.Memory) is h = tt
 
 -- ---- the status of a plan's answer
 
-built_status : (m : Model) (is_long is_exact : Bool) (answer : Answer) → IsBuiltPlan m is_long is_exact answer → answer.status ≢ statuses.ReadFault
-built_status m true is_exact answer h = λ e. cc
-built_status m false false answer h = λ e. cc
-built_status m false true answer h = λ e. let same = h.status in cc
+-- a status that no answer of a plan has, but for want of memory
+pub record IsNoPlanStatus (status : Status) : Type 0 where
+  pub done : statuses.Done ≢ status
+  pub bad_model : statuses.BadModel ≢ status
+  pub too_large : statuses.TooLarge ≢ status
+  pub unbuilt : statuses.Unbuilt ≢ status
 
-within_status : (m : Model) (horizon : ℕ) (passed : Option TooLarge) (answer : Answer) → IsPlanWithin m horizon passed answer
-    → answer.status ≢ statuses.ReadFault
-within_status m horizon (Some passed) answer h = λ e. cc
-within_status m horizon None answer h = built_status m (nat_lt 1 horizon) (is_exact_mode m horizon) answer h
+pub no_read_fault : IsNoPlanStatus statuses.ReadFault
+no_read_fault = record { done = λ e. cc; bad_model = λ e. cc; too_large = λ e. cc; unbuilt = λ e. cc }
 
--- a plan is never answered by a read fault
-pub plan_status : (horizon : ℕ) (meant : Meaning) (answer : Answer) → IsPlanReply horizon meant answer → answer.status ≢ statuses.ReadFault
-plan_status horizon (FaultAt place why) answer h = λ e. cc
-plan_status horizon (Passes passed) answer h = λ e. cc
-plan_status horizon (Means read) answer h =
-    within_status read.model.model horizon (first_passed (horizon_limits read.model.model horizon)) answer h
+pub no_usage : IsNoPlanStatus statuses.Usage
+no_usage = record { done = λ e. cc; bad_model = λ e. cc; too_large = λ e. cc; unbuilt = λ e. cc }
+
+status_of : {answer other : Answer} → answer ≡ other → answer.status ≡ other.status
+status_of e = ap (λ (a : Answer). a.status) e
+
+built_status : (m : Model) (is_long is_exact : Bool) (answer : Answer) (status : Status) → IsBuiltPlan m is_long is_exact answer
+    → IsNoPlanStatus status → answer.status ≢ status
+built_status m true is_exact answer status h other e = other.unbuilt (sym (status_of h) ∙ e)
+built_status m false false answer status h other e = other.unbuilt (sym (status_of h) ∙ e)
+built_status m false true answer status h other e = other.done (sym h.status ∙ e)
+
+within_status : (m : Model) (horizon : ℕ) (passed : Option TooLarge) (answer : Answer) (status : Status) → IsPlanWithin m horizon passed answer
+    → IsNoPlanStatus status → answer.status ≢ status
+within_status m horizon (Some passed) answer status h other e = other.too_large (sym (status_of h) ∙ e)
+within_status m horizon None answer status h other e = built_status m (nat_lt 1 horizon) (is_exact_mode m horizon) answer status h other e
+
+pub plan_status : (horizon : ℕ) (meant : Meaning) (answer : Answer) (status : Status) → IsPlanReply horizon meant answer
+    → IsNoPlanStatus status → answer.status ≢ status
+plan_status horizon (FaultAt place why) answer status h other e = other.bad_model (sym (status_of h) ∙ e)
+plan_status horizon (Passes passed) answer status h other e = other.too_large (sym (status_of h) ∙ e)
+plan_status horizon (Means read) answer status h other e =
+    within_status read.model.model horizon (first_passed (horizon_limits read.model.model horizon)) answer status h other e
 
 -- ---- a plan that is done
 

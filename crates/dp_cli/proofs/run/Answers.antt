@@ -1,5 +1,5 @@
 use Rattle.dp_cli.proofs.Answering.{runs_by}
-use Rattle.dp_cli.proofs.Causes.{contents_unchanged, logs_files, read_fault_runs}
+use Rattle.dp_cli.proofs.Causes.{contents_unchanged, logs_files, read_fault_runs, usage_runs}
 use Rattle.dp_cli.proofs.Certifying.{certified_as_told}
 use Rattle.dp_cli.proofs.Told.{runs_as_told}
 use Rattle.dp_cli.proofs.run.Goals as goal
@@ -21,3 +21,6 @@ returns-clause-unchanged g c = contents_unchanged c.do_words-outcome.ensures
 
 pub returns-clause-certified : goal.returns-clause-certified
 returns-clause-certified g c = certified_as_told _ _ _ _ _ _ (runs_as_told _ _ _ _ _ _ (runs_by c.do_words-outcome.result c.do_words-outcome.ensures c.put_outcome.ensures))
+
+pub returns-clause-usage : goal.returns-clause-usage
+returns-clause-usage g c = usage_runs (runs_by c.do_words-outcome.result c.do_words-outcome.ensures c.put_outcome.ensures)
