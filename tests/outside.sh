@@ -84,16 +84,16 @@ answers 'a file of one byte too many' 5 'refused large model-bytes 67108865' pla
 answers 'a file of many bytes too many' 5 'refused large model-bytes 67108865' plan much-longer --horizon 1
 answers 'an endless device' 5 'refused large model-bytes 67108865' plan /dev/zero --horizon 1
 # These two are read whole. What they hold is no model.
-answers 'a file of just as many bytes as are allowed' 20 'refused unbuilt form' plan longest --horizon 1
-answers 'an empty file' 20 'refused unbuilt form' plan /dev/null --horizon 1
+answers 'a file of just as many bytes as are allowed' 3 'refused model line 1 column 1 bad-byte' plan longest --horizon 1
+answers 'an empty file' 3 'refused model line 1 column 1 header' plan /dev/null --horizon 1
 
 # A file that comes in pieces, and one without an end, through a pipe.
-printf 'refused unbuilt form\n' >want
+printf 'refused model line 2 column 1 header\n' >want
 { printf 'agents'; sleep 0.2; printf ': 1\n'; } | {
     limited plan /dev/stdin --horizon 1 >out 2>err
     echo $? >status
 }
-judge 'a file that comes in two pieces' 20
+judge 'a file that comes in two pieces' 3
 printf 'refused large model-bytes 67108865\n' >want
 yes 2>/dev/null | {
     limited plan /dev/stdin --horizon 1 >out 2>err
