@@ -3,6 +3,7 @@
 
 mod document;
 mod fault;
+mod fields;
 mod item;
 mod line;
 mod pieces;
