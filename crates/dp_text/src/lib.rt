@@ -5,6 +5,8 @@ mod document;
 mod fault;
 mod item;
 mod line;
+mod numbers;
 mod pieces;
+mod words;
 
 pub use fault::TextFault;
