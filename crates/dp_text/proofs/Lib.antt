@@ -1,2 +1,3 @@
 pub mod Places
 pub mod FirstFields
+pub mod WordLemmas

@@ -6,6 +6,8 @@ mod fault;
 mod fields;
 mod item;
 mod line;
+mod numbers;
 mod pieces;
+mod words;
 
 pub use fault::TextFault;
