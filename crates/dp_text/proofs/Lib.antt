@@ -1,3 +1,5 @@
+pub mod Continuing
 pub mod Places
+pub mod Saturating
 pub mod FirstFields
 pub mod WordLemmas

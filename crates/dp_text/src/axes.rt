@@ -1,35 +1,57 @@
 //! The axes of a table, and how many numbers they have.
-ghost use Rattle.std.specs.Prelude.{◌≡◌, ◌≤◌, ◌^◌, drop, length, map, min, option_map, slice_get};
+ghost use Rattle.std.specs.Prelude.{◌≡◌, ◌*◌, ◌<◌, ◌≤◌, ◌^◌, [], drop, length, map, min, slice_index_or};
 ghost use Rattle.dp_spec.specs.JointNumbers.{product};
-ghost use Rattle.dp_meaning.specs.NameLists.{size_of};
-ghost use Rattle.dp_meaning.specs.Statements.{axes_of, axis_size, least_fields};
+ghost use Rattle.dp_meaning.specs.declared.header.Header as types;
+ghost use Rattle.dp_meaning.specs.NameLists as spec;
+ghost use Rattle.dp_meaning.specs.Statements.{axes_of, axis_size};
 
 use dp_meaning::{GivenList, Header, Table};
 use std::slice;
 
-/// More numbers than any text has tokens.
+/// More numbers than a text has tokens.
 pub(crate) const TOO_MANY: u64 = 1 << 27;
 
-/// An axis of a table: the list of the states, or those of the agents' actions or observations.
-pub(crate) fn axis_at(header: &Header, table: Table, place: usize) -> Option<&[GivenList]>
-    ensures { option_map (λ axis. axis.now) result ≡ slice_get (axes_of header.now table) place }
-{
-    match (place, table) {
-        (0, _) => Some(header.actions.as_slice()),
-        (1, _) | (2, Table::Trans | Table::Reward) => Some(slice::from_ref(&header.states)),
-        (2, Table::Obs) | (3, Table::Reward) => Some(header.observations.as_slice()),
-        _ => None,
-    }
-}
-
 /// How many axes a table has.
-pub(crate) fn axis_count(header: &Header, table: Table) -> usize
-    ensures { result ≡ length (axes_of header.now table) }
+pub(crate) fn axis_count(table: Table) -> usize
+    ensures is { (header : types.Header) → result ≡ length (axes_of header table) }
+    ensures few { result ≤ 4 }
 {
     match table {
         Table::Reward => 4,
         _ => 3,
     }
+}
+
+/// An axis of a table: the list of the states, or those of the agents' actions or observations.
+pub(crate) fn axis_at(header: &Header, table: Table, place: usize) -> &[GivenList]
+    requires { place < length (axes_of header.now table) }
+    ensures { result.now ≡ slice_index_or (axes_of header.now table) place [] }
+{
+    match (place, table) {
+        (0, _) => header.actions.as_slice(),
+        (2, Table::Obs) | (3, _) => header.observations.as_slice(),
+        _ => slice::from_ref(&header.states),
+    }
+}
+
+/// How many there are in a list.
+fn size_of(list: &GivenList) -> u64
+    ensures is { result ≡ spec.size_of list.now }
+    ensures limit { result ≤ 2 ^ 32 }
+{
+    match list {
+        GivenList::Counted(count) => u64::from(*count),
+        GivenList::Named(names) => names.len() as u64,
+    }
+}
+
+/// A product of counts, or `TOO_MANY` where it is as large or larger.
+fn times(a: u64, b: u64) -> u64
+    requires a { a ≤ TOO_MANY }
+    requires b { b ≤ 2 ^ 32 }
+    ensures { result ≡ min (a * b) TOO_MANY }
+{
+    (a * b).min(TOO_MANY)
 }
 
 /// How many numbers an axis has, or `TOO_MANY` where there are as many or more.
@@ -43,15 +65,14 @@ fn axis_size(axis: &[GivenList]) -> u64
     size
 }
 
-/// How many numbers the axes of a table have from a place on, or `TOO_MANY` where there are as many or more.
-pub(crate) fn sizes_from(header: &Header, table: Table, place: usize) -> u64
-    ensures { result ≡ min (product (map axis_size (drop place (axes_of header.now table)))) TOO_MANY }
+/// How many numbers the axes of a table have from a place on, or `TOO_MANY` where there are as many
+/// or more.
+pub(crate) fn sizes_from(header: &Header, table: Table, first: usize) -> u64
+    ensures { result ≡ min (product (map axis_size (drop first (axes_of header.now table)))) TOO_MANY }
 {
     let mut size = 1;
-    for place in place..axis_count(header, table) {
-        if let Some(axis) = axis_at(header, table, place) {
-            size = times(size, axis_size(axis));
-        }
+    for place in first..axis_count(table) {
+        size = times(size, axis_size(axis_at(header, table, place)));
     }
     size
 }

@@ -1,6 +1,7 @@
 //! The text of a model file: from its tokens to its header and its statements.
 #![tactic(auto)]
 
+mod axes;
 mod document;
 mod fault;
 mod fields;
