@@ -1,1 +1,3 @@
+pub mod Continuing
+pub mod NumberLemmas
 pub mod WordLemmas
