@@ -1,5 +1,5 @@
 -- Pieces: how many a text can have, and where they stand in a list.
-use Rattle.std.proofs.Common.{◌≡◌, ℕ, suc, ◌+◌, ◌<◌, ◌≤◌, ◌^◌, List, [], ◌∷◌, length, None, arith}
+use Rattle.std.proofs.Common.{◌≡◌, ℕ, suc, ◌+◌, ◌≤◌, ◌^◌, List, [], ◌∷◌, length, None, arith}
 use Rattle.std.specs.Prelude.{All, AllPairs, slice_get}
 use Rattle.dp_lexer.specs.declared.Token.{Token}
 use Rattle.dp_lexer.specs.TokenLaws.{AreTokensOf}
