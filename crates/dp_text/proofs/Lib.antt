@@ -1,3 +1,5 @@
 pub mod Continuing
+pub mod ItemLemmas
 pub mod NumberLemmas
+pub mod PieceLemmas
 pub mod WordLemmas
