@@ -21,7 +21,6 @@ ended_fault x [] e h = cc
 ended_fault x (piece ∷ pieces) e h = cc
 
 module _ (f : Decimal → Bool) (next : ℕ) where
-
   left_one : (n : ℕ) → suc n - 1 ≡ n
   left_one n = omega arith
 

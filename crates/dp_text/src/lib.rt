@@ -5,6 +5,7 @@ mod document;
 mod fault;
 mod item;
 mod line;
+mod name_lists;
 mod numbers;
 mod pieces;
 mod words;
