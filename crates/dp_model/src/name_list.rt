@@ -1,5 +1,5 @@
 //! One list of names.
-ghost use Rattle.std.specs.Prelude.{◌≡◌, [], ◌<◌, ◌≤◌, ◌^◌, ◌↔◌, IsTrue, IsNone, not, length, slice_get, IfOk, OnOk, OnErr};
+ghost use Rattle.std.specs.Prelude.{◌≡◌, [], ◌<◌, ◌^◌, ◌↔◌, IsTrue, IsNone, not, length, slice_get, IfOk, OnOk, OnErr};
 ghost use Rattle.std.specs.Option.{option_copied};
 ghost use Rattle.dp_num.specs.Names.{is_name};
 ghost use Rattle.dp_model.specs.Names.{IsNameList, has_name, place_of, with_name};
@@ -45,13 +45,11 @@ impl NameList {
         let _ = &self.names;
     }
 
-    /// How many names there are.
-    #[inline]
-    pub fn len(&self) -> usize
-        ensures is { result ≡ length self.now }
-        ensures limit { result ≤ 2 ^ 26 }
+    /// How many names it has.
+    pub fn len(&self) -> u32
+        ensures { result ≡ length self.now }
     {
-        self.names.len()
+        self.names.len() as u32
     }
 
     /// Appends a name, and answers whether it is new: a name that the list has stays as it is.

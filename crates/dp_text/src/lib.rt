@@ -7,6 +7,7 @@ mod fault;
 mod fields;
 mod item;
 mod line;
+mod name_lists;
 mod numbers;
 mod pieces;
 mod words;
