@@ -2,7 +2,9 @@ pub mod Continuing
 pub mod Places
 pub mod Saturating
 pub mod FirstFields
+pub mod FieldLemmas
 pub mod ItemLemmas
 pub mod NumberLemmas
+pub mod PartLemmas
 pub mod PieceLemmas
 pub mod WordLemmas

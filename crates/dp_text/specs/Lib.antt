@@ -1,5 +1,6 @@
 pub mod Ranges
 pub mod Reading
+pub mod LineFields
 pub mod FirstFields
 pub mod Tokens
 pub mod Lines

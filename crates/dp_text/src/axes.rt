@@ -2,9 +2,9 @@
 ghost use Rattle.std.specs.Prelude.{◌≡◌, ◌*◌, ◌<◌, ◌≤◌, ◌^◌, [], drop, length, map, min, slice_index_or};
 ghost use Rattle.dp_spec.specs.JointNumbers.{product};
 ghost use Rattle.dp_meaning.specs.declared.header.Header as types;
-ghost use Rattle.dp_meaning.specs.NameLists as spec;
 ghost use Rattle.dp_meaning.specs.Statements.{axes_of, axis_size};
 
+use crate::name_lists::size_of;
 use dp_meaning::{GivenList, Header, Table};
 use std::slice;
 
@@ -34,21 +34,10 @@ pub(crate) fn axis_at(header: &Header, table: Table, place: usize) -> &[GivenLis
     }
 }
 
-/// How many there are in a list.
-fn size_of(list: &GivenList) -> u64
-    ensures is { result ≡ spec.size_of list.now }
-    ensures limit { result ≤ 2 ^ 32 }
-{
-    match list {
-        GivenList::Counted(count) => u64::from(*count),
-        GivenList::Named(names) => names.len() as u64,
-    }
-}
-
 /// A product of counts, or `TOO_MANY` where it is as large or larger.
 fn times(a: u64, b: u64) -> u64
     requires a { a ≤ TOO_MANY }
-    requires b { b ≤ 2 ^ 32 }
+    requires b { b < 2 ^ 32 }
     ensures { result ≡ min (a * b) TOO_MANY }
 {
     (a * b).min(TOO_MANY)
@@ -60,7 +49,7 @@ fn axis_size(axis: &[GivenList]) -> u64
 {
     let mut size = 1;
     for list in axis {
-        size = times(size, size_of(list));
+        size = times(size, u64::from(size_of(list)));
     }
     size
 }

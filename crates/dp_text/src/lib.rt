@@ -9,6 +9,7 @@ mod item;
 mod line;
 mod name_lists;
 mod numbers;
+mod parts;
 mod pieces;
 mod words;
 
