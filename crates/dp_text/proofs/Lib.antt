@@ -8,3 +8,4 @@ pub mod NumberLemmas
 pub mod PartLemmas
 pub mod PieceLemmas
 pub mod WordLemmas
+pub mod ValueLemmas

@@ -8,9 +8,6 @@ use crate::name_lists::size_of;
 use dp_meaning::{GivenList, Header, Table};
 use std::slice;
 
-/// More numbers than a text has tokens.
-pub(crate) const TOO_MANY: u64 = 1 << 27;
-
 /// How many axes a table has.
 pub(crate) fn axis_count(table: Table) -> usize
     ensures is { (header : types.Header) → result ≡ length (axes_of header table) }
@@ -34,34 +31,38 @@ pub(crate) fn axis_at(header: &Header, table: Table, place: usize) -> &[GivenLis
     }
 }
 
-/// A product of counts, or `TOO_MANY` where it is as large or larger.
-fn times(a: u64, b: u64) -> u64
-    requires a { a ≤ TOO_MANY }
+/// A product of counts, but at most `most`.
+fn times(a: u64, b: u64, most: u64) -> u64
+    requires a { a ≤ most }
     requires b { b < 2 ^ 32 }
-    ensures { result ≡ min (a * b) TOO_MANY }
+    requires most { most < 2 ^ 32 }
+    ensures { result ≡ min (a * b) most }
 {
-    (a * b).min(TOO_MANY)
+    (a * b).min(most)
 }
 
-/// How many numbers an axis has, or `TOO_MANY` where there are as many or more.
-fn axis_size(axis: &[GivenList]) -> u64
-    ensures { result ≡ min (axis_size axis.now) TOO_MANY }
+/// How many numbers an axis has, but at most `most`.
+fn axis_size(axis: &[GivenList], most: u64) -> u64
+    requires some { 0 < most }
+    requires few { most < 2 ^ 32 }
+    ensures { result ≡ min (axis_size axis.now) most }
 {
     let mut size = 1;
     for list in axis {
-        size = times(size, u64::from(size_of(list)));
+        size = times(size, u64::from(size_of(list)), most);
     }
     size
 }
 
-/// How many numbers the axes of a table have from a place on, or `TOO_MANY` where there are as many
-/// or more.
-pub(crate) fn sizes_from(header: &Header, table: Table, first: usize) -> u64
-    ensures { result ≡ min (product (map axis_size (drop first (axes_of header.now table)))) TOO_MANY }
+/// How many numbers the axes of a table have from a place on, but at most `most`.
+pub(crate) fn sizes_from(header: &Header, table: Table, first: usize, most: u64) -> u64
+    requires some { 0 < most }
+    requires few { most < 2 ^ 32 }
+    ensures { result ≡ min (product (map axis_size (drop first (axes_of header.now table)))) most }
 {
     let mut size = 1;
     for place in first..axis_count(table) {
-        size = times(size, axis_size(axis_at(header, table, place)));
+        size = times(size, axis_size(axis_at(header, table, place), most), most);
     }
     size
 }

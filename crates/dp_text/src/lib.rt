@@ -11,6 +11,7 @@ mod name_lists;
 mod numbers;
 mod parts;
 mod pieces;
+mod values;
 mod words;
 
 pub use fault::TextFault;
