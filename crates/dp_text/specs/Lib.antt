@@ -2,3 +2,4 @@ pub mod Ranges
 pub mod Reading
 pub mod Tokens
 pub mod Lines
+pub mod NameListSteps
