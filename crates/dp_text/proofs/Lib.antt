@@ -1,3 +1,4 @@
+pub mod AgentLines
 pub mod Continuing
 pub mod ItemLemmas
 pub mod NameListLemmas
