@@ -3,3 +3,4 @@ pub mod Reading
 pub mod Tokens
 pub mod Lines
 pub mod NameListSteps
+pub mod EntrySteps
