@@ -1,9 +1,11 @@
+pub mod AgentLines
 pub mod Continuing
 pub mod Places
 pub mod Saturating
 pub mod FirstFields
 pub mod FieldLemmas
 pub mod ItemLemmas
+pub mod NameListLemmas
 pub mod NumberLemmas
 pub mod PartLemmas
 pub mod PieceLemmas

@@ -4,3 +4,5 @@ pub mod LineFields
 pub mod FirstFields
 pub mod Tokens
 pub mod Lines
+pub mod NameListSteps
+pub mod EntrySteps

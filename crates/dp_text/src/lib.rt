@@ -3,6 +3,7 @@
 
 mod axes;
 mod document;
+mod entries;
 mod fault;
 mod fields;
 mod item;
