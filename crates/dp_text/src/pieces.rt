@@ -89,6 +89,14 @@ impl<'a> Pieces<'a> {
         Pieces { bytes, tokens }
     }
 
+    /// What holds of all pieces. It does nothing.
+    #[inline]
+    pub(crate) fn kept(&self)
+        ensures { length self.now ≤ 2 ^ 26 }
+    {
+        let _ = self.len();
+    }
+
     /// How many there are.
     #[inline]
     pub(crate) fn len(&self) -> usize
