@@ -1,3 +1,4 @@
 pub mod PieceLemmas
 pub mod ItemLemmas
 pub mod LineLemmas
+pub mod ItemSpanLemmas
