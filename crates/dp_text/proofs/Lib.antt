@@ -2,3 +2,4 @@ pub mod PieceLemmas
 pub mod ItemLemmas
 pub mod LineLemmas
 pub mod ItemSpanLemmas
+pub mod DocumentLemmas

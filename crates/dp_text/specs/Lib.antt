@@ -2,3 +2,4 @@ pub mod Reading
 pub mod Tokens
 pub mod Lines
 pub mod ItemSpans
+pub mod Documents
