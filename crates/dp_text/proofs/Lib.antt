@@ -11,3 +11,6 @@ pub mod PartLemmas
 pub mod PieceLemmas
 pub mod WordLemmas
 pub mod ValueLemmas
+pub mod LineLemmas
+pub mod ItemSpanLemmas
+pub mod DocumentLemmas

@@ -10,33 +10,24 @@ use Rattle.dp_meaning.specs.declared.statement.Value.{Value}
 use Rattle.dp_meaning.specs.declared.statement.Value.TheVariants.{Uniform, Identity, Numbers}
 use Rattle.dp_meaning.specs.Faults.{◌>>=◌, fault}
 use Rattle.dp_meaning.specs.Items.{Piece}
-use Rattle.dp_meaning.specs.Numbers.{number, numbers, ended}
+use Rattle.dp_meaning.specs.Numbers.{numbers, ended}
 use Rattle.dp_meaning.specs.NameLists.{says}
 use Rattle.dp_meaning.specs.Fields.{Axis}
 use Rattle.dp_meaning.specs.Statements.{axis_size, allows_uniform, allows_identity, is_trans, is_reward_table, is_number_of, value_of}
+use Rattle.dp_text.specs.GivenNumbers.{given_numbers}
+use Rattle.dp_text.proofs.NumberLemmas.{numbers_beyond}
 
 -- ---- more Numbers than there are pieces
-
--- any two counts above that of the pieces are missed alike
-missed_alike : (f : Decimal → Bool) (next : ℕ) (pieces : List Piece) (n m : ℕ) → length pieces < n → length pieces < m
-    → numbers f next n pieces ≡ numbers f next m pieces
-unfolding numbers
-missed_alike f next pieces zero m h l = absurd (omega arith)
-missed_alike f next pieces (suc n) zero h l = absurd (omega arith)
-missed_alike f next [] (suc n) (suc m) h l = refl
-missed_alike f next (piece ∷ pieces) (suc n) (suc m) h l =
-    ap (λ (r : Result (List Decimal) Fault). number f piece >>= λ first. r >>= λ others. Ok (first ∷ others))
-    (missed_alike f next pieces n m (omega arith) (omega arith))
 
 dec_le : (a b : ℕ) → (a ≤ b) ⊎ (b ≤ a)
 dec_le a b = grind arith
 
--- so a count may be cut down to one more than there are pieces
+-- a count may be cut down to one more than there are pieces
 pub count_cut : (f : Decimal → Bool) (next n : ℕ) (pieces : List Piece)
     → numbers f next n pieces ≡ numbers f next (min n (length pieces + 1)) pieces
 count_cut f next n pieces = elim (dec_le n (length pieces + 1)) [
   | inl h ↦ let same : n ≡ min n (length pieces + 1) = omega arith in ap (λ k. numbers f next k pieces) same
-  | inr h ↦ missed_alike f next pieces n (min n (length pieces + 1)) (omega arith) (omega arith)
+  | inr h ↦ numbers_beyond f next n (min n (length pieces + 1)) pieces (omega arith) (omega arith)
 ]
 
 -- ---- the value
@@ -47,8 +38,31 @@ module _ (table : Table) (rest : List Axis) (next : ℕ) where
   unfolding value_of
   no_value = refl
 
-  abbrev numbers_value : List Piece → Result Value Fault
-  numbers_value pieces = numbers (is_number_of table) next (product (map axis_size rest)) pieces >>= λ ns. Ok (Numbers ns)
+  -- how many numbers a value without a word has
+  abbrev pub wanted : ℕ
+  wanted = product (map axis_size rest)
 
-  by_tests : (u i : Bool) → List Piece → List Piece → Result Value Fault
-  by_tests u i all others = cond u (ended Uniform others) (cond i (ended Identity others) (numbers_value all))
+  module _ (piece : Piece) (pieces : List Piece) where
+
+    by_tests : value_of table rest next (piece ∷ pieces)
+        ≡ cond (allows_uniform table rest && says (codes "uniform") piece) (ended Uniform pieces)
+          (cond (allows_identity table rest && says (codes "identity") piece) (ended Identity pieces)
+          (given_numbers table next wanted (piece ∷ pieces)))
+    unfolding value_of
+    by_tests = refl
+
+    pub uniform_value : (allows_uniform table rest && says (codes "uniform") piece) ≡ true
+        → value_of table rest next (piece ∷ pieces) ≡ ended Uniform pieces
+    uniform_value u = by_tests ∙ rw u refl
+
+    pub identity_value : (allows_uniform table rest && says (codes "uniform") piece) ≡ false
+        → (allows_identity table rest && says (codes "identity") piece) ≡ true
+        → value_of table rest next (piece ∷ pieces) ≡ ended Identity pieces
+    identity_value u i = by_tests ∙ rw (u, i) refl
+
+    pub numbers_value : (allows_uniform table rest && says (codes "uniform") piece) ≡ false
+        → (allows_identity table rest && says (codes "identity") piece) ≡ false
+        → value_of table rest next (piece ∷ pieces)
+        ≡ given_numbers table next (min wanted (length (piece ∷ pieces) + 1)) (piece ∷ pieces)
+    numbers_value u i = by_tests ∙ rw (u, i) (ap (λ (r : Result (List Decimal) Fault). r >>= λ ns. Ok (Numbers ns))
+        (count_cut (is_number_of table) next wanted (piece ∷ pieces)))

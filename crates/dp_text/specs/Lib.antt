@@ -1,4 +1,5 @@
 pub mod Ranges
+pub mod GivenNumbers
 pub mod Reading
 pub mod LineFields
 pub mod FirstFields
@@ -6,3 +7,5 @@ pub mod Tokens
 pub mod Lines
 pub mod NameListSteps
 pub mod EntrySteps
+pub mod ItemSpans
+pub mod Documents

@@ -7,6 +7,7 @@ mod entries;
 mod fault;
 mod fields;
 mod item;
+mod item_span;
 mod line;
 mod name_lists;
 mod numbers;

@@ -1,10 +1,9 @@
 //! What a statement gives to the cells that it covers.
-ghost use Rattle.std.specs.Prelude.{◌≡◌, ◌==◌, ◌&&◌, ◌≤◌, Ok, codes, drop, length, nat_lt, not};
-ghost use Rattle.dp_meaning.specs.Faults.{◌>>=◌};
+ghost use Rattle.std.specs.Prelude.{◌≡◌, ◌==◌, ◌&&◌, ◌≤◌, codes, drop, length, nat_lt, not};
 ghost use Rattle.dp_meaning.specs.NameLists as lists;
 ghost use Rattle.dp_meaning.specs.Numbers as numbers_spec;
 ghost use Rattle.dp_meaning.specs.Statements as spec;
-ghost use Rattle.dp_meaning.specs.declared.statement.Value.TheVariants.{Numbers};
+ghost use Rattle.dp_text.specs.GivenNumbers.{given_numbers};
 ghost use Rattle.dp_text.specs.Ranges.{is_in};
 ghost use Rattle.dp_text.specs.Reading.{Reads};
 
@@ -59,7 +58,7 @@ fn given(
     next: u32,
     pieces: &Pieces,
 ) -> Result<Value, TextFault>
-    ensures { Reads (numbers_spec.numbers (spec.is_number_of table) next count pieces.now >>= λ values. Ok (Numbers values)) result }
+    ensures { Reads (given_numbers table next count pieces.now) result }
 {
     match numbers(alloc, range_of(table), next, count, pieces) {
         Ok(values) => Ok(Value::Numbers(values)),
