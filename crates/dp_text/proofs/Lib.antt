@@ -10,6 +10,7 @@ pub mod NumberLemmas
 pub mod PartLemmas
 pub mod PieceLemmas
 pub mod WordLemmas
+pub mod ReadingLemmas
 pub mod ValueLemmas
 pub mod LineLemmas
 pub mod ItemSpanLemmas
