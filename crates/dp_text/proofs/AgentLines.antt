@@ -22,7 +22,6 @@ drop_past (suc i) [] h = refl
 drop_past (suc i) (y ∷ ys) h = drop_past i ys h
 
 module _ (next : ℕ) where
-
   -- what stands for the agents from the i-th on
   abbrev pub from_agent : ℕ → ℕ → List (List Piece) → Result (List GivenList) Fault
   from_agent agents i lines = name_lists next (agents - i) (drop i lines)
@@ -46,7 +45,7 @@ module _ (next : ℕ) where
       → Continues all (lists ++ list ∷ []) (from_agent agents (i + 1) lines)
   line_one all lists agents i lines line list some is read h =
       let steps : from_agent agents i lines ≡ (from_agent agents (i + 1) lines >>= λ others. Ok (list ∷ others)) =
-          at_agent agents i lines line some is ∙ ap (λ (x : Result GivenList Fault). x >>= λ first. from_agent agents (i + 1) lines >>= λ others. Ok (first ∷ others)) read in
+      at_agent agents i lines line some is ∙ ap (λ (x : Result GivenList Fault). x >>= λ first. from_agent agents (i + 1) lines >>= λ others. Ok (first ∷ others)) read in
       continues_one all lists list (from_agent agents (i + 1) lines) (subst (λ (x : Result (List GivenList) Fault). Continues all lists x) steps h)
 
   wrong_behind : (lists : List GivenList) (meant : Result GivenList Fault) (more : GivenList → Result (List GivenList) Fault) (wrong : TextFault)

@@ -81,10 +81,11 @@ module _ {axes : List Axis} {line : List Piece} {parts : List (List Part)} {left
 
   -- no Colon is left
   pub fields_end : fields_of left ≡ record { fields = []; rest = left }
-      → (all_of axes line ≡ Ok parts) × (length line - length left ≤ length line) × ((fields_of line).rest ≡ drop (length line - length left) line)
+      → (all_of axes line ≡ Ok parts) × (length parts ≤ length axes) × (length line - length left ≤ length line) × ((fields_of line).rest ≡ drop (length line - length left) line)
   unfolding all_parts
   fields_end f = (
     continues_none _ parts (rw (ap (λ fs. fs.fields) f) at h.is),
+    h.few,
     omega arith,
     h.rest ∙ ap (λ fs. fs.rest) f ∙ h.behind,
   )

@@ -11,6 +11,7 @@ pub mod PartLemmas
 pub mod PieceLemmas
 pub mod WordLemmas
 pub mod ReadingLemmas
+pub mod StatementLemmas
 pub mod ValueLemmas
 pub mod LineLemmas
 pub mod ItemSpanLemmas

@@ -33,7 +33,6 @@ count_cut f next n pieces = elim (dec_le n (length pieces + 1)) [
 -- ---- the value
 
 module _ (table : Table) (rest : List Axis) (next : ℕ) where
-
   pub no_value : (all : List Piece) → all ≡ [] → value_of table rest next all ≡ fault Expected next
   unfolding value_of
   no_value all e = rw e refl
@@ -43,11 +42,10 @@ module _ (table : Table) (rest : List Axis) (next : ℕ) where
   wanted = product (map axis_size rest)
 
   module _ (all : List Piece) (piece : Piece) (pieces : List Piece) (e : all ≡ piece ∷ pieces) where
-
     by_tests : value_of table rest next all
         ≡ cond (allows_uniform table rest && says (codes "uniform") piece) (ended Uniform pieces)
-          (cond (allows_identity table rest && says (codes "identity") piece) (ended Identity pieces)
-          (given_numbers table next wanted all))
+        (cond (allows_identity table rest && says (codes "identity") piece) (ended Identity pieces)
+        (given_numbers table next wanted all))
     unfolding value_of
     by_tests = rw e refl
 

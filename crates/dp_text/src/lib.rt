@@ -13,6 +13,7 @@ mod name_lists;
 mod numbers;
 mod parts;
 mod pieces;
+mod statements;
 mod values;
 mod words;
 
