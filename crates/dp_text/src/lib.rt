@@ -4,6 +4,7 @@
 mod document;
 mod entries;
 mod fault;
+mod header;
 mod item;
 mod line;
 mod name_lists;
