@@ -1,7 +1,11 @@
 pub mod AgentLines
 pub mod Continuing
+pub mod HeaderLemmas
 pub mod ItemLemmas
 pub mod NameListLemmas
 pub mod NumberLemmas
 pub mod PieceLemmas
 pub mod WordLemmas
+pub mod LineLemmas
+pub mod ItemSpanLemmas
+pub mod DocumentLemmas

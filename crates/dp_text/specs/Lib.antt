@@ -4,3 +4,6 @@ pub mod Tokens
 pub mod Lines
 pub mod NameListSteps
 pub mod EntrySteps
+pub mod ItemSpans
+pub mod Documents
+pub mod HeaderSteps

@@ -1,8 +1,8 @@
 -- Lines as stretches of the pieces of a text, line ends aside.
-use Rattle.std.specs.Prelude.{◌≡◌, ℕ, ◌<◌, ◌≤◌, ◌^◌, Bool, true, false, List, [], ◌∷◌, length, map, filter, slice_range}
+use Rattle.std.specs.Prelude.{◌≡◌, ℕ, ◌<◌, ◌≤◌, ◌^◌, Bool, true, false, if◌then◌else◌, nat_lt, List, [], ◌∷◌, length, map, filter, slice_range}
 use Rattle.dp_lexer.specs.declared.Kind.{Kind}
 use Rattle.dp_lexer.specs.declared.Kind.TheVariants.{LineEnd}
-use Rattle.dp_meaning.specs.Items.{Piece, Line, Item, begins_item}
+use Rattle.dp_meaning.specs.Items.{Piece, Line, Item, begins_item, has_pieces, lines_of}
 use Rattle.dp_text.specs.declared.line.LineSpan.{LineSpan}
 
 abbrev pub is_no_line_end : Kind → Bool
@@ -27,6 +27,14 @@ pub record BeginsAt (from : ℕ) (span : LineSpan) : Type 0 where
 abbrev pub AreOneRun : ℕ → List LineSpan → ℕ → Type 0
 AreOneRun from [] past = from ≡ past
 AreOneRun from (span ∷ spans) past = BeginsAt from span × AreOneRun span.past spans past
+
+abbrev pub unless_empty : LineSpan → List LineSpan
+unless_empty span = if nat_lt span.first span.past then span ∷ [] else []
+
+-- all lines that have pieces, of the pieces of a text that ends at `end`: one run over the pieces that are no line ends
+pub record AreLinesOf (end : ℕ) (pieces : List Piece) (spans : List LineSpan) : Type 0 where
+  pub one_run : AreOneRun 0 spans (length (kept_pieces pieces))
+  pub lines : map (line_of (kept_pieces pieces)) spans ≡ filter has_pieces (lines_of end pieces)
 
 -- the item of a first line and those that follow it
 abbrev pub item_of : List Piece → LineSpan → List LineSpan → ℕ → Item

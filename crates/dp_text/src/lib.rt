@@ -6,6 +6,7 @@ mod entries;
 mod fault;
 mod header;
 mod item;
+mod item_span;
 mod line;
 mod name_lists;
 mod numbers;

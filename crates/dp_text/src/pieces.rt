@@ -89,6 +89,14 @@ impl<'a> Pieces<'a> {
         Pieces { bytes, tokens }
     }
 
+    /// What holds of all pieces. It does nothing.
+    #[inline]
+    pub(crate) fn kept(&self)
+        ensures { length self.now ≤ 2 ^ 26 }
+    {
+        let _ = self.len();
+    }
+
     /// How many there are.
     #[inline]
     pub(crate) fn len(&self) -> usize
@@ -155,10 +163,14 @@ impl<'a> Pieces<'a> {
 
     /// Where the first of them stands, or `end` where there is none.
     pub(crate) fn first_at(&self, end: u32) -> u32
-        ensures { result ≡ first_at end self.now }
+        ensures is { result ≡ first_at end self.now }
+        ensures limit { end ≤ 2 ^ 26 → result ≤ 2 ^ 26 }
     {
         match self.get(0) {
-            Some(first) => first.at(),
+            Some(first) => {
+                first.kept();
+                first.at()
+            }
             None => end,
         }
     }
