@@ -4,6 +4,7 @@ pub mod Places
 pub mod Saturating
 pub mod FirstFields
 pub mod FieldLemmas
+pub mod HeaderLemmas
 pub mod ItemLemmas
 pub mod NameListLemmas
 pub mod NumberLemmas

@@ -9,3 +9,4 @@ pub mod NameListSteps
 pub mod EntrySteps
 pub mod ItemSpans
 pub mod Documents
+pub mod HeaderSteps

@@ -6,6 +6,7 @@ mod document;
 mod entries;
 mod fault;
 mod fields;
+mod header;
 mod item;
 mod item_span;
 mod line;
