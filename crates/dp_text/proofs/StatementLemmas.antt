@@ -1,9 +1,9 @@
 -- A statement, by its fields and its value.
-use Rattle.std.proofs.Common.{◌≡◌, ℕ, ◌<◌, ◌≤◌, Bool, true, false, cond, List, ◌++◌, length, drop, Result, Ok, Err, refl, sym, ap, ◌∙◌, arith}
-use Rattle.std.specs.Prelude.{nat_lt}
-use Rattle.std.specs.List.{flat_map}
+use Rattle.std.proofs.Common.{◌≡◌, ℕ, ◌+◌, ◌<◌, ◌≤◌, Bool, true, false, cond, List, [], ◌∷◌, ◌++◌, length, drop, Result, Ok, Err, refl, sym, ap, ◌∙◌, arith}
+use Rattle.std.specs.Prelude.{nat_lt, Option, Some}
+use Rattle.std.specs.List.{flat_map, slice_get}
 use Rattle.std.proofs.lemmas.Bool.Decides.{nat_tests}
-use Rattle.std.proofs.lemmas.List.{drop-append-le}
+use Rattle.std.proofs.lemmas.List.{drop-append-le, drop_all}
 use Rattle.dp_meaning.specs.declared.why.Fault.{Fault}
 use Rattle.dp_meaning.specs.declared.why.Why.TheVariants.{Expected}
 use Rattle.dp_meaning.specs.declared.header.Header.{Header}
@@ -13,11 +13,14 @@ use Rattle.dp_meaning.specs.declared.statement.Value.{Value}
 use Rattle.dp_meaning.specs.declared.statement.Statement.{Statement}
 use Rattle.dp_meaning.specs.Faults.{◌>>=◌, fault}
 use Rattle.dp_meaning.specs.Items.{Item, item_at, after_colon, value_pieces, pieces_of}
+use Rattle.dp_meaning.specs.Header.{kind_of}
 use Rattle.dp_meaning.specs.Fields.{fields_of, all_parts}
-use Rattle.dp_meaning.specs.Statements.{axes_of, least_fields, unless_too_few, value_of, statement}
+use Rattle.dp_meaning.specs.Statements.{axes_of, least_fields, unless_too_few, value_of, statement, statement_of_kind, statements_of}
 use Rattle.dp_text.specs.Reading.{Reads}
 use Rattle.dp_text.specs.declared.fault.TextFault.{TextFault}
 use Rattle.dp_text.specs.declared.fault.TextFault.TheVariants.{At, Memory}
+use Rattle.dp_text.proofs.Continuing.{Continues, starts, continues_one, continues_none}
+use Rattle.dp_text.proofs.Places.{drop_at}
 
 module _ (header : Header) (table : Table) (item : Item) where
   -- the fields of its first line
@@ -62,3 +65,33 @@ module _ (header : Header) (table : Table) (item : Item) where
         → Reads (statement header table item) (Err e)
     wrong_value (At e) v = by_value ∙ rw v refl
     wrong_value Memory v = tt
+
+-- ---- all statements
+
+-- what is meant by the items from `first` on is these statements, and then what is meant by the items from k on
+pub record StatementsRead (header : Header) (items : List Item) (first : ℕ) (statements : List Statement) (k : ℕ) : Type 0 where
+  pub is : Continues (statements_of header (drop first items)) statements (statements_of header (drop k items))
+
+pub none_read : (header : Header) (items : List Item) (first : ℕ) → StatementsRead header items first [] first
+none_read header items first = record { is = starts (statements_of header (drop first items)) }
+
+module _ {header : Header} {items : List Item} {first : ℕ} {statements : List Statement} {k : ℕ} (h : StatementsRead header items first statements k) where
+  at_item : (item : Item) → slice_get items k ≡ Some item
+      → Continues (statements_of header (drop first items)) statements
+      (statement_of_kind header item (kind_of item) >>= λ one. statements_of header (drop (k + 1) items) >>= λ others. Ok (one ∷ others))
+  unfolding statements_of
+  at_item item e = let here = drop_at items k item e in rw here at h.is
+
+  pub statement_read : (item : Item) (one : Statement) → slice_get items k ≡ Some item
+      → statement_of_kind header item (kind_of item) ≡ Ok one → StatementsRead header items first (statements ++ one ∷ []) (k + 1)
+  statement_read item one e read = record { is = continues_one _ statements one _ (rw read at (at_item item e)) }
+
+  pub statement_fault : (item : Item) (e : TextFault) → slice_get items k ≡ Some item
+      → Reads (statement_of_kind header item (kind_of item)) (Err e) → Reads (statements_of header (drop first items)) (Err e)
+  statement_fault item (At e) s read =
+      let stops : Continues (statements_of header (drop first items)) statements (Err e) = rw read at (at_item item s) in stops.is
+  statement_fault item Memory s read = tt
+
+  pub statements_end : length items ≤ k → statements_of header (drop first items) ≡ Ok statements
+  unfolding statements_of
+  statements_end l = let none = drop_all k items l in continues_none _ statements (rw none at h.is)
