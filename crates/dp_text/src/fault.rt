@@ -1,5 +1,7 @@
 //! Why a text was not read.
-use dp_meaning::Fault;
+ghost use Rattle.std.specs.Prelude.{◌≡◌};
+
+use dp_meaning::{Fault, Why};
 use dp_num::Memory;
 use std::alloc::{AllocError, AllocFailed};
 
@@ -10,6 +12,13 @@ pub enum TextFault {
     At(Fault),
     /// Memory ran out.
     Memory,
+}
+
+/// What is wrong at an offset.
+pub(crate) fn fault(why: Why, at: u32) -> Fault
+    ensures { result ≡ record { at = at; why = why } }
+{
+    Fault { at, why }
 }
 
 impl From<Fault> for TextFault {
