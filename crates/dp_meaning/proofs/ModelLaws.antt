@@ -35,6 +35,7 @@ use Rattle.dp_meaning.proofs.ReadValues.{IsList}
 use Rattle.dp_meaning.proofs.ReadHeader.{AreLists, IsHeader, header_is}
 use Rattle.dp_meaning.proofs.ReadStatements.{IsStatement, statements_are}
 use Rattle.dp_meaning.proofs.ReadScales.{some_scale, some_start_scale, rewards_only, reward_digits, cell_bound}
+use Rattle.std.proofs.lemmas.Bool.{leb-true}
 
 -- ---- the text
 
@@ -89,16 +90,13 @@ table_model_sizes text start trans obs is fits =
 discount_parts : (d : Decimal) → is_chance d ≡ true → (d.digits ≤ 18) × (unsigned_abs d.units ≤ 10 ^ d.digits)
 discount_parts d e = by (is_at_most d.units (10 ^ d.digits)) refl (nat_le d.digits 18) refl e
   where
-    below : (a b : ℕ) → nat_le a b ≡ true → a ≤ b
-    below a b t = grind (arith, nat_tests)
-
     magnitude : (z : ℤ) (n : ℕ) → is_at_most z n ≡ true → unsigned_abs z ≤ n
-    magnitude (pos k) n t = below k n t
+    magnitude (pos k) n t = leb-true k n t
     magnitude (negsuc k) n t = cc
 
     by : (b : Bool) → is_at_most d.units (10 ^ d.digits) ≡ b → (c : Bool) → nat_le d.digits 18 ≡ c → (b && c) ≡ true
         → (d.digits ≤ 18) × (unsigned_abs d.units ≤ 10 ^ d.digits)
-    by true s true t f = (below _ _ t, magnitude _ _ s)
+    by true s true t f = (leb-true _ _ t, magnitude _ _ s)
     by true s false t f = cc
     by false s c t f = cc
 
