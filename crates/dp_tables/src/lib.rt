@@ -2,3 +2,4 @@
 //! repair of its rows.
 #![tactic(auto)]
 
+mod writing;
