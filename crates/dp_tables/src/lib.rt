@@ -2,3 +2,6 @@
 //! repair of its rows.
 #![tactic(auto)]
 
+mod sizes;
+
+pub use sizes::{joint_actions, joint_observations, states};
