@@ -3,5 +3,6 @@
 #![tactic(auto)]
 
 mod sizes;
+mod statements;
 
 pub use sizes::{joint_actions, joint_observations, states};
