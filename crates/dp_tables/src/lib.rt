@@ -2,6 +2,7 @@
 //! repair of its rows.
 #![tactic(auto)]
 
+mod scales;
 mod sizes;
 mod statements;
 
