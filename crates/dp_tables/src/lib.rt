@@ -2,4 +2,9 @@
 //! repair of its rows.
 #![tactic(auto)]
 
+mod scales;
+mod sizes;
+mod statements;
 mod writing;
+
+pub use sizes::{joint_actions, joint_observations, states};
