@@ -1,2 +1,3 @@
 pub mod ScaleLemmas
 pub mod WritingLemmas
+pub mod FlatCells

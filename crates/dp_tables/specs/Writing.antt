@@ -1,7 +1,10 @@
 -- Writing a block of values into the cells of a table that a statement covers.
-use Rattle.std.specs.Prelude.{◌≡◌, ℕ, ◌+◌, ◌*◌, ◌%◌, ◌<◌, Bool, if◌then◌else◌, List, [], ◌∷◌, length, get_or}
+use Rattle.std.specs.Prelude.{◌≡◌, ℕ, ◌%◌, ◌<◌, Bool, if◌then◌else◌, List, [], ◌∷◌, length, get_or, map}
+use Rattle.std.specs.List.{flat_map}
 use Rattle.dp_meaning.specs.declared.statement.Part.{Part}
 use Rattle.dp_meaning.specs.declared.statement.Part.TheVariants.{Any, Only}
+use Rattle.dp_meaning.specs.NameLists.{size_of}
+use Rattle.dp_meaning.specs.Fields.{Axis}
 use Rattle.dp_meaning.specs.Cells.{allow}
 use Rattle.dp_spec.specs.JointNumbers.{parts_of}
 
@@ -25,3 +28,13 @@ abbrev pub AreWritten : {T : Type 0} → List ℕ → List Part → List T → L
 AreWritten {T} sizes parts block before after =
     (k : ℕ) (d : T) → k < length before →
     get_or after k d ≡ (if is_covered sizes parts k then get_or block (k % length block) d else get_or before k d)
+
+-- ---- a table by all lists of its axes
+
+-- the sizes of the lists, in order
+abbrev pub list_sizes : List Axis → List ℕ
+list_sizes axes = flat_map (map size_of) axes
+
+-- the parts of all fields, which stand for the first of these lists
+abbrev pub list_parts : List (List Part) → List Part
+list_parts fields = flat_map (λ parts. parts) fields
