@@ -1,3 +1,4 @@
 pub mod ScaleLemmas
+pub mod BlockLemmas
 pub mod WritingLemmas
 pub mod FlatCells

@@ -2,6 +2,8 @@
 //! repair of its rows.
 #![tactic(auto)]
 
+mod blocks;
+mod lists;
 mod scales;
 mod sizes;
 mod statements;
