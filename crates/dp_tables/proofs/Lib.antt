@@ -2,3 +2,4 @@ pub mod ScaleLemmas
 pub mod BlockLemmas
 pub mod WritingLemmas
 pub mod FlatCells
+pub mod ChanceLemmas

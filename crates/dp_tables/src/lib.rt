@@ -3,10 +3,12 @@
 #![tactic(auto)]
 
 mod blocks;
+mod chance_table;
 mod lists;
 mod scales;
 mod sizes;
 mod statements;
 mod writing;
 
+pub use chance_table::chances;
 pub use sizes::{joint_actions, joint_observations, states};
