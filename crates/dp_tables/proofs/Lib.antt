@@ -3,3 +3,4 @@ pub mod BlockLemmas
 pub mod WritingLemmas
 pub mod FlatCells
 pub mod ChanceLemmas
+pub mod ChanceTables
