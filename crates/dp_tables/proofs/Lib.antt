@@ -3,4 +3,5 @@ pub mod BlockLemmas
 pub mod WritingLemmas
 pub mod FlatCells
 pub mod ChanceLemmas
+pub mod CellTables
 pub mod ChanceTables
