@@ -1,5 +1,5 @@
 //! One list of names.
-ghost use Rattle.std.specs.Prelude.{◌≡◌, [], ◌<◌, ◌^◌, ◌↔◌, IsTrue, IsNone, not, length, slice_get, IfOk, OnOk, OnErr};
+ghost use Rattle.std.specs.Prelude.{◌≡◌, [], ◌<◌, ◌≤◌, ◌^◌, ◌↔◌, IsTrue, IsNone, not, length, slice_get, IfOk, OnOk, OnErr};
 ghost use Rattle.std.specs.Option.{option_copied};
 ghost use Rattle.dp_num.specs.Names.{is_name};
 ghost use Rattle.dp_model.specs.Names.{IsNameList, has_name, place_of, with_name};
@@ -45,9 +45,10 @@ impl NameList {
         let _ = &self.names;
     }
 
-    /// How many names it has.
+    /// How many names there are.
     pub fn len(&self) -> u32
-        ensures { result ≡ length self.now }
+        ensures is { result ≡ length self.now }
+        ensures limit { result ≤ 2 ^ 26 }
     {
         self.names.len() as u32
     }

@@ -1,0 +1,7 @@
+pub mod ScaleLemmas
+pub mod BlockLemmas
+pub mod WritingLemmas
+pub mod FlatCells
+pub mod ChanceLemmas
+pub mod CellTables
+pub mod ChanceTables

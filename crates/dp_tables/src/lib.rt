@@ -2,3 +2,13 @@
 //! repair of its rows.
 #![tactic(auto)]
 
+mod blocks;
+mod chance_table;
+mod lists;
+mod scales;
+mod sizes;
+mod statements;
+mod writing;
+
+pub use chance_table::chances;
+pub use sizes::{joint_actions, joint_observations, states};
