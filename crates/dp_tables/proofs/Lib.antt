@@ -1,1 +1,3 @@
+pub mod LimitLemmas
 pub mod ScaleLemmas
+pub mod SizeLemmas

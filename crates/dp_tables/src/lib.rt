@@ -2,8 +2,10 @@
 //! repair of its rows.
 #![tactic(auto)]
 
+mod limits;
 mod scales;
 mod sizes;
 mod statements;
 
+pub use limits::scales_within_limits;
 pub use sizes::{joint_actions, joint_observations, states};
