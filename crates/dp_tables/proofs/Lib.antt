@@ -1,3 +1,4 @@
+pub mod LimitLemmas
 pub mod ScaleLemmas
 pub mod BlockLemmas
 pub mod WritingLemmas
@@ -5,3 +6,4 @@ pub mod FlatCells
 pub mod ChanceLemmas
 pub mod CellTables
 pub mod ChanceTables
+pub mod SizeLemmas

@@ -1,6 +1,5 @@
 -- The limits on a model file in groups, each of which is tried when those before it are kept.
 use Rattle.std.specs.Prelude.{ℕ, ◌*◌, ◌^◌, List, [], ◌∷◌, map, Option}
-use Rattle.dp_spec.specs.declared.scales.Scales.{Scales}
 use Rattle.dp_model.specs.declared.limit.Limit.TheVariants as limits
 use Rattle.dp_model.specs.declared.limit.TooLarge.{TooLarge}
 use Rattle.dp_meaning.specs.declared.text.Text.{Text}
@@ -25,10 +24,10 @@ cell_limits a s o =
     ∷ at_most limits.RewardCells (a * s * s * o) (2 ^ 28)
     ∷ []
 
--- the limits on the scales of chances
-abbrev pub scale_limits : Scales → List (Option TooLarge)
-scale_limits scales =
-    at_most limits.Scale scales.start (2 ^ 62)
-    ∷ at_most limits.Scale scales.trans (2 ^ 62)
-    ∷ at_most limits.Scale scales.obs (2 ^ 62)
+-- the limits on the scales of the start, of the transitions and of the observations
+abbrev pub scale_limits : ℕ → ℕ → ℕ → List (Option TooLarge)
+scale_limits start trans obs =
+    at_most limits.Scale start (2 ^ 62)
+    ∷ at_most limits.Scale trans (2 ^ 62)
+    ∷ at_most limits.Scale obs (2 ^ 62)
     ∷ []

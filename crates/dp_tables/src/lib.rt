@@ -5,10 +5,12 @@
 mod blocks;
 mod chance_table;
 mod lists;
+mod limits;
 mod scales;
 mod sizes;
 mod statements;
 mod writing;
 
 pub use chance_table::chances;
+pub use limits::scales_within_limits;
 pub use sizes::{joint_actions, joint_observations, states};
