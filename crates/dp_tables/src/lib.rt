@@ -2,3 +2,5 @@
 //! repair of its rows.
 #![tactic(auto)]
 
+
+mod repair;

@@ -1,0 +1,73 @@
+//! The repair of rows of chances.
+ghost use Rattle.std.specs.Prelude.{◌≡◌, ◌≢◌, ◌≤◌, ◌^◌, IsTrue, length, sum};
+ghost use Rattle.dp_meaning.specs.Rows.{greatest_cell, greatest_place, is_near, repaired_cells};
+ghost use Rattle.dp_tables.specs.Repair.{RepairsRow};
+
+fn sum_of(row: &[u64]) -> u128
+    requires { length row.now ≤ 256 }
+    ensures is { result ≡ sum row.now }
+    ensures limit { result ≤ 2 ^ 72 }
+{
+    let mut total = 0;
+    for cell in row {
+        total += u128::from(*cell);
+    }
+    total
+}
+
+fn greatest_cell(row: &[u64]) -> u64
+    ensures { result ≡ greatest_cell row.now }
+{
+    let mut greatest = 0;
+    for cell in row {
+        greatest = greatest.max(*cell);
+    }
+    greatest
+}
+
+// The place of the first of the largest cells.
+fn greatest_place(row: &[u64]) -> usize
+    ensures { result ≡ greatest_place row.now }
+{
+    let greatest = greatest_cell(row);
+    row.iter().take_while(|cell| **cell != greatest).count()
+}
+
+// Whether the sum of a row misses the scale by at most a thousandth of it.
+fn is_near(scale: u64, total: u128) -> bool
+    requires { total ≤ 2 ^ 72 }
+    ensures { result ≡ is_near scale total }
+{
+    total.abs_diff(u128::from(scale)) * 1000 <= u128::from(scale)
+}
+
+// Puts what is missing to the scale, or too much, at the first of the largest cells.
+#[tactic(auto, using(crate::proofs::RepairLemmas::place_of_near), unfolding(dp_meaning::specs::Rows::repaired_cells))]
+fn move_sum(row: &mut [u64], scale: u64, total: u128)
+    requires short { length row.old ≤ 256 }
+    requires total { total ≡ sum row.old }
+    requires near { IsTrue (is_near scale total) }
+    requires wrong { total ≢ scale }
+    ensures { row.new ≡ repaired_cells scale row.old }
+{
+    let place = greatest_place(row);
+    let cell = u128::from(row[place]) + u128::from(scale) - total;
+    row[place] = cell as u64;
+}
+
+// Repairs a row where its sum is not the scale, but nearly. Answers how often that was, or nothing where the sum is
+// too far from the scale.
+fn repair_row(row: &mut [u64], scale: u64) -> Option<u32>
+    requires { length row.old ≤ 256 }
+    ensures { RepairsRow scale row.old row.new result }
+{
+    let total = sum_of(row);
+    if total == u128::from(scale) {
+        return Some(0);
+    }
+    if !is_near(scale, total) {
+        return None;
+    }
+    move_sum(row, scale, total);
+    Some(1)
+}
