@@ -1,7 +1,6 @@
 -- The first of the largest cells of a row, and what is put there.
 use Rattle.std.proofs.Common.{◌≡◌, ◌≢◌, ℕ, ◌+◌, ◌*◌, ◌-◌, ◌<◌, ◌≤◌, true, List, [], ◌∷◌, length, get_or, arith}
 use Rattle.std.specs.Prelude.{◌==◌, sum}
-use Rattle.std.specs.List.{position_or_len}
 use Rattle.std.proofs.lemmas.Bool.Decides.{nat_tests}
 use Rattle.std.proofs.lemmas.Nat.{mul-le}
 use Rattle.std.proofs.lemmas.List.Sums.{sum_by-le, passes_at_first}
@@ -39,4 +38,3 @@ place_of_near scale (x ∷ xs) short near wrong =
         → total ≤ greatest + scale
     enough len greatest scale total short most near =
         let times : len * greatest ≤ 999 * greatest = mul-le len greatest 999 greatest (omega arith) (omega arith) in omega arith
-

@@ -2,5 +2,4 @@
 //! repair of its rows.
 #![tactic(auto)]
 
-
 mod repair;

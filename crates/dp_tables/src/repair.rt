@@ -1,7 +1,7 @@
 //! The repair of rows of chances.
-ghost use Rattle.std.specs.Prelude.{◌≡◌, ◌≢◌, ◌≤◌, ◌^◌, IsTrue, length, sum};
+ghost use Rattle.std.specs.Prelude.{◌≡◌, ◌≢◌, ◌<◌, ◌≤◌, ◌*◌, ◌^◌, IfSome, IsTrue, length, sum};
 ghost use Rattle.dp_meaning.specs.Rows.{greatest_cell, greatest_place, is_near, repaired_cells};
-ghost use Rattle.dp_tables.specs.Repair.{RepairsRow};
+ghost use Rattle.dp_tables.specs.Repair.{RepairsRow, RepairsRows};
 
 fn sum_of(row: &[u64]) -> u128
     requires { length row.now ≤ 256 }
@@ -59,7 +59,8 @@ fn move_sum(row: &mut [u64], scale: u64, total: u128)
 // too far from the scale.
 fn repair_row(row: &mut [u64], scale: u64) -> Option<u32>
     requires { length row.old ≤ 256 }
-    ensures { RepairsRow scale row.old row.new result }
+    ensures is { RepairsRow scale row.old row.new result }
+    ensures once { IfSome result (λ count. count ≤ 1) }
 {
     let total = sum_of(row);
     if total == u128::from(scale) {
@@ -70,4 +71,24 @@ fn repair_row(row: &mut [u64], scale: u64) -> Option<u32>
     }
     move_sum(row, scale, total);
     Some(1)
+}
+
+/// Repairs the rows of `len` cells each, in order, and answers how many were not right before; or else the number of
+/// the first row that cannot be repaired.
+pub fn repair_rows(cells: &mut [u64], rows: usize, len: usize, scale: u64) -> Result<u32, usize>
+    requires size { rows * len ≡ length cells.old }
+    requires rows { rows ≤ 2 ^ 16 }
+    requires short { len ≤ 256 }
+    requires scale { 0 < scale }
+    ensures { RepairsRows scale rows len cells.old cells.new result }
+{
+    let mut repaired = 0;
+    for row in 0..rows {
+        let from = row * len;
+        match repair_row(&mut cells[from..from + len], scale) {
+            Some(count) => repaired += count,
+            None => return Err(row),
+        }
+    }
+    Ok(repaired)
 }
