@@ -1,6 +1,6 @@
 -- What each element of a list has.
-use Rattle.std.proofs.Common.{ℕ, zero, suc, ◌+◌, List, [], ◌∷◌, ◌++◌, get_or, map, sym, subst, arith}
-use Rattle.std.specs.Prelude.{reverse, All}
+use Rattle.std.proofs.Common.{ℕ, zero, suc, ◌+◌, Bool, true, false, cond, List, [], ◌∷◌, ◌++◌, get_or, map, sym, subst, arith}
+use Rattle.std.specs.Prelude.{filter, reverse, All}
 use Rattle.std.specs.List.{range_with_len}
 use Rattle.std.proofs.lemmas.List.{reverse-append}
 
@@ -31,6 +31,14 @@ each_from P Q h (x ∷ xs) p = (h x p.0, each_from P Q h xs p.1)
 pub each_append : {X : Type 0} (P : X → Type 0) (xs ys : List X) → Each P xs → Each P ys → Each P (xs ++ ys)
 each_append P [] ys p q = q
 each_append P (x ∷ xs) ys p q = (p.0, each_append P xs ys p.1 q)
+
+pub each_filter : {X : Type 0} (P : X → Type 0) (p : X → Bool) (xs : List X) → Each P xs → Each P (filter p xs)
+each_filter P p [] each = tt
+each_filter P p (x ∷ xs) each = by (p x) (each_filter P p xs each.1)
+  where
+    by : (b : Bool) → Each P (filter p xs) → Each P (cond b (x ∷ filter p xs) (filter p xs))
+    by true rest = (each.0, rest)
+    by false rest = rest
 
 pub each_reverse : {X : Type 0} (P : X → Type 0) (xs : List X) → Each P xs → Each P (reverse xs)
 each_reverse P [] p = tt

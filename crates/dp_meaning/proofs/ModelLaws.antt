@@ -1,10 +1,8 @@
 -- The model that a text means keeps what every model keeps.
-use Rattle.std.proofs.Common.{◌≡◌, ℕ, zero, suc, ◌*◌, ◌^◌, ◌<◌, ◌≤◌, Bool, true, false, List, [], ◌∷◌, length, get_or, map, refl, sym, subst, ◌∙◌, arith, pos, negsuc}
-use Rattle.std.specs.Prelude.{◌&&◌, nat_le, ℤ, unsigned_abs, Ok}
-use Rattle.std.proofs.lemmas.Bool.Decides.{nat_tests}
+use Rattle.std.proofs.Common.{◌≡◌, ℕ, zero, suc, ◌*◌, ◌^◌, ◌<◌, ◌≤◌, List, [], ◌∷◌, length, get_or, map, refl, sym, subst, ◌∙◌, arith, pos}
+use Rattle.std.specs.Prelude.{unsigned_abs, Ok}
 use Rattle.std.proofs.lemmas.List.{length-map}
 use Rattle.std.proofs.lemmas.Nat.{mul-le}
-use Rattle.dp_num.specs.declared.decimal.Decimal.{Decimal}
 use Rattle.dp_num.proofs.SignificandLaws.{some_tens}
 use Rattle.dp_lexer.specs.Tokens.{tokens_of}
 use Rattle.dp_spec.specs.JointNumbers.{product}
@@ -17,7 +15,6 @@ use Rattle.dp_meaning.specs.declared.given_list.GivenList.TheVariants.{Counted, 
 use Rattle.dp_meaning.specs.declared.statement.Table.TheVariants.{Reward}
 use Rattle.dp_meaning.specs.declared.text.Text.{Text}
 use Rattle.dp_meaning.specs.Items.{items_of_pieces}
-use Rattle.dp_meaning.specs.Numbers.{is_at_most, is_chance}
 use Rattle.dp_meaning.specs.NameLists.{size_of, names_in}
 use Rattle.dp_meaning.specs.Header.{header_of, no_entries}
 use Rattle.dp_meaning.specs.Statements.{axes_of, statements_of}
@@ -34,7 +31,7 @@ use Rattle.dp_meaning.proofs.Each.{Each, each_at, each_of_range}
 use Rattle.dp_meaning.proofs.ReadValues.{IsList}
 use Rattle.dp_meaning.proofs.ReadHeader.{AreLists, IsHeader, header_is}
 use Rattle.dp_meaning.proofs.ReadStatements.{IsStatement, statements_are}
-use Rattle.dp_meaning.proofs.ReadScales.{some_scale, some_start_scale, rewards_only, reward_digits, cell_bound}
+use Rattle.dp_meaning.proofs.ReadScales.{chance_parts, some_scale, some_start_scale, rewards_only, reward_digits, cell_bound}
 
 -- ---- the text
 
@@ -42,7 +39,8 @@ pub record IsText (text : Text) : Type 0 where
   pub header : IsHeader text.header
   pub statements : Each IsStatement text.statements
 
-text_is : (bytes : List ℕ) (text : Text) → text_of bytes ≡ Ok text → IsText text
+-- what is known of a text that some file says
+pub text_is : (bytes : List ℕ) (text : Text) → text_of bytes ≡ Ok text → IsText text
 unfolding text_of
 text_is bytes text e =
     let pieces = bind_ok (pieces_of_tokens bytes (tokens_of bytes)) _ text e in
@@ -56,7 +54,7 @@ text_is bytes text e =
 
 -- ---- sizes
 
-some_product : (lists : List GivenList) → Each IsList lists → 0 < product (map size_of lists)
+pub some_product : (lists : List GivenList) → Each IsList lists → 0 < product (map size_of lists)
 some_product [] each = omega arith
 some_product (l ∷ lists) each =
     let h = mul-le 1 1 (size_of l) (product (map size_of lists)) each.0.some (some_product lists each.1) in omega arith
@@ -86,26 +84,10 @@ table_model_sizes text start trans obs is fits =
 
 -- ---- scales
 
-discount_parts : (d : Decimal) → is_chance d ≡ true → (d.digits ≤ 18) × (unsigned_abs d.units ≤ 10 ^ d.digits)
-discount_parts d e = by (is_at_most d.units (10 ^ d.digits)) refl (nat_le d.digits 18) refl e
-  where
-    below : (a b : ℕ) → nat_le a b ≡ true → a ≤ b
-    below a b t = grind (arith, nat_tests)
-
-    magnitude : (z : ℤ) (n : ℕ) → is_at_most z n ≡ true → unsigned_abs z ≤ n
-    magnitude (pos k) n t = below k n t
-    magnitude (negsuc k) n t = cc
-
-    by : (b : Bool) → is_at_most d.units (10 ^ d.digits) ≡ b → (c : Bool) → nat_le d.digits 18 ≡ c → (b && c) ≡ true
-        → (d.digits ≤ 18) × (unsigned_abs d.units ≤ 10 ^ d.digits)
-    by true s true t f = (below _ _ t, magnitude _ _ s)
-    by true s false t f = cc
-    by false s c t f = cc
-
 scales_are : (text : Text) → IsText text → IsSmall text → AreScales (scales_of text)
 unfolding scales_of
 scales_are text is fits =
-    let discount = discount_parts text.header.discount is.header.discount in
+    let discount = chance_parts text.header.discount is.header.discount in
     record {
       start = some_start_scale text.header.start (states_in text) is.header.states.some;
       trans = some_scale _ _ (states_in text) is.header.states.some;

@@ -1,8 +1,10 @@
 -- What is known of a header that is read.
-use Rattle.std.proofs.Common.{◌≡◌, ℕ, true, List, [], ◌∷◌, length, refl, sym, ap, subst, ◌∙◌}
-use Rattle.std.specs.Prelude.{Option, Some, None}
+use Rattle.std.proofs.Common.{◌≡◌, ℕ, Bool, true, false, cond, List, [], ◌∷◌, length, refl, sym, ap, subst, ◌∙◌}
+use Rattle.std.specs.Prelude.{codes, Option, Some, None}
 use Rattle.dp_num.specs.declared.decimal.Decimal.{Decimal}
 use Rattle.dp_meaning.specs.declared.given_list.GivenList.{GivenList}
+use Rattle.dp_meaning.specs.declared.header.Start.{Start}
+use Rattle.dp_meaning.specs.declared.header.Start.TheVariants.{AnyState, OneState, StartRow}
 use Rattle.dp_meaning.specs.declared.header.Entry.{Entry}
 use Rattle.dp_meaning.specs.declared.header.Entry.TheVariants.{Agents, Discount, Values, States, StartEntry, Actions, Observations}
 use Rattle.dp_meaning.specs.declared.statement.ItemKind.{ItemKind}
@@ -12,24 +14,34 @@ use Rattle.dp_meaning.specs.declared.header.Header.{Header}
 use Rattle.dp_meaning.specs.declared.why.Why.TheVariants as why
 use Rattle.dp_meaning.specs.Faults.{◌>>=◌, fault}
 use Rattle.dp_meaning.specs.Items.{Piece, Item, item_at, value_pieces}
-use Rattle.dp_meaning.specs.Numbers.{is_chance, number}
-use Rattle.dp_meaning.specs.NameLists.{size_of, name_list, name_lists}
-use Rattle.dp_meaning.specs.Entries.{discount_of, is_cost, agent_lines, start_of}
+use Rattle.dp_meaning.specs.Numbers.{is_chance, number, numbers, ended}
+use Rattle.dp_meaning.specs.NameLists.{size_of, says, find_in, name_list, name_lists}
+use Rattle.dp_meaning.specs.Entries.{discount_of, is_cost, agent_lines, is_one_state, start_of}
 use Rattle.dp_meaning.specs.Header.{kind_of, no_entries, unless_come, entry, with_entry, header_with, header_of}
 use Rattle.dp_meaning.proofs.FaultSteps.{done, ok_same, err_not_ok, bind_ok}
 use Rattle.dp_meaning.proofs.Each.{Each}
-use Rattle.dp_meaning.proofs.ReadValues.{IsList, number_fits, ended_same, list_is, lists_are}
+use Rattle.dp_meaning.proofs.ReadValues.{IsList, number_fits, numbers_fit, ended_same, list_is, lists_are}
 
 -- lists for the agents: one for each
 pub record AreLists (agents : GivenList) (lists : List GivenList) : Type 0 where
   pub count : length lists ≡ size_of agents
   pub each : Each IsList lists
 
+-- the chances of a row of them
+abbrev pub chances_in : Start → List Decimal
+chances_in (StartRow at ns) = ns
+chances_in _ = []
+
+-- a start by chances alone
+abbrev pub IsStart : Start → Type 0
+IsStart start = Each (λ d. is_chance d ≡ true) (chances_in start)
+
 -- what is known of the entries that have come
 record AreEntries (e : Entries) : Type 0 where
   agents : (l : GivenList) → e.agents ≡ Some l → IsList l
   states : (l : GivenList) → e.states ≡ Some l → IsList l
   discount : (d : Decimal) → e.discount ≡ Some d → is_chance d ≡ true
+  start : (x : Start) → e.start ≡ Some x → IsStart x
   actions : (ls : List GivenList) → e.actions ≡ Some ls → (l : GivenList) × (e.agents ≡ Some l) × AreLists l ls
   observations : (ls : List GivenList) → e.observations ≡ Some ls → (l : GivenList) × (e.agents ≡ Some l) × AreLists l ls
 
@@ -38,6 +50,7 @@ pub record IsHeader (h : Header) : Type 0 where
   pub agents : IsList h.agents
   pub states : IsList h.states
   pub discount : is_chance h.discount ≡ true
+  pub start : IsStart h.start
   pub actions : AreLists h.agents h.actions
   pub observations : AreLists h.agents h.observations
 
@@ -60,6 +73,24 @@ discount_fits next (piece ∷ pieces) d e =
     let w = bind_ok (number is_chance piece) _ d e in
     subst (λ n. is_chance n ≡ true) (ended_same w.0 d pieces w.2) (number_fits is_chance piece w.0 w.1)
 
+-- a start that is read is by chances
+start_is : (states : GivenList) (next : ℕ) (pieces : List Piece) (start : Start) → start_of states next pieces ≡ done start → IsStart start
+unfolding start_of
+start_is states next [] start e = absurd (err_not_ok start _ e)
+start_is states next (piece ∷ pieces) start e =
+    by (says (codes "uniform") piece) (is_one_state (size_of states) piece pieces) e
+  where
+    by : (b c : Bool) → cond b (ended AnyState pieces) (cond c (find_in states piece >>= λ s. ended (OneState s) pieces)
+        (numbers is_chance next (size_of states) (piece ∷ pieces) >>= λ row. done (StartRow piece.at row))) ≡ done start
+        → IsStart start
+    by true c f = subst IsStart (ended_same AnyState start pieces f) tt
+    by false true f =
+        let w = bind_ok (find_in states piece) _ start f in subst IsStart (ended_same (OneState w.0) start pieces w.2) tt
+    by false false f =
+        let w = bind_ok (numbers is_chance next (size_of states) (piece ∷ pieces)) _ start f in
+        subst IsStart (ok_same (StartRow piece.at w.0) start w.2)
+        (numbers_fit is_chance next (size_of states) (piece ∷ pieces) w.0 w.1)
+
 read_lists : (next : ℕ) (agents : GivenList) (lines : List (List Piece)) (lists : List GivenList)
     → name_lists next (size_of agents) lines ≡ done lists → AreLists agents lists
 read_lists next agents lines lists e = let w = lists_are next (size_of agents) lines lists e in record { count = w.0; each = w.1 }
@@ -74,6 +105,7 @@ with_entry_is Agents item e more is f =
       agents = λ l s. subst IsList (some_same value.0 l s) (list_is item.next (value_pieces item) value.0 value.1);
       states = is.states;
       discount = is.discount;
+      start = is.start;
       actions = λ ls s. absurd (clash none (is.actions ls s));
       observations = λ ls s. absurd (clash none (is.observations ls s));
     })
@@ -88,6 +120,7 @@ with_entry_is Discount item e more is f =
       states = is.states;
       discount = λ d s. subst (λ x. is_chance x ≡ true) (some_same value.0 d s)
           (discount_fits item.next (value_pieces item) value.0 value.1);
+      start = is.start;
       actions = is.actions;
       observations = is.observations;
     })
@@ -98,6 +131,7 @@ with_entry_is Values item e more is f =
       agents = is.agents;
       states = is.states;
       discount = is.discount;
+      start = is.start;
       actions = is.actions;
       observations = is.observations;
     })
@@ -108,6 +142,7 @@ with_entry_is States item e more is f =
       agents = is.agents;
       states = λ l s. subst IsList (some_same value.0 l s) (list_is item.next (value_pieces item) value.0 value.1);
       discount = is.discount;
+      start = is.start;
       actions = is.actions;
       observations = is.observations;
     })
@@ -119,6 +154,7 @@ with_entry_is StartEntry item e more is f =
       agents = is.agents;
       states = is.states;
       discount = is.discount;
+      start = λ x s. subst IsStart (some_same value.0 x s) (start_is states.0 item.next (value_pieces item) value.0 value.1);
       actions = is.actions;
       observations = is.observations;
     })
@@ -130,6 +166,7 @@ with_entry_is Actions item e more is f =
       agents = is.agents;
       states = is.states;
       discount = is.discount;
+      start = is.start;
       actions = λ ls s. (
         agents.0,
         entry_come (item_at item) e.agents agents.0 agents.1,
@@ -146,6 +183,7 @@ with_entry_is Observations item e more is f =
       agents = is.agents;
       states = is.states;
       discount = is.discount;
+      start = is.start;
       actions = is.actions;
       observations = λ ls s. (
         agents.0,
@@ -176,6 +214,7 @@ header_with_is at e h is f =
       agents = is.agents agents.0 named;
       states = is.states states.0 (entry_come at e.states states.0 states.1);
       discount = is.discount discount.0 (entry_come at e.discount discount.0 discount.1);
+      start = is.start start.0 (entry_come at e.start start.0 start.1);
       actions = lists_of e agents.0 actions.0 named (is.actions actions.0 (entry_come at e.actions actions.0 actions.1));
       observations = lists_of e agents.0 observations.0 named
           (is.observations observations.0 (entry_come at e.observations observations.0 observations.1));
@@ -204,6 +243,7 @@ header_is end items h f = header_from end no_entries items h (record {
   agents = λ l s. absurd (never l s);
   states = λ l s. absurd (never l s);
   discount = λ d s. absurd (never d s);
+  start = λ x s. absurd (never x s);
   actions = λ ls s. absurd (never ls s);
   observations = λ ls s. absurd (never ls s);
 }) f

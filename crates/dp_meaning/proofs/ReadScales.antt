@@ -1,5 +1,5 @@
 -- The scales of a text that is read, and its rewards over theirs.
-use Rattle.std.proofs.Common.{◌≡◌, ℕ, ◌+◌, ◌*◌, ◌/◌, ◌-◌, ◌^◌, ◌<◌, ◌≤◌, Bool, true, false, cond, List, [], ◌∷◌, length, map, drop, refl, sym, ap, subst, ◌∙◌, arith, pos, neg_ℤ, ℤ}
+use Rattle.std.proofs.Common.{◌≡◌, ℕ, ◌+◌, ◌*◌, ◌/◌, ◌-◌, ◌^◌, ◌<◌, ◌≤◌, Bool, true, false, cond, List, [], ◌∷◌, length, map, drop, refl, sym, ap, subst, ◌∙◌, arith, pos, negsuc, neg_ℤ, ℤ}
 use Rattle.std.specs.Prelude.{◌&&◌, nat_le, ◌*ℤ◌, unsigned_abs, reverse, Some}
 use Rattle.std.specs.List.{find}
 use Rattle.std.proofs.lemmas.Bool.Decides.{nat_tests}
@@ -18,12 +18,12 @@ use Rattle.dp_meaning.specs.declared.statement.Table.TheVariants.{Trans, Obs, Re
 use Rattle.dp_meaning.specs.declared.statement.Value.{Value}
 use Rattle.dp_meaning.specs.declared.statement.Value.TheVariants.{Uniform, Identity, Numbers}
 use Rattle.dp_meaning.specs.declared.statement.Statement.{Statement}
-use Rattle.dp_meaning.specs.Numbers.{is_reward}
+use Rattle.dp_meaning.specs.Numbers.{is_at_most, is_chance, is_reward}
 use Rattle.dp_meaning.specs.Fields.{Axis}
 use Rattle.dp_meaning.specs.Statements.{axis_size, is_number_of}
 use Rattle.dp_meaning.specs.Cells.{Cell, covers, is_same_table, statements_for, no_number, number_at, reward_over, given_reward, reward_by, reward_of_cell}
 use Rattle.dp_meaning.specs.Scales.{most_digits, digits_of_value, digits_of_statements, scale_of, start_scale}
-use Rattle.dp_meaning.proofs.Each.{Each, each_at, each_with, each_from, each_reverse}
+use Rattle.dp_meaning.proofs.Each.{Each, each_at, each_with, each_from, each_filter, each_reverse}
 use Rattle.dp_meaning.proofs.Lists.{each_below_most, most_below}
 use Rattle.dp_meaning.proofs.ReadStatements.{numbers_in, IsStatement}
 
@@ -45,6 +45,29 @@ pub some_start_scale : (start : Start) (states : ℕ) → 0 < states → 0 < sta
 some_start_scale AnyState states h = some_scale 0 true states h
 some_start_scale (OneState s) states h = some_scale 0 false states h
 some_start_scale (StartRow at ns) states h = some_scale (most_digits ns) false states h
+
+-- ---- chances
+
+-- a chance is at most 1, and has at most 18 fraction digits
+pub chance_parts : (d : Decimal) → is_chance d ≡ true → (d.digits ≤ 18) × (unsigned_abs d.units ≤ 10 ^ d.digits)
+chance_parts d e = by (is_at_most d.units (10 ^ d.digits)) refl (nat_le d.digits 18) refl e
+  where
+    below : (a b : ℕ) → nat_le a b ≡ true → a ≤ b
+    below a b t = grind (arith, nat_tests)
+
+    magnitude : (z : ℤ) (n : ℕ) → is_at_most z n ≡ true → unsigned_abs z ≤ n
+    magnitude (pos k) n t = below k n t
+    magnitude (negsuc k) n t = cc
+
+    by : (b : Bool) → is_at_most d.units (10 ^ d.digits) ≡ b → (c : Bool) → nat_le d.digits 18 ≡ c → (b && c) ≡ true
+        → (d.digits ≤ 18) × (unsigned_abs d.units ≤ 10 ^ d.digits)
+    by true s true t f = (below _ _ t, magnitude _ _ s)
+    by true s false t f = cc
+    by false s c t f = cc
+
+pub row_digits : (ns : List Decimal) → Each (λ d. is_chance d ≡ true) ns → most_digits ns ≤ 18
+row_digits ns each =
+    most_below (λ d. d.digits) 18 0 ns (omega arith) (each_from _ (λ d. d.digits ≤ 18) (λ d e. (chance_parts d e).0) ns each)
 
 -- ---- rewards
 
@@ -87,6 +110,19 @@ digits_below : (v : Value) (n : ℕ) → Each (λ d. d.digits ≤ n) (numbers_in
 digits_below (Numbers ns) n each = most_below (λ d. d.digits) n 0 ns (omega arith) each
 digits_below Uniform n each = omega arith
 digits_below Identity n each = omega arith
+
+number_digits : (table : Table) (d : Decimal) → is_number_of table d ≡ true → d.digits ≤ 18
+number_digits Trans d e = (chance_parts d e).0
+number_digits Obs d e = (chance_parts d e).0
+number_digits Reward d e = let h = (reward_parts d e).0 in omega arith
+
+-- the numbers of a table have at most eighteen fraction digits
+pub table_digits : (table : Table) (ss : List Statement) → Each IsStatement ss → digits_of_statements (statements_for table ss) ≤ 18
+table_digits table ss each =
+    most_below (λ s. digits_of_value s.value) 18 0 (statements_for table ss) (omega arith)
+    (each_filter (λ s. digits_of_value s.value ≤ 18) (λ s. is_same_table table s.table) ss
+    (each_from IsStatement (λ s. digits_of_value s.value ≤ 18)
+    (λ s is. digits_below s.value 18 (each_from _ (λ d. d.digits ≤ 18) (number_digits s.table) (numbers_in s.value) is)) ss each))
 
 -- rewards have at most nine fraction digits
 pub reward_digits : (ss : List Statement) → Each GivesRewards ss → digits_of_statements ss ≤ 9

@@ -45,6 +45,9 @@ pub record IsSmall (text : Text) : Type 0 where
   pub states : states_in text ≤ 256
   pub actions : joint_actions_in text ≤ 256
   pub observations : joint_observations_in text ≤ 256
+  -- the first products that are counted are the products of all
+  pub counted_actions : product_past 256 1 (map size_of text.header.actions) ≡ joint_actions_in text
+  pub counted_observations : product_past 256 1 (map size_of text.header.observations) ≡ joint_observations_in text
   pub trans_cells : joint_actions_in text * states_in text * states_in text ≤ 2 ^ 22
   pub obs_cells : joint_actions_in text * states_in text * joint_observations_in text ≤ 2 ^ 22
   pub reward_cells : joint_actions_in text * states_in text * states_in text * joint_observations_in text ≤ 2 ^ 28
@@ -61,6 +64,8 @@ small text e =
       states = not_passed _ _ _ (none 1);
       actions = whole (map size_of text.header.actions) (not_passed _ _ _ (none 2));
       observations = whole (map size_of text.header.observations) (not_passed _ _ _ (none 3));
+      counted_actions = counted (map size_of text.header.actions) (not_passed _ _ _ (none 2));
+      counted_observations = counted (map size_of text.header.observations) (not_passed _ _ _ (none 3));
       trans_cells = not_passed _ _ _ (none 4);
       obs_cells = not_passed _ _ _ (none 5);
       reward_cells = not_passed _ _ _ (none 6);
@@ -69,5 +74,8 @@ small text e =
       obs_scale = not_passed _ _ _ (none 10);
     }
   where
+    counted : (ns : List ℕ) → product_past 256 1 ns ≤ 256 → product_past 256 1 ns ≡ product ns
+    counted ns h = let e = product_within 256 1 ns h in omega arith
+
     whole : (ns : List ℕ) → product_past 256 1 ns ≤ 256 → product ns ≤ 256
-    whole ns h = let e = product_within 256 1 ns h in omega arith
+    whole ns h = let e = counted ns h in omega arith

@@ -1,4 +1,7 @@
 //! Lists of things, as a model file gives them.
+ghost use Rattle.std.specs.Prelude.{◌≡◌};
+ghost use Rattle.dp_meaning.specs.NameLists.{size_of};
+
 use dp_model::NameList;
 
 /// The agents, the states, or the actions or observations of an agent.
@@ -8,4 +11,16 @@ pub enum GivenList {
     Counted(u32),
     /// Their names, of which there is at least one.
     Named(NameList),
+}
+
+impl GivenList {
+    /// How many things the list has.
+    pub fn size(&self) -> u32
+        ensures { result ≡ size_of self.now }
+    {
+        match self {
+            GivenList::Counted(count) => *count,
+            GivenList::Named(names) => names.len(),
+        }
+    }
 }

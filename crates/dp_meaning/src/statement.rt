@@ -1,4 +1,7 @@
 //! The statements of a model file, and what an item of it is.
+ghost use Rattle.std.specs.Prelude.{◌≡◌};
+ghost use Rattle.dp_meaning.specs.Cells.{is_same_table};
+
 use crate::Entry;
 use dp_model::Items;
 use dp_num::Decimal;
@@ -12,6 +15,18 @@ pub enum Table {
     Obs,
     /// The rewards.
     Reward,
+}
+
+impl Table {
+    /// Whether the tables are the same.
+    pub fn is_same(self, other: Table) -> bool
+        ensures { result ≡ is_same_table self other }
+    {
+        matches!(
+            (self, other),
+            (Table::Trans, Table::Trans) | (Table::Obs, Table::Obs) | (Table::Reward, Table::Reward)
+        )
+    }
 }
 
 /// What an item of a model file is, by its first token.

@@ -1,5 +1,5 @@
 //! One list of names.
-ghost use Rattle.std.specs.Prelude.{◌≡◌, [], ◌<◌, ◌^◌, ◌↔◌, IsTrue, IsNone, not, length, slice_get, IfOk, OnOk, OnErr};
+ghost use Rattle.std.specs.Prelude.{◌≡◌, [], ◌<◌, ◌≤◌, ◌^◌, ◌↔◌, IsTrue, IsNone, not, length, slice_get, IfOk, OnOk, OnErr};
 ghost use Rattle.std.specs.Option.{option_copied};
 ghost use Rattle.dp_num.specs.Names.{is_name};
 ghost use Rattle.dp_model.specs.Names.{IsNameList, has_name, place_of, with_name};
@@ -43,6 +43,14 @@ impl NameList {
         ensures { IsNameList self.now }
     {
         let _ = &self.names;
+    }
+
+    /// How many names there are.
+    pub fn len(&self) -> u32
+        ensures is { result ≡ length self.now }
+        ensures limit { result ≤ 2 ^ 26 }
+    {
+        self.names.len() as u32
     }
 
     /// Appends a name, and answers whether it is new: a name that the list has stays as it is.

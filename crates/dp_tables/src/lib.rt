@@ -3,3 +3,8 @@
 #![tactic(auto)]
 
 mod repair;
+mod sizes;
+mod statements;
+
+pub use repair::repair_rows;
+pub use sizes::{joint_actions, joint_observations, states};
