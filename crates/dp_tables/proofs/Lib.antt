@@ -1,2 +1,3 @@
 pub mod RepairLemmas
 pub mod RowsLemmas
+pub mod CoveringLemmas

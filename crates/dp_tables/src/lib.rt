@@ -2,6 +2,7 @@
 //! repair of its rows.
 #![tactic(auto)]
 
+mod covering;
 mod repair;
 mod sizes;
 mod statements;

@@ -75,16 +75,17 @@ fn repair_row(row: &mut [u64], scale: u64) -> Option<u32>
 
 /// Repairs the rows of `len` cells each, in order, and answers how many were not right before; or else the number of
 /// the first row that cannot be repaired.
-pub fn repair_rows(cells: &mut [u64], rows: usize, len: usize, scale: u64) -> Result<u32, usize>
+pub fn repair_rows(cells: &mut [u64], rows: u32, len: u32, scale: u64) -> Result<u32, u32>
     requires size { rows * len ≡ length cells.old }
     requires rows { rows ≤ 2 ^ 16 }
     requires short { len ≤ 256 }
     requires scale { 0 < scale }
     ensures { RepairsRows scale rows len cells.old cells.new result }
 {
+    let len = len as usize;
     let mut repaired = 0;
     for row in 0..rows {
-        let from = row * len;
+        let from = row as usize * len;
         match repair_row(&mut cells[from..from + len], scale) {
             Some(count) => repaired += count,
             None => return Err(row),
