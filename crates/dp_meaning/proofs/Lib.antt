@@ -19,3 +19,4 @@ pub mod ReadStatements
 pub mod ReadScales
 pub mod ModelLaws
 pub mod FaultLaws
+pub mod SaidTexts

@@ -39,6 +39,10 @@ product_within most acc [] h = omega arith
 product_within most acc (n ∷ ns) h =
     product_step most acc n (product ns) (product_past most (acc * n) ns) (nat_lt most acc) refl h (product_within most (acc * n) ns)
 
+-- where the first product that is counted is kept, it is the product of all
+pub counted_product : (most : ℕ) (ns : List ℕ) → product_past most 1 ns ≤ most → product_past most 1 ns ≡ product ns
+counted_product most ns h = let e = product_within most 1 ns h in omega arith
+
 -- the limits that a text is within
 pub record IsSmall (text : Text) : Type 0 where
   pub agents : size_of text.header.agents ≤ 6
@@ -64,8 +68,8 @@ small text e =
       states = not_passed _ _ _ (none 1);
       actions = whole (map size_of text.header.actions) (not_passed _ _ _ (none 2));
       observations = whole (map size_of text.header.observations) (not_passed _ _ _ (none 3));
-      counted_actions = counted (map size_of text.header.actions) (not_passed _ _ _ (none 2));
-      counted_observations = counted (map size_of text.header.observations) (not_passed _ _ _ (none 3));
+      counted_actions = counted_product 256 (map size_of text.header.actions) (not_passed _ _ _ (none 2));
+      counted_observations = counted_product 256 (map size_of text.header.observations) (not_passed _ _ _ (none 3));
       trans_cells = not_passed _ _ _ (none 4);
       obs_cells = not_passed _ _ _ (none 5);
       reward_cells = not_passed _ _ _ (none 6);
@@ -74,8 +78,5 @@ small text e =
       obs_scale = not_passed _ _ _ (none 10);
     }
   where
-    counted : (ns : List ℕ) → product_past 256 1 ns ≤ 256 → product_past 256 1 ns ≡ product ns
-    counted ns h = let e = product_within 256 1 ns h in omega arith
-
     whole : (ns : List ℕ) → product_past 256 1 ns ≤ 256 → product ns ≤ 256
-    whole ns h = let e = counted ns h in omega arith
+    whole ns h = let e = counted_product 256 ns h in omega arith

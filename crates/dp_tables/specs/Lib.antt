@@ -1,2 +1,4 @@
 pub mod Covering
 pub mod Repair
+pub mod Limits
+pub mod Sizes

@@ -3,9 +3,12 @@
 #![tactic(auto)]
 
 mod covering;
+mod limits;
 mod repair;
+mod scales;
 mod sizes;
 mod statements;
 
+pub use limits::scales_within_limits;
 pub use repair::repair_rows;
 pub use sizes::{joint_actions, joint_observations, states};

@@ -33,6 +33,14 @@ pub fn joint_observations(text: &Text) -> u32
     first_product_past_most(text.header.observations.as_slice()) as u32
 }
 
+/// How many states, joint actions and joint observations a model has.
+#[derive(Clone, Copy)]
+pub(crate) struct JointSizes {
+    pub states: u32,
+    pub joint_actions: u32,
+    pub joint_observations: u32,
+}
+
 /// The greatest allowed number of joint actions, and of joint observations.
 const MOST: u64 = 256;
 

@@ -1,0 +1,135 @@
+//! The limits on a model file, tried in order.
+ghost use Rattle.std.specs.Prelude.{◌≡◌, ◌≤◌, ◌^◌, IfOk, [], ◌∷◌, length};
+ghost use Rattle.std.specs.Result.{result_err};
+ghost use Rattle.dp_meaning.specs.Cells.{statements_for};
+ghost use Rattle.dp_meaning.specs.Limits.{at_most, first_passed, passed_limit};
+ghost use Rattle.dp_meaning.specs.Meaning.{IsSaid};
+ghost use Rattle.dp_meaning.specs.Scales as spec;
+ghost use Rattle.dp_meaning.specs.Scales.{scales_of};
+ghost use Rattle.dp_tables.specs.Limits.{cell_limits, scale_limits, size_limits};
+ghost use Rattle.dp_tables.specs.Sizes.{AreSizesOf};
+
+use crate::scales::{discount_scale, gain, reward_scale, start_scale, table_scale};
+use crate::sizes::{JointSizes, first_product_past_most};
+use crate::statements::count_of;
+use dp_meaning::{Table, Text};
+use dp_model::{Limit, TooLarge};
+use dp_num::Scales;
+
+/// The scales of a text, or the first limit that it passes, with the count that passes it. The limits on
+/// sizes come first, then those on cells, on reward statements and on scales. It takes no memory.
+pub fn scales_within_limits(text: &Text) -> Result<Scales, TooLarge>
+    requires { IsSaid text.now }
+    ensures passed { passed_limit text.now ≡ result_err result }
+    ensures scales { IfOk result (λ scales. scales ≡ scales_of text.now) }
+{
+    let sizes = sizes_within_limits(text)?;
+    check_cells(sizes)?;
+    check_reward_lines(text)?;
+    check_scales(text, sizes)
+}
+
+/// The sizes that a text gives, or the first limit on sizes that it passes.
+fn sizes_within_limits(text: &Text) -> Result<JointSizes, TooLarge>
+    ensures passed { first_passed (size_limits text.now) ≡ result_err result }
+    ensures sizes { IfOk result (AreSizesOf text.now) }
+{
+    let agents = text.header.agents.size();
+    check(Limit::Agents, u128::from(agents), 6)?;
+    let states = check_size(Limit::States, u64::from(text.header.states.size()))?;
+    let joint_actions = check_size(
+        Limit::JointActions,
+        first_product_past_most(text.header.actions.as_slice()),
+    )?;
+    let joint_observations = check_size(
+        Limit::JointObservations,
+        first_product_past_most(text.header.observations.as_slice()),
+    )?;
+    Ok(JointSizes {
+        states,
+        joint_actions,
+        joint_observations,
+    })
+}
+
+/// The size, where it is at most 256.
+fn check_size(what: Limit, size: u64) -> Result<u32, TooLarge>
+    ensures passed { result_err result ≡ at_most what size 256 }
+    ensures size { IfOk result (λ n. n ≡ size) }
+    ensures limit { IfOk result (λ n. n ≤ 256) }
+{
+    check(what, u128::from(size), 256)?;
+    Ok(size as u32)
+}
+
+/// Tries the limits on the cells of the tables.
+fn check_cells(sizes: JointSizes) -> Result<(), TooLarge>
+    requires states { sizes.states ≤ 256 }
+    requires joint_actions { sizes.joint_actions ≤ 256 }
+    requires joint_observations { sizes.joint_observations ≤ 256 }
+    ensures { first_passed (cell_limits sizes.joint_actions sizes.states sizes.joint_observations) ≡ result_err result }
+{
+    let states = u128::from(sizes.states);
+    let joint_observations = u128::from(sizes.joint_observations);
+    let rows = u128::from(sizes.joint_actions) * states;
+    check(Limit::TransCells, rows * states, 1 << 22)?;
+    check(Limit::ObsCells, rows * joint_observations, 1 << 22)?;
+    check(
+        Limit::RewardCells,
+        rows * states * joint_observations,
+        1 << 28,
+    )
+}
+
+/// Tries the limit on the reward statements.
+fn check_reward_lines(text: &Text) -> Result<(), TooLarge>
+    ensures { result_err result ≡ at_most Limit.RewardLines (length (statements_for Table.Reward text.now.statements)) 65536 }
+{
+    let count = count_of(Table::Reward, text.statements.as_slice());
+    check(Limit::RewardLines, count as u128, 65_536)
+}
+
+/// The scales of a text of these sizes, or the first scale of chances that passes its limit.
+fn check_scales(text: &Text, sizes: JointSizes) -> Result<Scales, TooLarge>
+    requires said { IsSaid text.now }
+    requires sizes { AreSizesOf text.now sizes }
+    ensures passed { let statements = text.now.statements in
+        first_passed (scale_limits
+        (spec.start_scale text.now.header.start sizes.states)
+        (spec.table_scale (statements_for Table.Trans statements) sizes.states)
+        (spec.table_scale (statements_for Table.Obs statements) sizes.joint_observations))
+        ≡ result_err result }
+    ensures scales { IfOk result (λ scales. scales ≡ scales_of text.now) }
+{
+    let start = check_scale(start_scale(text, sizes.states))?;
+    let trans = check_scale(table_scale(text, Table::Trans, sizes.states))?;
+    let obs = check_scale(table_scale(text, Table::Obs, sizes.joint_observations))?;
+    Ok(Scales {
+        start,
+        trans,
+        obs,
+        reward: reward_scale(text),
+        discount: discount_scale(text),
+        gain: gain(text),
+    })
+}
+
+/// The scale, where it is at most 2^62.
+fn check_scale(scale: u128) -> Result<u64, TooLarge>
+    ensures passed { result_err result ≡ at_most Limit.Scale scale (2 ^ 62) }
+    ensures scale { IfOk result (λ n. n ≡ scale) }
+{
+    check(Limit::Scale, scale, 1 << 62)?;
+    Ok(scale as u64)
+}
+
+/// The limit is passed where the count is more than the greatest allowed.
+fn check(what: Limit, count: u128, most: u128) -> Result<(), TooLarge>
+    ensures { result_err result ≡ at_most what count most }
+{
+    if count > most {
+        Err(TooLarge { what, count })
+    } else {
+        Ok(())
+    }
+}
