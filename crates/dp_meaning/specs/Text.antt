@@ -1,7 +1,5 @@
 -- What the text of a file says, and the sizes that it gives.
-use Rattle.std.specs.Prelude.{ℕ, List}
-use Rattle.dp_meaning.specs.declared.header.Header.{Header}
-use Rattle.dp_meaning.specs.declared.statement.Statement.{Statement}
+use Rattle.std.specs.Prelude.{ℕ}
 use Rattle.dp_meaning.specs.declared.text.Text.{Text}
 use Rattle.dp_meaning.specs.NameLists.{size_of}
 use Rattle.dp_meaning.specs.Statements.{axis_size}

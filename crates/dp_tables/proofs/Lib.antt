@@ -4,3 +4,4 @@ pub mod CoveringLemmas
 pub mod LimitLemmas
 pub mod ScaleLemmas
 pub mod SizeLemmas
+pub mod TableRowsLemmas

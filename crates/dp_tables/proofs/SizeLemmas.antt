@@ -1,5 +1,5 @@
 -- The sizes and the scales of a text, from the parts that are computed.
-use Rattle.std.proofs.Common.{◌≡◌, ℕ, ◌≤◌, ◌^◌, map, subst, sym, ap, ◌∙◌}
+use Rattle.std.proofs.Common.{◌≡◌, ℕ, ◌≤◌, ◌^◌, map, subst, ap, ◌∙◌}
 use Rattle.std.specs.Prelude.{List, unsigned_abs}
 use Rattle.dp_spec.specs.declared.scales.Scales.{Scales}
 use Rattle.dp_meaning.specs.declared.given_list.GivenList.{GivenList}

@@ -2,3 +2,4 @@ pub mod Covering
 pub mod Repair
 pub mod Limits
 pub mod Sizes
+pub mod Rows

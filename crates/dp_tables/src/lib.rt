@@ -5,10 +5,11 @@
 mod covering;
 mod limits;
 mod repair;
+mod rows;
 mod scales;
 mod sizes;
 mod statements;
 
 pub use limits::scales_within_limits;
-pub use repair::repair_rows;
+pub use rows::{repair_observations, repair_transitions};
 pub use sizes::{joint_actions, joint_observations, states};

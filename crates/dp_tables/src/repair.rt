@@ -1,5 +1,5 @@
 //! The repair of rows of chances.
-ghost use Rattle.std.specs.Prelude.{◌≡◌, ◌≢◌, ◌<◌, ◌≤◌, ◌*◌, ◌^◌, IfSome, IsTrue, length, sum};
+ghost use Rattle.std.specs.Prelude.{◌≡◌, ◌≢◌, ◌<◌, ◌≤◌, ◌*◌, ◌^◌, IfErr, IfSome, IsTrue, length, sum};
 ghost use Rattle.dp_meaning.specs.Rows.{greatest_cell, greatest_place, is_near, repaired_cells};
 ghost use Rattle.dp_tables.specs.Repair.{RepairsRow, RepairsRows};
 
@@ -75,12 +75,13 @@ fn repair_row(row: &mut [u64], scale: u64) -> Option<u32>
 
 /// Repairs the rows of `len` cells each, in order, and answers how many were not right before; or else the number of
 /// the first row that cannot be repaired.
-pub fn repair_rows(cells: &mut [u64], rows: u32, len: u32, scale: u64) -> Result<u32, u32>
+pub(crate) fn repair_rows(cells: &mut [u64], rows: u32, len: u32, scale: u64) -> Result<u32, u32>
     requires size { rows * len ≡ length cells.old }
     requires rows { rows ≤ 2 ^ 16 }
     requires short { len ≤ 256 }
     requires scale { 0 < scale }
-    ensures { RepairsRows scale rows len cells.old cells.new result }
+    ensures row { IfErr result (λ row. row < rows) }
+    ensures is { RepairsRows scale rows len cells.old cells.new result }
 {
     let len = len as usize;
     let mut repaired = 0;

@@ -1,4 +1,4 @@
-use Rattle.std.proofs.Common.{◌≡◌, ap, arith}
+use Rattle.std.proofs.Common.{ap, arith}
 use Rattle.dp_meaning.specs.Scales.{most_digits}
 use Rattle.dp_meaning.proofs.SaidTexts.{start_digits}
 use Rattle.dp_tables.proofs.scales.start_scale.Goals as goal
