@@ -8,6 +8,7 @@ use Rattle.std.proofs.lemmas.List.Folds.{list_all-map}
 use Rattle.std.proofs.lemmas.List.Sums.{AllPass-from_list_all}
 use Rattle.dp_model.specs.Names.{has_name, with_name}
 use Rattle.dp_cli.specs.PlainNames.{all_below, are_distinct, is_plain_name}
+use Rattle.std.proofs.lemmas.Bool.{and_parts}
 
 list_any-map : {X Y : Type 0} (p : Y → Bool) (f : X → Y) (xs : List X) → list_any p (map f xs) ≡ list_any (λ x. p (f x)) xs
 list_any-map p f [] = refl
@@ -50,18 +51,10 @@ fails_below (suc n) i p lt e = ⊎_elim (λ (is : i ≡ n). last is) (λ (below 
     last : i ≡ n → (all_below n p && p n) ≡ false
     last is = ap (λ (b : Bool). all_below n p && b) (ap p (sym is) ∙ e) ∙ and_false (all_below n p)
 
-pub left_true : (a b : Bool) → (a && b) ≡ true → a ≡ true
-left_true true b h = refl
-left_true false b h = h
-
-pub right_true : (a b : Bool) → (a && b) ≡ true → b ≡ true
-right_true true b h = h
-right_true false b h = absurd cc
-
 -- the test holds of each number below n
 pub holds_below : (n i : ℕ) (p : ℕ → Bool) → all_below n p ≡ true → i < n → p i ≡ true
 holds_below zero i p h lt = absurd (omega arith)
-holds_below (suc n) i p h lt = ⊎_elim (λ (is : i ≡ n). ap p is ∙ right_true (all_below n p) (p n) h) (λ (below : i < n). holds_below n i p (left_true (all_below n p) (p n) h) below) split
+holds_below (suc n) i p h lt = ⊎_elim (λ (is : i ≡ n). ap p is ∙ (and_parts (all_below n p) (p n) h).1) (λ (below : i < n). holds_below n i p (and_parts (all_below n p) (p n) h).0 below) split
   where
     split : (i ≡ n) ⊎ (i < n)
     split = grind arith

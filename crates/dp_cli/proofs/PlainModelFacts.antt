@@ -1,7 +1,7 @@
 -- A plain model means a model.
 use Rattle.std.proofs.Common.{◌≡◌, ◌==◌, ℕ, zero, suc, ◌+◌, ◌*◌, ◌^◌, ◌<◌, ◌≤◌, List, [], ◌∷◌, length, get_or, Some, pos, refl, sym, ap, ◌∙◌, subst, arith}
 use Rattle.std.specs.Prelude.{codes, replicate, slice_index, unsigned_abs}
-use Rattle.std.proofs.Math.Nat.{mul-le-mul_left, pow-le-pow_right}
+use Rattle.std.proofs.Math.Nat.{le-mul_of_pos_right, mul-le-mul_left, pow-le-pow_right}
 use Rattle.std.proofs.lemmas.List.{length-replicate, get_or-replicate}
 use Rattle.std.proofs.lemmas.Bool.{eqb-true}
 use Rattle.dp_spec.specs.Model as spec
@@ -72,18 +72,14 @@ scale_positive k = let least : 10 ^ 0 ≤ 10 ^ k = pow-le-pow_right {n = 10} (om
 scale_within : (k : ℕ) → k ≤ 4 → 10 ^ k ≤ 2 ^ 62
 scale_within k few = let most : 10 ^ k ≤ 10 ^ 4 = pow-le-pow_right {n = 10} (omega arith) {i = k} {j = 4} few in omega (arith, most)
 
--- a product of two is at most that with a third, where the third is above 0
-at_most_with : (a b : ℕ) → 0 < b → a ≤ a * b
-at_most_with a b some = let le : 1 ≤ b = omega arith in omega (arith, mul-le-mul_left a le)
-
 sizes_are : (plain : PlainModel) → IsPlain plain → AreSizes (model_of plain)
 unfolding model_of joint_actions joint_observations
 sizes_are plain is =
     let a = length plain.names.actions in
     let s = length plain.names.states in
     let o = length plain.names.observations in
-    let trans = at_most_with (a * s * s) o is.names.observations.some in
-    let obs = at_most_with (a * s * o) s is.names.states.some in
+    let trans = le-mul_of_pos_right (a * s * s) is.names.observations.some in
+    let obs = le-mul_of_pos_right (a * s * o) is.names.states.some in
     record {
       alike = refl;
       some_agent = omega arith;

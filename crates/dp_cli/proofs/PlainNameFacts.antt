@@ -2,25 +2,24 @@
 use Rattle.std.proofs.Common.{◌≡◌, ℕ, ◌≤◌, true, ◌&&◌, List, length, Some, sym, ap, ◌∙◌, subst, arith}
 use Rattle.std.specs.Prelude.{nat_lt, nat_le}
 use Rattle.std.specs.List.{list_all}
-use Rattle.std.proofs.lemmas.Bool.{leb-true}
+use Rattle.std.proofs.lemmas.Bool.{and_parts, leb-true}
 use Rattle.std.proofs.lemmas.Bool.Decides.{nat_tests}
 use Rattle.dp_cli.specs.Plain.{where_true, after, line_at}
 use Rattle.dp_cli.specs.PlainNames.{PlainNames, AreNameLines, are_distinct, are_names, header_at, IsNameLine, is_plain_name, limited_header_at, names_after, names_at, reward_lines, words_of}
-use Rattle.dp_cli.proofs.PlainLists.{left_true, right_true}
 use Rattle.dp_cli.proofs.PlainReading.{first_same, steps, tested}
 
 pub names_sized : (names : List (List ℕ)) → are_names names ≡ true → IsNameLine names
 unfolding are_names
 names_sized names h =
-    let sizes = left_true (nat_lt 0 (length names) && nat_le (length names) 256) (list_all is_plain_name names && are_distinct names) h in
-    let words = right_true (nat_lt 0 (length names) && nat_le (length names) 256) (list_all is_plain_name names && are_distinct names) h in
-    let least = left_true (nat_lt 0 (length names)) (nat_le (length names) 256) sizes in
-    let most = right_true (nat_lt 0 (length names)) (nat_le (length names) 256) sizes in
+    let sizes = (and_parts (nat_lt 0 (length names) && nat_le (length names) 256) (list_all is_plain_name names && are_distinct names) h).0 in
+    let words = (and_parts (nat_lt 0 (length names) && nat_le (length names) 256) (list_all is_plain_name names && are_distinct names) h).1 in
+    let least = (and_parts (nat_lt 0 (length names)) (nat_le (length names) 256) sizes).0 in
+    let most = (and_parts (nat_lt 0 (length names)) (nat_le (length names) 256) sizes).1 in
     record {
       some = grind (arith, nat_tests);
       limit = grind (arith, nat_tests);
-      each = left_true (list_all is_plain_name names) (are_distinct names) words;
-      once = right_true (list_all is_plain_name names) (are_distinct names) words;
+      each = (and_parts (list_all is_plain_name names) (are_distinct names) words).0;
+      once = (and_parts (list_all is_plain_name names) (are_distinct names) words).1;
     }
 
 names_at_are : (bytes : List ℕ) (names : List (List ℕ)) (rest : List ℕ) → names_at bytes ≡ Some (names, rest) → are_names names ≡ true

@@ -5,7 +5,8 @@ use Rattle.dp_cli.specs.declared.plain.PlainFault.{PlainFault}
 use Rattle.dp_cli.specs.declared.plain.PlainFault.TheVariants as faults
 use Rattle.dp_cli.specs.Plain.{◌>>=◌, where_true}
 use Rattle.dp_cli.specs.PlainLines.{Axis, lines_count, after_name, after_names, lines_at}
-use Rattle.dp_cli.proofs.PlainSums.{right_factor, quotient}
+use Rattle.dp_cli.proofs.PlainSums.{quotient}
+use Rattle.dp_spec.proofs.JointNumberLaws.{positive_right}
 
 -- ---- the steps of a reading
 
@@ -99,7 +100,7 @@ pub names_go : (from : List Axis) (names : Axis) (later : List Axis) (step size 
     from ≡ names ∷ later → size ≡ length names → step ≡ lines_count from → 0 < step → after_names from left rest ≡ whole → NamesGo names later step size left rest whole
 names_go from names later step size left rest whole axes sized counted some reads = record {
   counted = divided;
-  some = subst (λ (n : ℕ). 0 < n) (sym divided) (right_factor (length names) (lines_count later) (let positive : 0 < length names * lines_count later = omega (arith, product) in positive));
+  some = subst (λ (n : ℕ). 0 < n) (sym divided) (positive_right (length names) (lines_count later) 0 (let positive : 0 < length names * lines_count later = omega (arith, product) in positive));
   goes = λ behind e. sym (ap (λ (n : ℕ). after_names later (left % n) behind) (sym divided)) ∙ sym (ap (λ r. r >>= λ named. after_names later (left % lines_count later) named) (sym (ap (λ (n : ℕ). after_name names (left / n) rest) divided) ∙ e)) ∙ head;
   stops = λ e. sym head ∙ ap (λ r. r >>= λ named. after_names later (left % lines_count later) named) (sym (ap (λ (n : ℕ). after_name names (left / n) rest) divided) ∙ e);
 }

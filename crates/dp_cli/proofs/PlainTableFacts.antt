@@ -6,7 +6,7 @@ use Rattle.std.specs.List.{list_all}
 use Rattle.std.specs.Str.{all_ascii_digits, bytes_eq}
 use Rattle.std.specs.Str.Parse.{digits_value}
 use Rattle.std.proofs.Math.Nat.{le-max_left, le-max_right, max-le}
-use Rattle.std.proofs.lemmas.Bool.{leb-true}
+use Rattle.std.proofs.lemmas.Bool.{and_parts, leb-true}
 use Rattle.std.proofs.lemmas.List.{length-map}
 use Rattle.std.proofs.lemmas.Str.Parse.{digits_value_short, numerals_by_value, tells_all_ascii_digits}
 use Rattle.dp_cli.specs.declared.plain.numbers.Chance.{Chance}
@@ -14,8 +14,8 @@ use Rattle.dp_cli.specs.Plain.{◌>>=◌, after, where_true}
 use Rattle.dp_cli.specs.PlainNumbers.{are_digits, begins_with_minus, chance_of, digit_zero, fraction_of, last_byte, magnitude_of, reward_of, signed_of}
 use Rattle.dp_cli.specs.PlainLines.{Axis, chance_line, lines_at, lines_count, reward_line, value_at}
 use Rattle.dp_cli.specs.PlainTables.{Table, are_full, cell_of, full_at, most_digits, table_at, table_of}
-use Rattle.dp_cli.proofs.PlainLists.{left_true, right_true}
 use Rattle.dp_cli.proofs.PlainReading.{first_same, lines_keep, lines_length, steps, tested}
+use Rattle.dp_spec.proofs.RoundingLaws.{unsigned_abs-neg}
 
 -- one of two readings
 either : {A : Type 0} (first : Bool) (x y : Option A) (read : A) (Fact : Type 0) → (if first then x else y) ≡ Some read → (x ≡ Some read → Fact) → (y ≡ Some read → Fact) → Fact
@@ -28,14 +28,14 @@ some_same x y e = cc
 -- ---- chances have at most four digits
 
 are_few : (most : ℕ) (text : List ℕ) → are_digits most text ≡ true → length text ≤ most
-are_few most text h = leb-true (length text) most (right_true (nat_lt 0 (length text)) (nat_le (length text) most) (left_true (nat_lt 0 (length text) && nat_le (length text) most) (list_all is_ascii_digit text) h))
+are_few most text h = leb-true (length text) most (and_parts (nat_lt 0 (length text)) (nat_le (length text) most) (and_parts (nat_lt 0 (length text) && nat_le (length text) most) (list_all is_ascii_digit text) h).0).1
 
 fraction_digits : (digits : List ℕ) (c : Chance) → fraction_of digits ≡ Some c → c.digits ≤ 4
 unfolding fraction_of
 fraction_digits digits c e =
     let written : Chance = record { units = digits_value 10 digits; digits = length digits } in
     let test = tested (are_digits 4 digits && not (last_byte digits == digit_zero)) written c e in
-    subst (λ (d : Chance). d.digits ≤ 4) test.same (are_few 4 digits (left_true (are_digits 4 digits) (not (last_byte digits == digit_zero)) test.test))
+    subst (λ (d : Chance). d.digits ≤ 4) test.same (are_few 4 digits (and_parts (are_digits 4 digits) (not (last_byte digits == digit_zero)) test.test).0)
 
 chance_digits : (text : List ℕ) (c : Chance) → chance_of text ≡ Some c → c.digits ≤ 4
 unfolding chance_of
@@ -114,15 +114,11 @@ magnitude_small : (digits : List ℕ) (n : ℕ) → magnitude_of digits ≡ Some
 unfolding magnitude_of
 magnitude_small digits n e =
     let test = tested (are_digits 8 digits && not (slice_index digits 0 == digit_zero)) (digits_value 10 digits) n e in
-    let written = left_true (are_digits 8 digits) (not (slice_index digits 0 == digit_zero)) test.test in
-    let all = right_true (nat_lt 0 (length digits) && nat_le (length digits) 8) (list_all is_ascii_digit digits) written in
+    let written = (and_parts (are_digits 8 digits) (not (slice_index digits 0 == digit_zero)) test.test).0 in
+    let all = (and_parts (nat_lt 0 (length digits) && nat_le (length digits) 8) (list_all is_ascii_digit digits) written).1 in
     let below : digits_value 10 digits < 10 ^ 8 = digits_value_short (numerals_by_value _ tells_all_ascii_digits) digits 8 (sym (digits_test digits) ∙ all) (are_few 8 digits written) in
     let same : digits_value 10 digits ≡ n = test.same in
     omega arith
-
-abs_negated : (n : ℕ) → unsigned_abs (neg_ℤ (pos n)) ≡ n
-abs_negated zero = refl
-abs_negated (suc n) = refl
 
 signed_small : (text : List ℕ) (r : ℤ) → signed_of text ≡ Some r → unsigned_abs r ≤ 10 ^ 8
 signed_small text r e =
@@ -130,7 +126,7 @@ signed_small text r e =
     (λ read. let m = steps (magnitude_of (drop 1 text)) (λ n. Some (neg_ℤ (pos n))) r read in
     let same = some_same (neg_ℤ (pos m.found)) r m.is_next in
     let small = magnitude_small (drop 1 text) m.found m.is_first in
-    subst (λ (z : ℤ). unsigned_abs z ≤ 10 ^ 8) same (subst (λ (k : ℕ). k ≤ 10 ^ 8) (sym (abs_negated m.found)) small))
+    subst (λ (z : ℤ). unsigned_abs z ≤ 10 ^ 8) same (subst (λ (k : ℕ). k ≤ 10 ^ 8) (sym (unsigned_abs-neg (pos m.found))) small))
     (λ read. let m = steps (magnitude_of text) (λ n. Some (pos n)) r read in
     subst (λ (z : ℤ). unsigned_abs z ≤ 10 ^ 8) (some_same (pos m.found) r m.is_next) (magnitude_small text m.found m.is_first))
 

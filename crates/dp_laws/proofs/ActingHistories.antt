@@ -1,7 +1,7 @@
 -- The joint actions that a well-formed front has fixed and those of a joint policy exist, and the weights of joint histories and classes are weights where pushes are allowed.
 use Rattle.std.proofs.Common.{◌≡◌, ℕ, zero, suc, ◌+◌, ◌-◌, ◌<◌, ◌≤◌, pos, cond, eqb, List, [], ◌∷◌, sym, subst, arith}
 use Rattle.dp_laws.proofs.KeptActions.{history_length}
-use Rattle.dp_laws.proofs.OwnHistories.{Below, Within, joint_below, own_histories_within}
+use Rattle.dp_laws.proofs.OwnHistories.{Within, own_histories_within}
 use Rattle.dp_laws.proofs.OneStep.{trees_after_fit, root_joint_action_below}
 use Rattle.dp_laws.proofs.OrderedSpans.{IsOrdered, history_sum_ordered, history_sum_point, total_size, weight_ordered, where_ordered, where_point}
 use Rattle.dp_spec.specs.Arithmetic.{Arithmetic, point}
@@ -16,9 +16,10 @@ use Rattle.dp_spec.specs.SizesOfEarnings.{IsActing}
 use Rattle.dp_spec.specs.Value.{joint_root_action}
 use Rattle.dp_spec.specs.WellFormed.{AreAgentFronts, IsFront}
 use Rattle.dp_spec.specs.WellFormed.AreAgentFronts.{and_agent, no_agents}
+use Rattle.dp_spec.proofs.JointNumberLaws.{AreBelow, joint_number_below}
 
 -- the fixed actions after own histories are actions of the agents
-fixed_below : {f : ℕ} {bs ns : List ℕ} {ds : List AgentFront} → AreAgentFronts f bs ns ds → (t : ℕ) (xs : List ℕ) → t < f → Within ns t xs → Below bs (fixed_actions ds t xs)
+fixed_below : {f : ℕ} {bs ns : List ℕ} {ds : List AgentFront} → AreAgentFronts f bs ns ds → (t : ℕ) (xs : List ℕ) → t < f → Within ns t xs → AreBelow bs (fixed_actions ds t xs)
 fixed_below no_agents t xs lt inside = tt
 fixed_below (and_agent k ks) t [] lt inside = absurd inside
 fixed_below (and_agent k ks) t (x ∷ xs) lt inside = (k.fixed_below t x lt inside.0, fixed_below ks t xs lt inside.1)
@@ -27,8 +28,8 @@ fixed_below (and_agent k ks) t (x ∷ xs) lt inside = (k.fixed_below t x lt insi
 pub front_acting : (m : Model) (h : ℕ) (F : Front) → IsFront m h F → IsActing m F.stage (fixed_joint_action m F)
 unfolding fixed_joint_action joint_actions joint_observations
 front_acting m h F front i H lt hist =
-    joint_below m.actions _
-    (subst (λ (t : ℕ). Below m.actions (fixed_actions F.agents t (own_histories m.observations H))) (sym (history_length _ i H hist)) (fixed_below front.agents i (own_histories m.observations H) lt (own_histories_within m.observations i H hist)))
+    joint_number_below m.actions _
+    (subst (λ (t : ℕ). AreBelow m.actions (fixed_actions F.agents t (own_histories m.observations H))) (sym (history_length _ i H hist)) (fixed_below front.agents i (own_histories m.observations H) lt (own_histories_within m.observations i H hist)))
 
 -- what remains of a joint policy after a joint history is a joint policy of the steps that are left
 trees_after_history_fit : (m : Model) (h : ℕ) (qs : List PolicyTree) → IsPolicyOf m h qs → (t r : ℕ) (H : List ℕ) → t + r ≡ h → IsJointHistory (joint_observations m) t H → IsPolicyOf m r (trees_after_history m qs H)

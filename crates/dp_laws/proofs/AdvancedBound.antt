@@ -3,16 +3,12 @@ use Rattle.std.proofs.Common.{◌≡◌, ℕ, zero, suc, ◌+◌, ◌-◌, ◌<�
 use Rattle.std.proofs.lemmas.Int.{ints}
 use Rattle.dp_laws.proofs.Order.{add_le_right}
 use Rattle.dp_laws.proofs.AdvancedFronts.{action_at, action_before, as_many_agents, class_in_range, counts_are_pairs, pair_weight, weight_same, weight_same_to}
-use Rattle.dp_laws.proofs.AgreeingActions.{IsIn_filter, chosen_action_agrees, chosen_joint_action, greatest_of_part, some_in}
-use Rattle.dp_laws.proofs.Best.{IsIn, best_in}
-use Rattle.dp_laws.proofs.ForwardValue.{int_history_sum_ext}
+use Rattle.dp_laws.proofs.AgreeingActions.{chosen_action_agrees, chosen_joint_action}
 use Rattle.dp_laws.proofs.JointPairs.{int_sum_pairs}
 use Rattle.dp_laws.proofs.LinearSteps.{reward_of_histories}
 use Rattle.dp_laws.proofs.LongerLook.{longer_look_le}
-use Rattle.dp_laws.proofs.EarnedValue.{greatest_ext}
 use Rattle.dp_laws.proofs.ConstantPolicies.{last_action}
 use Rattle.dp_laws.proofs.Ring.{zadd_le, zle_of, zle_trans}
-use Rattle.dp_laws.proofs.FollowedBound.{equal_of_test, int_history_sum_group}
 use Rattle.dp_laws.proofs.Sums.{int_sum_add, int_sum_ext, int_sum_le}
 use Rattle.dp_laws.proofs.WellFormedSteps.{advanced_is_front}
 use Rattle.dp_spec.specs.Bound.{agreeing_actions, bound_of}
@@ -24,6 +20,10 @@ use Rattle.dp_spec.specs.Model.{IsModel, Model, joint_actions, joint_observation
 use Rattle.dp_spec.specs.Steps.{advanced_front, is_complete}
 use Rattle.dp_spec.specs.Sums.{greatest, int_sum, numbers_below}
 use Rattle.dp_spec.specs.WellFormed.{IsFront}
+use Rattle.dp_laws.proofs.Members.{IsIn, filter-IsIn, some_in}
+use Rattle.dp_laws.proofs.GreatestValues.{greatest_ext, greatest_of_part, le_greatest}
+use Rattle.dp_laws.proofs.HistorySums.{int_history_sum_ext, int_history_sum_group}
+use Rattle.std.proofs.lemmas.Bool.{eqb-true}
 
 -- with look k + 1 a joint action earns its reward and the look-ahead with look k of what follows
 pub action_look_ahead_is : (m : Model) (r : ℕ) (w : ℕ → ℕ) (a k : ℕ) → action_look_ahead m r w a (suc k) ≡ weighted_reward m r w a +ℤ int_sum (joint_observations m) (λ o. look_ahead m r (weights_after m w a o) k)
@@ -35,12 +35,12 @@ some_actions_le : (m : Model) → IsModel m → (r k : ℕ) (w : ℕ → ℕ) (x
     greatest (λ x. action_look_ahead m r w x (suc k)) xs ≤ℤ look_ahead m (suc r) w k
 some_actions_le m ok r k w xs a some part =
     zle_trans _ _ _ (greatest_of_part _ xs (numbers_below (joint_actions m)) (some_in a xs some) part)
-    (zle_trans _ _ _ (zle_of _ _ (greatest_ext _ _ (numbers_below (joint_actions m)) (λ x. action_look_ahead_is m r w x k)))
+    (zle_trans _ _ _ (zle_of _ _ (greatest_ext _ _ (numbers_below (joint_actions m)) (λ x i. action_look_ahead_is m r w x k)))
     (longer_look_le m ok (suc r) k (suc k) w (omega arith)))
 
 agreeing_part : (m : Model) (F : Front) (C x : ℕ) → IsIn x (agreeing_actions m F C) → IsIn x (numbers_below (joint_actions m))
 unfolding agreeing_actions
-agreeing_part m F C x h = (IsIn_filter _ x (numbers_below (joint_actions m)) h).0
+agreeing_part m F C x h = (filter-IsIn _ x (numbers_below (joint_actions m)) h).0
 
 -- what is earned depends on the actions before it alone
 earned_same : (m : Model) (act act' : List ℕ → ℕ) (h f : ℕ) →
@@ -76,7 +76,7 @@ module _ (m : Model) (h : ℕ) (F : Front) (front : IsFront m h F) where
       ∙ int_sum_ext N _ _ (λ C p.
       int_history_sum_ext O F.stage _ (λ H. cond (eqb (joint_class m F H) C) (weighted_reward m r (W H) (chosen_joint_action m F C)) (pos 0))
       (λ H q. cond_same (eqb (joint_class m F H) C) _ _
-      (λ e. let weights = sym (weight_same m h F front H q) in let action = action_at m h F front H q ∙ ap (chosen_joint_action m F) (equal_of_test _ _ e) in λ j. weighted_reward m r (weights j) (action j)))
+      (λ e. let weights = sym (weight_same m h F front H q) in let action = action_at m h F front H q ∙ ap (chosen_joint_action m F) (eqb-true _ _ e) in λ j. weighted_reward m r (weights j) (action j)))
       ∙ reward_of_histories m r O F.stage (chosen_joint_action m F C) (λ H. eqb (joint_class m F H) C) W)
 
   -- what is earned before the next stage
@@ -108,7 +108,7 @@ module _ (m : Model) (h : ℕ) (F : Front) (front : IsFront m h F) where
   -- the chosen joint actions are among those that agree
   chosen_under : IsModel m → (r look : ℕ) → int_sum N (λ C. action_look_ahead m r (class_weight m F C) (chosen_joint_action m F C) look)
       ≤ℤ int_sum N (λ C. greatest (λ a. action_look_ahead m r (class_weight m F C) a look) (agreeing_actions m F C))
-  chosen_under ok r look = int_sum_le N _ _ (λ C p. best_in (λ a. action_look_ahead m r (class_weight m F C) a look) (chosen_joint_action m F C) (agreeing_actions m F C) (chosen_action_agrees m ok h F front C p))
+  chosen_under ok r look = int_sum_le N _ _ (λ C p. le_greatest (λ a. action_look_ahead m r (class_weight m F C) a look) (chosen_joint_action m F C) (agreeing_actions m F C) (chosen_action_agrees m ok h F front C p))
 
 regroup : (e w o t b : ℤ) → w +ℤ o ≡ t → t ≤ℤ b → ((e +ℤ w) +ℤ o) ≤ℤ (e +ℤ b)
 regroup e w o t b same le = omega (arith, ints)

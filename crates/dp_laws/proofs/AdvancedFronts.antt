@@ -9,11 +9,9 @@ use Rattle.std.proofs.lemmas.Nat.{div-mul-add, mod-mul-add}
 use Rattle.dp_laws.proofs.AgreeingActions.{actions_for, chosen_joint_action}
 use Rattle.dp_laws.proofs.JointPairs.{pair_counts, pair_injective, pair_number}
 use Rattle.dp_laws.proofs.LinearSteps.{weights_after_histories}
-use Rattle.dp_laws.proofs.NaturalSums.{nat_history_sum_ext, nat_sum_one}
-use Rattle.dp_laws.proofs.OwnHistories.{Below, Within, joint_below, next_history_below, own_histories_within, parts-joint, parts_below}
+use Rattle.dp_laws.proofs.OwnHistories.{Within, next_history_below, own_histories_within}
 use Rattle.dp_laws.proofs.KeptActions.{history_length}
 use Rattle.dp_laws.proofs.CompleteFronts.{new_class}
-use Rattle.dp_laws.proofs.Sums.{dec_eq, nat_sum_ext}
 use Rattle.dp_spec.specs.Front.{AgentFront, Front, class_counts, class_weight, fixed_actions, fixed_joint_action, joint_class, next_own_histories, own_classes, own_histories}
 use Rattle.dp_spec.specs.JointHistory.{IsJointHistory, history_weight}
 use Rattle.dp_spec.specs.JointNumbers.{joint_number, parts_of, product}
@@ -22,10 +20,14 @@ use Rattle.dp_spec.specs.Model.{Model, joint_observations}
 use Rattle.dp_spec.specs.Steps.{advanced_agent, advanced_agents, advanced_front}
 use Rattle.dp_spec.specs.WellFormed.{AreAgentFronts, IsFront}
 use Rattle.dp_spec.specs.WellFormed.AreAgentFronts.{and_agent, no_agents}
+use Rattle.dp_spec.proofs.JointNumberLaws.{AreBelow, joint_number_below, parts_below, parts_of-joint_number}
+use Rattle.dp_spec.proofs.NaturalSumLaws.{nat_sum_ext, nat_sum_one}
+use Rattle.std.proofs.lemmas.Bool.{cases_eq}
+use Rattle.dp_laws.proofs.HistorySums.{nat_history_sum_ext}
 
 -- ---- the lists of all agents
 -- each own history of the stage has a class
-pub classes_below : {f : ℕ} {bs ns : List ℕ} {ds : List AgentFront} → AreAgentFronts f bs ns ds → (xs : List ℕ) → Within ns f xs → Below (class_counts ds) (own_classes ds xs)
+pub classes_below : {f : ℕ} {bs ns : List ℕ} {ds : List AgentFront} → AreAgentFronts f bs ns ds → (xs : List ℕ) → Within ns f xs → AreBelow (class_counts ds) (own_classes ds xs)
 classes_below no_agents xs h = tt
 classes_below (and_agent k ks) [] h = absurd h
 classes_below (and_agent k ks) (x ∷ xs) h = (k.class_below x h.0, classes_below ks xs h.1)
@@ -49,7 +51,7 @@ class_step n f x p cs h g =
     let rest : (x * n + p) % n ≡ p = mod-mul-add x n p g in
     new_class n f (x * n + p) cs (next_history_below x n f p h g) ∙ (rw (first, rest))
 
-pub classes_advanced : {f : ℕ} {bs ns : List ℕ} {ds : List AgentFront} → AreAgentFronts f bs ns ds → (xs ps : List ℕ) → Within ns f xs → Below ns ps →
+pub classes_advanced : {f : ℕ} {bs ns : List ℕ} {ds : List AgentFront} → AreAgentFronts f bs ns ds → (xs ps : List ℕ) → Within ns f xs → AreBelow ns ps →
     own_classes (advanced_agents ns f ds) (next_own_histories ns xs ps) ≡ next_own_histories ns (own_classes ds xs) ps
 unfolding advanced_agent
 classes_advanced no_agents xs ps h g = refl
@@ -84,10 +86,10 @@ fixed_at {f} (and_agent {n = n} {d = d} k ks) (x ∷ xs) h =
 -- a test of pairs as two tests
 pub both_tests : (u v p p' q q' x y : ℕ) → (u ≡ v → (p ≡ p') × (q ≡ q')) → (p ≡ p' → q ≡ q' → u ≡ v) → (p ≡ p' → x ≡ y) → cond (eqb u v) x 0 ≡ cond (eqb q q') (cond (eqb p p') y 0) 0
 both_tests u v p p' q q' x y apart together same =
-    elim (dec_eq u v) [
+    elim (cases_eq u v) [
       | inl e ↦ let parts = apart e in equal (e, parts.0, parts.1, same parts.0)
-      | inr ne ↦ elim (dec_eq q q') [
-        | inl f ↦ elim (dec_eq p p') [ inl g ↦ absurd (ne (together g f)) | inr ng ↦ first_differs (ne, ng) ]
+      | inr ne ↦ elim (cases_eq q q') [
+        | inl f ↦ elim (cases_eq p p') [ inl g ↦ absurd (ne (together g f)) | inr ng ↦ first_differs (ne, ng) ]
         | inr nf ↦ second_differs (ne, nf)
       ]
     ]
@@ -108,7 +110,7 @@ module _ (m : Model) (h : ℕ) (F : Front) (front : IsFront m h F) where
 
   pub class_in_range : (H : List ℕ) → IsJointHistory (joint_observations m) F.stage H → joint_class m F H < product (class_counts F.agents)
   unfolding joint_class joint_observations
-  class_in_range H p = joint_below _ _ (classes_below front.agents _ (own_histories_within m.observations F.stage H p))
+  class_in_range H p = joint_number_below _ _ (classes_below front.agents _ (own_histories_within m.observations F.stage H p))
 
   pub action_before : (t : ℕ) (H : List ℕ) → t < F.stage → IsJointHistory (joint_observations m) t H → fixed_joint_action m F H ≡ fixed_joint_action m G H
   unfolding fixed_joint_action
@@ -123,7 +125,7 @@ module _ (m : Model) (h : ℕ) (F : Front) (front : IsFront m h F) where
       let xs = own_histories m.observations H in
       let w = own_histories_within m.observations F.stage H p in
       ap (λ (t : ℕ). joint_number m.actions (fixed_actions G.agents t xs)) (history_length _ F.stage H p)
-      ∙ ap (joint_number m.actions) (fixed_at front.agents xs w ∙ ap (actions_for F.agents) (sym (parts-joint _ _ (classes_below front.agents xs w))))
+      ∙ ap (joint_number m.actions) (fixed_at front.agents xs w ∙ ap (actions_for F.agents) (sym (parts_of-joint_number _ _ (classes_below front.agents xs w))))
 
   pub weight_same_to : (t : ℕ) (H : List ℕ) → t < suc F.stage → IsJointHistory (joint_observations m) t H → history_weight m (fixed_joint_action m F) H ≡ history_weight m (fixed_joint_action m G) H
   weight_same_to zero [] lt p = refl
@@ -148,7 +150,7 @@ module _ (m : Model) (h : ℕ) (F : Front) (front : IsFront m h F) where
   class_is_pair o H q p =
       let w = own_histories_within m.observations F.stage H p in
       let classes = classes_advanced front.agents (own_histories m.observations H) (parts_of m.observations o) w (parts_below m.observations o q) in
-      let parts = parts-joint (class_counts F.agents) (own_classes F.agents (own_histories m.observations H)) (classes_below front.agents _ w) in
+      let parts = parts_of-joint_number (class_counts F.agents) (own_classes F.agents (own_histories m.observations H)) (classes_below front.agents _ w) in
       (λ j. joint_number (counts_are_pairs j) (classes j)) ∙ ap (λ z. joint_number (pair_counts (class_counts F.agents) m.observations) (next_own_histories m.observations z (parts_of m.observations o))) (sym parts)
 
   pub in_product : (o : ℕ) → o < joint_observations m → o < product m.observations

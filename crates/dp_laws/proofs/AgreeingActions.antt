@@ -4,11 +4,6 @@ use Rattle.std.specs.Prelude.{unwrap_or}
 use Rattle.std.specs.Cmp.Derive.{both_true}
 use Rattle.std.proofs.lemmas.Bool.Decides.{nat_tests}
 use Rattle.std.proofs.lemmas.List.{get_or-set_other}
-use Rattle.dp_laws.proofs.Best.{IsIn, IsIn-below, IsIn-filter, best_in}
-use Rattle.dp_laws.proofs.CompleteFronts.{parts_of_true}
-use Rattle.dp_laws.proofs.LongerLook.{greatest_under}
-use Rattle.dp_laws.proofs.OwnHistories.{Below, joint_below, parts-joint, parts_below}
-use Rattle.dp_laws.proofs.Sums.{dec_eq}
 use Rattle.dp_spec.specs.Bound.{agreeing_actions, agrees, all_agree}
 use Rattle.dp_spec.specs.Front.{AgentFront, Front, class_counts}
 use Rattle.dp_spec.specs.JointNumbers.{joint_number, parts_of, product}
@@ -17,25 +12,10 @@ use Rattle.dp_spec.specs.Steps.{IsUnassigned, with_choice}
 use Rattle.dp_spec.specs.Sums.{greatest, numbers_below}
 use Rattle.dp_spec.specs.WellFormed.{AreAgentFronts, IsFront}
 use Rattle.dp_spec.specs.WellFormed.AreAgentFronts.{and_agent, no_agents}
-
--- ---- members of lists
-pub some_in : (a : ℕ) (xs : List ℕ) → IsIn a xs → 0 < length xs
-some_in a [] h = absurd h
-some_in a (x ∷ xs) h = omega arith
-
-kept_in : (p : ℕ → Bool) (a x : ℕ) (xs : List ℕ) (t : Bool) → p x ≡ t → (IsIn a (filter p xs) → IsIn a xs × (p a ≡ true)) → IsIn a (cond t (x ∷ filter p xs) (filter p xs)) → IsIn a (x ∷ xs) × (p a ≡ true)
-kept_in p a x xs true e rest (inl same) = (inl same, ap p same ∙ e)
-kept_in p a x xs true e rest (inr h) = let more = rest h in (inr more.0, more.1)
-kept_in p a x xs false e rest h = let more = rest h in (inr more.0, more.1)
-
--- what a filter keeps is of the list, and passes the test
-pub IsIn_filter : (p : ℕ → Bool) (a : ℕ) (xs : List ℕ) → IsIn a (filter p xs) → IsIn a xs × (p a ≡ true)
-IsIn_filter p a [] h = absurd h
-IsIn_filter p a (x ∷ xs) h = kept_in p a x xs (p x) refl (IsIn_filter p a xs) h
-
--- the greatest over a part of a list that is not empty
-pub greatest_of_part : (f : ℕ → ℤ) (xs ys : List ℕ) → 0 < length xs → ((a : ℕ) → IsIn a xs → IsIn a ys) → greatest f xs ≤ℤ greatest f ys
-greatest_of_part f xs ys some part = greatest_under f xs (greatest f ys) some (λ a h. best_in f a ys (part a h))
+use Rattle.dp_spec.proofs.JointNumberLaws.{AreBelow, joint_number_below, parts_below, parts_of-joint_number, positive_left, positive_right}
+use Rattle.dp_laws.proofs.Members.{IsIn, IsIn-below, IsIn-filter}
+use Rattle.dp_laws.proofs.GreatestValues.{le_greatest}
+use Rattle.std.proofs.lemmas.Bool.{and_parts, cases_eq}
 
 -- ---- the chosen actions
 -- the actions that are chosen for classes cs, and 0 where none is
@@ -48,7 +28,7 @@ agrees_with_own : (o : Option ℕ) → agrees o (unwrap_or o 0) ≡ true
 agrees_with_own None = refl
 agrees_with_own (Some b) = grind (arith, nat_tests)
 
-chosen_agree : (ds : List AgentFront) (cs : List ℕ) → Below (class_counts ds) cs → all_agree ds cs (actions_for ds cs) ≡ true
+chosen_agree : (ds : List AgentFront) (cs : List ℕ) → AreBelow (class_counts ds) cs → all_agree ds cs (actions_for ds cs) ≡ true
 chosen_agree [] cs h = refl
 chosen_agree (d ∷ ds) [] h = absurd h
 chosen_agree (d ∷ ds) (c ∷ cs) h = both_true (agrees_with_own (get_or d.chosen c None)) (chosen_agree ds cs h.1)
@@ -57,19 +37,11 @@ own_below : (b : ℕ) (o : Option ℕ) → 0 < b → ((a : ℕ) → o ≡ Some a
 own_below b None p h = p
 own_below b (Some a) p h = h a refl
 
-first_positive : (b p : ℕ) → 0 < b * p → 0 < b
-first_positive zero p h = absurd (omega arith)
-first_positive (suc b) p h = omega arith
-
-rest_positive : (b p : ℕ) → 0 < b * p → 0 < p
-rest_positive b zero h = absurd (omega arith)
-rest_positive b (suc p) h = omega arith
-
-chosen_below : {f : ℕ} {bs ns : List ℕ} {ds : List AgentFront} → AreAgentFronts f bs ns ds → 0 < product bs → (cs : List ℕ) → Below (class_counts ds) cs → Below bs (actions_for ds cs)
+chosen_below : {f : ℕ} {bs ns : List ℕ} {ds : List AgentFront} → AreAgentFronts f bs ns ds → 0 < product bs → (cs : List ℕ) → AreBelow (class_counts ds) cs → AreBelow bs (actions_for ds cs)
 chosen_below no_agents p cs h = tt
 chosen_below (and_agent k ks) p [] h = absurd h
 chosen_below (and_agent {b = b} {d = d} k ks) p (c ∷ cs) h =
-    (own_below b (get_or d.chosen c None) (first_positive b _ p) (λ a e. k.chosen_below c a h.0 e), chosen_below ks (rest_positive b _ p) cs h.1)
+    (own_below b (get_or d.chosen c None) (positive_left b _ 0 p) (λ a e. k.chosen_below c a h.0 e), chosen_below ks (positive_right b _ 0 p) cs h.1)
 
 -- the joint action that is chosen for joint class C, with 0 for each class that has none
 unfoldable pub chosen_joint_action : Model → Front → ℕ → ℕ
@@ -82,13 +54,13 @@ chosen_action_agrees m ok h F front C p =
     let cs = parts_of (class_counts F.agents) C in
     let inside = parts_below (class_counts F.agents) C p in
     let actions_in = chosen_below front.agents ok.sizes.some_action cs inside in
-    IsIn-filter _ _ (numbers_below (joint_actions m)) (IsIn-below (joint_actions m) _ (joint_below m.actions _ actions_in))
-    (ap (all_agree F.agents cs) (parts-joint m.actions _ actions_in) ∙ chosen_agree F.agents cs inside)
+    IsIn-filter _ _ (numbers_below (joint_actions m)) (IsIn-below (joint_actions m) _ (joint_number_below m.actions _ actions_in))
+    (ap (all_agree F.agents cs) (parts_of-joint_number m.actions _ actions_in) ∙ chosen_agree F.agents cs inside)
 
 -- ---- after a choice
 agrees_without : (os : List (Option ℕ)) (c a e x : ℕ) → get_or os c None ≡ None → agrees (get_or (set os c (Some a)) e None) x ≡ true → agrees (get_or os e None) x ≡ true
 agrees_without os c a e x free h =
-    elim (dec_eq c e) [
+    elim (cases_eq c e) [
       | inl same ↦ ap (λ o. agrees o x) (ap (λ z. get_or os z None) (sym same) ∙ free)
       | inr ne ↦ ap (λ o. agrees o x) (sym (get_or-set_other os c e (Some a) None (λ z. ne (sym z)))) ∙ h
     ]
@@ -99,5 +71,5 @@ agree_without zero c a (d ∷ ds) [] xs free h = h
 agree_without (suc i) c a (d ∷ ds) [] xs free h = h
 agree_without zero c a (d ∷ ds) (e ∷ cs) [] free h = h
 agree_without (suc i) c a (d ∷ ds) (e ∷ cs) [] free h = h
-agree_without zero c a (d ∷ ds) (e ∷ cs) (x ∷ xs) free h = let both = parts_of_true _ _ h in both_true (agrees_without d.chosen c a e x free.1 both.0) both.1
-agree_without (suc i) c a (d ∷ ds) (e ∷ cs) (x ∷ xs) free h = let both = parts_of_true _ _ h in both_true both.0 (agree_without i c a ds cs xs free both.1)
+agree_without zero c a (d ∷ ds) (e ∷ cs) (x ∷ xs) free h = let both = and_parts _ _ h in both_true (agrees_without d.chosen c a e x free.1 both.0) both.1
+agree_without (suc i) c a (d ∷ ds) (e ∷ cs) (x ∷ xs) free h = let both = and_parts _ _ h in both_true both.0 (agree_without i c a ds cs xs free both.1)

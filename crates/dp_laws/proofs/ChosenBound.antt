@@ -1,7 +1,6 @@
 -- a bound does not grow by choosing
 use Rattle.std.proofs.Common.{◌≡◌, ℕ, zero, suc, ◌+◌, ◌<◌, ◌≤ℤ◌, get_or, sym, ap, ◌∙◌, subst}
-use Rattle.dp_laws.proofs.AgreeingActions.{IsIn_filter, agree_without, chosen_action_agrees, greatest_of_part, some_in}
-use Rattle.dp_laws.proofs.Best.{IsIn, IsIn-filter}
+use Rattle.dp_laws.proofs.AgreeingActions.{agree_without, chosen_action_agrees}
 use Rattle.dp_laws.proofs.ChosenFronts.{actions_chosen, counts_chosen, weight_chosen}
 use Rattle.dp_laws.proofs.Ring.{zadd_le, zle_of, zle_trans}
 use Rattle.dp_laws.proofs.Sums.{int_sum_le}
@@ -15,12 +14,14 @@ use Rattle.dp_spec.specs.Model.{IsModel, Model, joint_actions}
 use Rattle.dp_spec.specs.Steps.{IsUnassigned, chosen_front}
 use Rattle.dp_spec.specs.Sums.{greatest, int_sum, numbers_below}
 use Rattle.dp_spec.specs.WellFormed.{IsFront}
+use Rattle.dp_laws.proofs.Members.{IsIn, IsIn-filter, filter-IsIn, some_in}
+use Rattle.dp_laws.proofs.GreatestValues.{greatest_of_part}
 
 -- what agrees after a choice agreed before it
 still_agrees : (m : Model) (F : Front) (i c a C x : ℕ) → IsUnassigned i c F.agents → IsIn x (agreeing_actions m (chosen_front F i c a) C) → IsIn x (agreeing_actions m F C)
 unfolding agreeing_actions
 still_agrees m F i c a C x free h =
-    let both = IsIn_filter _ x (numbers_below (joint_actions m)) h in
+    let both = filter-IsIn _ x (numbers_below (joint_actions m)) h in
     let agreed = agree_without i c a F.agents (parts_of (class_counts (chosen_front F i c a).agents) C) (parts_of m.actions x) free both.1 in
     IsIn-filter _ x (numbers_below (joint_actions m)) both.0 (ap (λ z. all_agree F.agents (parts_of z C) (parts_of m.actions x)) (sym (counts_chosen i c a F.agents)) ∙ agreed)
 

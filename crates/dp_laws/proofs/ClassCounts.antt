@@ -3,12 +3,12 @@ use Rattle.std.proofs.Common.{◌≡◌, inl, inr, ℕ, zero, suc, ◌^◌, ◌<
 use Rattle.std.proofs.Math.Nat.{mul-le-mul, one-le-pow}
 use Rattle.std.proofs.lemmas.Bool.Decides.{nat_tests}
 use Rattle.std.proofs.lemmas.Nat.{mul-pow}
-use Rattle.dp_laws.proofs.Sums.{dec_eq}
 use Rattle.dp_spec.specs.Front.{AgentFront, Front, class_counts}
 use Rattle.dp_spec.specs.JointNumbers.{product}
 use Rattle.dp_spec.specs.Model.{Model, joint_observations}
 use Rattle.dp_spec.specs.WellFormed.{AreAgentFronts, IsAgentFront, IsFront}
 use Rattle.dp_spec.specs.WellFormed.AreAgentFronts.{and_agent, no_agents}
+use Rattle.std.proofs.lemmas.Bool.{cases_eq}
 
 -- x has class c, after class k was given to the members of the class of n
 abbrev replaced_class : (ℕ → ℕ) → ℕ → ℕ → ℕ → ℕ
@@ -27,12 +27,12 @@ classes-le-members zero (suc k) class member = let some = member 0 (omega arith)
 classes-le-members (suc n) (suc k) class member =
     let rest : k ≤ n = classes-le-members n k (replaced_class class n k) (λ c p.
     let some = member c (omega arith) in
-    elim (dec_eq some.0 n) [
+    elim (cases_eq some.0 n) [
       | inr other ↦ (some.0, omega (arith, some.1), replaced_other class n k some.0 c some.2 p)
       | inl last ↦
           let of_last : class n ≡ c = ap class (sym last) ∙ some.2 in
           let top = member k (omega arith) in
-          elim (dec_eq top.0 n) [
+          elim (cases_eq top.0 n) [
             | inl same ↦ let of_top : class n ≡ k = ap class (sym same) ∙ top.2 in absurd (omega arith)
             | inr apart ↦ (top.0, omega (arith, top.1), replaced_same class n k top.0 top.2 ∙ of_last)
           ]

@@ -4,19 +4,16 @@ use Rattle.std.proofs.Math.IntN.{zero-*ℤ}
 use Rattle.dp_laws.proofs.Order.{add_le_left, add_le_right, le_of_mul_le_left, le_total}
 use Rattle.dp_laws.proofs.Ring.{v, nat, ◌⊗◌, by_ring, zle_of, zmul_le}
 use Rattle.dp_laws.proofs.Sums.{int_sum_ext, int_sum_zero, mul_two, ext_two}
-use Rattle.dp_laws.proofs.ForwardValue.{int_history_sum_ext, int_history_sum_swap}
-use Rattle.dp_laws.proofs.HistorySums.{int_history_sum_zero, nat_history_sum_none, nat_sum_none}
-use Rattle.dp_laws.proofs.FollowedBound.{int_history_sum_group, int_history_sum_weigh, equal_of_test}
+use Rattle.dp_laws.proofs.HistorySums.{int_history_sum_ext, int_history_sum_group, int_history_sum_swap, int_history_sum_weigh, int_history_sum_zero, nat_history_sum_none}
 use Rattle.dp_spec.specs.JointHistory.{IsJointHistory, int_history_sum, nat_history_sum}
 use Rattle.dp_spec.specs.Sums.{int_sum, nat_sum}
+use Rattle.dp_spec.proofs.NaturalSumLaws.{nat_sum_none}
+use Rattle.std.proofs.Math.Nat.{eq-zero-or-pos}
+use Rattle.std.proofs.lemmas.Bool.{eqb-true}
 
 -- an order between multiples passes from one class to another in proportion
 as_good : (t t' : ℕ) (ga gb ga' gb' : ℤ) → 0 < t → pos t' *ℤ ga ≡ pos t *ℤ ga' → pos t' *ℤ gb ≡ pos t *ℤ gb' → ga ≤ℤ gb → ga' ≤ℤ gb'
 as_good t t' ga gb ga' gb' p e f h = let le = zmul_le t' ga gb h in le_of_mul_le_left t ga' gb' p (rw (← e, ← f) le)
-
--- 0 or more
-zero_or_more : (t : ℕ) → (t ≡ 0) ⊎ (0 < t)
-zero_or_more t = grind arith
 
 -- weights against a value, where two tests hold
 value_where_both : (a b : Bool) (S : ℕ) (w : ℕ → ℕ) (V V' : ℕ → ℤ) → (a ≡ true → (s : ℕ) → s < S → V s ≡ V' s) →
@@ -50,7 +47,7 @@ module _ (n t states k : ℕ) (weight : List ℕ → ℕ → ℕ) (class others 
       int_history_sum_group n t k _ others in_range
       ∙ int_sum_ext k _ _ (λ y p.
       int_history_sum_ext n t _ (λ H. int_sum states (λ s. pos (cond (eqb (others H) y) (cond (eqb (class H) c) (weight H s) 0) 0) *ℤ value y x s))
-      (λ H h. value_where_both (eqb (others H) y) (eqb (class H) c) states (weight H) (value (others H) x) (value y x) (λ e s q. ap (λ (z : ℕ). value z x s) (equal_of_test _ _ e)))
+      (λ H h. value_where_both (eqb (others H) y) (eqb (class H) c) states (weight H) (value (others H) x) (value y x) (λ e s q. ap (λ (z : ℕ). value z x s) (eqb-true _ _ e)))
       ∙ int_history_sum_swap n t states _
       ∙ int_sum_ext states _ _ (λ s q. int_history_sum_weigh n t (λ H. cond (eqb (others H) y) (cond (eqb (class H) c) (weight H s) 0) 0) (value y x s)))
 
@@ -75,9 +72,9 @@ module _ (n t states k : ℕ) (weight : List ℕ → ℕ → ℕ) (class others 
   better_for_both c c' x x' h =
       let sx : pos (total_of c') *ℤ class_value c x ≡ pos (total_of c) *ℤ class_value c' x = class_value_in_proportion c c' (total_of c') (total_of c) x h in
       let sx' : pos (total_of c') *ℤ class_value c x' ≡ pos (total_of c) *ℤ class_value c' x' = class_value_in_proportion c c' (total_of c') (total_of c) x' h in
-      elim (zero_or_more (total_of c)) [
+      elim (eq-zero-or-pos (total_of c)) [
         | inl none ↦ (x', inr refl, add_le_left _ _ (class_value c' x') (zle_of _ _ (class_value_of_none c x none ∙ sym (class_value_of_none c x' none))))
-        | inr some ↦ elim (zero_or_more (total_of c')) [
+        | inr some ↦ elim (eq-zero-or-pos (total_of c')) [
           | inl none' ↦ (x, inl refl, add_le_right (class_value c x) _ _ (zle_of _ _ (class_value_of_none c' x' none' ∙ sym (class_value_of_none c' x none'))))
           | inr some' ↦ elim (le_total (class_value c x) (class_value c x')) [
             | inl le ↦ (x', inr refl, add_le_left _ _ _ le)

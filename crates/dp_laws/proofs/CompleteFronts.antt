@@ -4,11 +4,6 @@ use Rattle.std.specs.List.{range_with_len}
 use Rattle.std.proofs.lemmas.List.FromFn.{get_or-map-range_with_len}
 use Rattle.dp_spec.specs.Steps.{all_chosen}
 
--- both parts of a true conjunction
-pub parts_of_true : (a b : Bool) → a && b ≡ true → (a ≡ true) × (b ≡ true)
-parts_of_true true b h = (refl, h)
-parts_of_true false b h = cc
-
 -- where all have an action, a class has one
 pub some_at : (os : List (Option ℕ)) (c : ℕ) → all_chosen os ≡ true → c < length os → (a : ℕ) × (get_or os c None ≡ Some a)
 some_at [] c e h = absurd (omega arith)

@@ -2,8 +2,6 @@
 use Rattle.std.proofs.Common.{◌≡◌, ℕ, zero, suc, ◌<◌, Bool, true, ℤ, pos, ◌+ℤ◌, List, [], ◌∷◌, map, length, get_or, filter, Option, None, refl, sym, ap, ◌∙◌, arith}
 use Rattle.std.proofs.lemmas.Int.{ints}
 use Rattle.dp_laws.proofs.Sums.{int_sum_zero}
-use Rattle.dp_laws.proofs.OwnHistories.{Below, parts_below}
-use Rattle.dp_laws.proofs.JointParts.{joint-parts}
 use Rattle.dp_laws.proofs.EarnedValue.{policy_value_is_recursive}
 use Rattle.dp_spec.specs.Bound.{agreeing_actions, agrees, all_agree, bound_of}
 use Rattle.dp_spec.specs.ConstantPolicy.{constant_policy, constant_tree, constant_trees, repeated_tree}
@@ -16,6 +14,9 @@ use Rattle.dp_spec.specs.PolicyTree.IsJointPolicy.{and_agent, no_agents}
 use Rattle.dp_spec.specs.Steps.{root_agent, root_front}
 use Rattle.dp_spec.specs.Sums.{greatest, int_sum, numbers_below}
 use Rattle.dp_spec.specs.Value.{joint_root_action, policy_value}
+use Rattle.dp_spec.proofs.JointNumberLaws.{AreBelow, joint_number-parts_of, parts_below}
+use Rattle.dp_laws.proofs.GreatestValues.{greatest_ext}
+use Rattle.dp_laws.proofs.Members.{below-IsIn, filter_all}
 
 repeated_fits : (b n r c : ℕ) (q : PolicyTree) → IsPolicyTree b n r q → ArePolicyTrees b n r c (repeated_tree c q)
 repeated_fits b n r zero q h = tt
@@ -26,7 +27,7 @@ constant_tree_fits b n zero a h = tt
 constant_tree_fits b n (suc zero) a h = (h, refl)
 constant_tree_fits b n (suc (suc r)) a h = (h, repeated_fits b n (suc r) n (constant_tree n (suc r) a) (constant_tree_fits b n (suc r) a h))
 
-constant_trees_fit : (r : ℕ) (bs ns as' : List ℕ) → length ns ≡ length bs → Below bs as' → IsJointPolicy r bs ns (constant_trees ns r as')
+constant_trees_fit : (r : ℕ) (bs ns as' : List ℕ) → length ns ≡ length bs → AreBelow bs as' → IsJointPolicy r bs ns (constant_trees ns r as')
 constant_trees_fit r [] [] as' e h = no_agents
 constant_trees_fit r [] (n ∷ ns) as' e h = absurd (omega arith)
 constant_trees_fit r (b ∷ bs) [] as' e h = absurd (omega arith)
@@ -43,7 +44,7 @@ root_of_constant n zero a = refl
 root_of_constant n (suc zero) a = refl
 root_of_constant n (suc (suc r)) a = refl
 
-roots_of_constant : (r : ℕ) (bs ns as' : List ℕ) → length ns ≡ length bs → Below bs as' → map root_action (constant_trees ns r as') ≡ as'
+roots_of_constant : (r : ℕ) (bs ns as' : List ℕ) → length ns ≡ length bs → AreBelow bs as' → map root_action (constant_trees ns r as') ≡ as'
 roots_of_constant r [] [] [] e h = refl
 roots_of_constant r [] [] (a ∷ as') e h = absurd h
 roots_of_constant r [] (n ∷ ns) as' e h = absurd (omega arith)
@@ -57,7 +58,7 @@ roots_of_constant r (b ∷ bs) (n ∷ ns) (a ∷ as') e h =
 pub constant_policy_begins : (m : Model) → IsModel m → (h a : ℕ) → a < joint_actions m → joint_root_action m (constant_policy m h a) ≡ a
 unfolding constant_policy joint_actions joint_root_action
 constant_policy_begins m ok h a p =
-    ap (joint_number m.actions) (roots_of_constant h m.actions m.observations (parts_of m.actions a) ok.sizes.alike (parts_below m.actions a p)) ∙ joint-parts m.actions a p
+    ap (joint_number m.actions) (roots_of_constant h m.actions m.observations (parts_of m.actions a) ok.sizes.alike (parts_below m.actions a p)) ∙ joint_number-parts_of m.actions a p
 
 none_more : (n : ℕ) (x : ℤ) → x +ℤ int_sum n (λ o. pos 0) ≡ x
 none_more n x = let e = int_sum_zero n in omega (arith, ints)
@@ -73,13 +74,6 @@ constant_policy_value m ok a p =
 pub last_action : (m : Model) (w : ℕ → ℕ) (a k : ℕ) → action_look_ahead m 0 w a k ≡ weighted_reward m 0 w a
 unfolding action_look_ahead
 last_action m w a k = none_more (joint_observations m) (weighted_reward m 0 w a)
-
-greatest_ext_below : (f g : ℕ → ℤ) (n : ℕ) → ((a : ℕ) → a < n → f a ≡ g a) → greatest f (numbers_below n) ≡ greatest g (numbers_below n)
-greatest_ext_below f g zero h = refl
-greatest_ext_below f g (suc zero) h = h 0 (omega arith)
-greatest_ext_below f g (suc (suc n)) h =
-    let rest : greatest f (numbers_below (suc n)) ≡ greatest g (numbers_below (suc n)) = greatest_ext_below f g (suc n) (λ a p. h a (omega arith)) in
-    rw (h (suc n) (omega arith), rest)
 
 -- ---- the root front
 root_counts : (bs : List ℕ) → product (class_counts (map (λ n. root_agent) bs)) ≡ 1
@@ -106,10 +100,6 @@ root_agrees : (bs : List ℕ) (C a : ℕ) → all_agree (map (λ n. root_agent) 
 root_agrees [] C a = refl
 root_agrees (b ∷ bs) C a = rw (agrees_with_none _ _ (no_choice _), root_agrees bs)
 
-filter_all : (p : ℕ → Bool) (xs : List ℕ) → ((x : ℕ) → p x ≡ true) → filter p xs ≡ xs
-filter_all p [] h = refl
-filter_all p (x ∷ xs) h = rw (h x, filter_all p xs h)
-
 root_agreeing : (m : Model) (C : ℕ) → agreeing_actions m (root_front m) C ≡ numbers_below (joint_actions m)
 unfolding agreeing_actions root_front
 root_agreeing m C = filter_all _ (numbers_below (joint_actions m)) (λ a. root_agrees m.actions C a)
@@ -123,7 +113,7 @@ unfolding root_front
 root_bound_at_one m ok look =
     only_one _ _ (root_counts m.actions)
     ∙ ap (greatest (λ a. action_look_ahead m 0 (class_weight m (root_front m) 0) a look)) (root_agreeing m 0)
-    ∙ greatest_ext_below _ _ (joint_actions m) (λ a p.
+    ∙ greatest_ext _ _ (numbers_below (joint_actions m)) (λ a i.
     last_action m (class_weight m (root_front m) 0) a look
     ∙ ap (λ w. weighted_reward m 0 w a) (λ i s. root_weight m s i)
-    ∙ sym (constant_policy_value m ok a p))
+    ∙ sym (constant_policy_value m ok a (below-IsIn (joint_actions m) a i)))

@@ -1,10 +1,10 @@
 -- The value of a joint policy by a recursion forwards, and as what is earned.
 use Rattle.std.proofs.Common.{◌≡◌, ℕ, zero, suc, ◌*◌, ◌^◌, ◌<◌, ℤ, pos, ◌+ℤ◌, ◌*ℤ◌, List, [], ◌∷◌, refl, sym, ap, ◌∙◌, arith}
 use Rattle.std.proofs.lemmas.Int.{ints}
-use Rattle.dp_laws.proofs.Sums.{int_sum_ext, nat_sum_ext, int_sum_weigh}
-use Rattle.dp_laws.proofs.ForwardValue.{forward_is_backward, int_history_sum_ext}
+use Rattle.dp_laws.proofs.Sums.{int_sum_ext, int_sum_weigh}
+use Rattle.dp_laws.proofs.ForwardValue.{forward_is_backward}
 use Rattle.dp_laws.proofs.OneStep.{one_step}
-use Rattle.dp_laws.proofs.HistorySums.{int_history_sum_zero}
+use Rattle.dp_laws.proofs.HistorySums.{int_history_sum_ext, int_history_sum_zero}
 use Rattle.dp_spec.specs.JointHistory.{IsJointHistory, earned_reward, trees_after_history}
 use Rattle.dp_spec.specs.LookAhead.{look_ahead, weighted_reward, weights_after}
 use Rattle.dp_spec.specs.MdpTable.{mdp_table}
@@ -12,6 +12,8 @@ use Rattle.dp_spec.specs.Model.{Model, joint_actions, joint_observations, obs_at
 use Rattle.dp_spec.specs.PolicyTree.{PolicyTree}
 use Rattle.dp_spec.specs.Sums.{greatest, int_sum, numbers_below}
 use Rattle.dp_spec.specs.Value.{backward_value, joint_root_action, policy_value, trees_after}
+use Rattle.dp_laws.proofs.GreatestValues.{greatest_ext}
+use Rattle.dp_spec.proofs.NaturalSumLaws.{nat_sum_ext}
 
 -- what a recursion that pushes weights forwards returns
 abbrev pub recursive_value : Model → ℕ → (ℕ → ℕ) → List PolicyTree → ℤ
@@ -43,12 +45,6 @@ all_is_earned m act qs h does =
 pub value_is_earned : (m : Model) (h : ℕ) (qs : List PolicyTree) → policy_value m h qs ≡ earned_reward m (λ H. joint_root_action m (trees_after_history m qs H)) h h
 value_is_earned m h qs = all_is_earned m (λ H. joint_root_action m (trees_after_history m qs H)) qs h (λ t H p q. refl)
 
--- equal functions have equal greatest values
-pub greatest_ext : (f g : ℕ → ℤ) (xs : List ℕ) → ((a : ℕ) → f a ≡ g a) → greatest f xs ≡ greatest g xs
-greatest_ext f g [] h = refl
-greatest_ext f g (x ∷ []) h = h x
-greatest_ext f g (x ∷ (y ∷ ys)) h = let rest : greatest f (y ∷ ys) ≡ greatest g (y ∷ ys) = greatest_ext f g (y ∷ ys) h in rw (h x, rest)
-
 -- only the weights of the states count
 pub weights_after_ext : (m : Model) (w w' : ℕ → ℕ) (a o t : ℕ) → ((s : ℕ) → s < m.states → w s ≡ w' s) → weights_after m w a o t ≡ weights_after m w' a o t
 unfolding weights_after
@@ -65,6 +61,6 @@ pub look_ahead_ext : (m : Model) (r k : ℕ) (w w' : ℕ → ℕ) → ((s : ℕ)
 look_ahead_ext m zero k w w' h = refl
 look_ahead_ext m (suc r) zero w w' h = int_sum_ext m.states _ _ (λ s p. ap (λ (n : ℕ). pos n *ℤ mdp_table m (suc r) s) (h s p))
 look_ahead_ext m (suc r) (suc k) w w' h =
-    greatest_ext _ _ (numbers_below (joint_actions m)) (λ a.
+    greatest_ext _ _ (numbers_below (joint_actions m)) (λ a i.
     ap (λ x. x +ℤ int_sum (joint_observations m) (λ o. look_ahead m r (weights_after m w a o) k)) (weighted_reward_ext m r w w' a h)
     ∙ ap (λ x. weighted_reward m r w' a +ℤ x) (int_sum_ext (joint_observations m) _ _ (λ o p. look_ahead_ext m r k (weights_after m w a o) (weights_after m w' a o) (λ t q. weights_after_ext m w w' a o t h))))

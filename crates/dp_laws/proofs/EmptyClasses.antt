@@ -1,11 +1,12 @@
 -- A class of total 0 is equivalent to every class.
 use Rattle.std.proofs.Common.{◌≡◌, ℕ, ◌*◌, ◌<◌, Bool, true, false, cond, eqb, refl, arith}
-use Rattle.dp_laws.proofs.HistorySums.{nat_history_sum_none, nat_history_sum_of_none, nat_sum_none}
 use Rattle.dp_spec.specs.Front.{Front, fixed_joint_action}
 use Rattle.dp_spec.specs.JointHistory.{history_weight}
 use Rattle.dp_spec.specs.Merge.{AreEquivalent, class_of_agent, class_of_others, class_total, place_weight}
 use Rattle.dp_spec.specs.Model.{Model, joint_observations}
 use Rattle.dp_spec.specs.Sums.{nat_sum}
+use Rattle.dp_spec.proofs.NaturalSumLaws.{nat_sum_none}
+use Rattle.dp_laws.proofs.HistorySums.{nat_history_sum_none, nat_history_sum_of_none}
 
 -- where the weights of all states are 0 each of them is
 none_at : (b t : Bool) (n : ℕ) (w : ℕ → ℕ) (s : ℕ) → s < n → cond t (nat_sum n w) 0 ≡ 0 → cond b (cond t (w s) 0) 0 ≡ 0

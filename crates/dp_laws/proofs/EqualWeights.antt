@@ -2,9 +2,8 @@
 use Rattle.std.proofs.Common.{◌≡◌, ℕ, zero, suc, ◌<◌, ◌≤◌, Bool, pos, ◌+ℤ◌, ◌≤ℤ◌, List, refl, ap, ◌∙◌, subst}
 use Rattle.std.specs.Int.{int_min}
 use Rattle.dp_spec.specs.declared.span.Span.{Span}
-use Rattle.dp_laws.proofs.EarnedValue.{greatest_ext}
 use Rattle.dp_laws.proofs.Recursion.{span_sum_ext}
-use Rattle.dp_laws.proofs.Sums.{int_sum_ext, nat_sum_ext}
+use Rattle.dp_laws.proofs.Sums.{int_sum_ext}
 use Rattle.dp_spec.specs.Arithmetic.{Arithmetic, span_add}
 use Rattle.dp_spec.specs.Calls.{IsPoint, size}
 use Rattle.dp_spec.specs.Model.{Model, joint_actions, joint_observations, obs_at, reward_at, trans_at}
@@ -13,6 +12,8 @@ use Rattle.dp_spec.specs.Quantities.{look_ahead_in, mdp_table_in, recursive_wort
 use Rattle.dp_spec.specs.Sizes.{AreWeights, weight_limit}
 use Rattle.dp_spec.specs.Sums.{greatest, int_sum, numbers_below}
 use Rattle.dp_spec.specs.Value.{joint_root_action, trees_after}
+use Rattle.dp_laws.proofs.GreatestValues.{greatest_ext}
+use Rattle.dp_spec.proofs.NaturalSumLaws.{nat_sum_ext}
 
 module _ (A : Arithmetic) (m : Model) where
   -- the next weights
@@ -38,7 +39,7 @@ module _ (A : Arithmetic) (m : Model) where
   look_ahead_in_ext (suc r) (suc k) ws vs h =
       let best = λ (us : ℕ → Span). greatest (λ a. (weighted_reward_in A m r us a).high +ℤ int_sum (joint_observations m) (λ o. look_ahead_in A m r (weights_after_in A m us a o) k)) (numbers_below (joint_actions m)) in
       ap (λ x. int_min x (weighted_table_in A m (suc r) ws))
-      (greatest_ext _ _ (numbers_below (joint_actions m)) (λ a.
+      (greatest_ext _ _ (numbers_below (joint_actions m)) (λ a i.
       ap (λ (w : Span). w.high +ℤ int_sum (joint_observations m) (λ o. look_ahead_in A m r (weights_after_in A m ws a o) k)) (weighted_reward_in_ext r ws vs a h)
       ∙ ap (λ x. (weighted_reward_in A m r vs a).high +ℤ x) (int_sum_ext (joint_observations m) _ _ (λ o p. look_ahead_in_ext r k (weights_after_in A m ws a o) (weights_after_in A m vs a o) (λ t q. weights_after_in_ext ws vs a o t h)))))
       ∙ ap (λ x. int_min (best vs) x) (weighted_table_in_ext (suc r) ws vs h)

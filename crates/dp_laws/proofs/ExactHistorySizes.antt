@@ -6,11 +6,9 @@ use Rattle.dp_spec.specs.declared.span.Span.{Span}
 use Rattle.dp_laws.proofs.ExactSizes.{pushed_total, reward_total}
 use Rattle.dp_laws.proofs.ExactValueSizes.{looks_most, value_most}
 use Rattle.dp_laws.proofs.ModeCondition.{reward_most}
-use Rattle.dp_laws.proofs.NaturalSums.{nat_history_sum_times, nat_sum_times}
 use Rattle.dp_laws.proofs.OrderedSpans.{classes_total, total_size}
-use Rattle.dp_laws.proofs.Scales.{scale_of_first, scale_of_next}
-use Rattle.dp_laws.proofs.SizeSums.{action_look_le, agreeing_below, greatest_abs, nat_history_sum_le, nat_sum_le}
-use Rattle.dp_laws.proofs.Sums.{nat_sum_ext}
+use Rattle.dp_laws.proofs.Scales.{scale_of_first, scale_of_next, weights_times_value}
+use Rattle.dp_laws.proofs.SizeSums.{action_look_le, agreeing_below}
 use Rattle.dp_spec.specs.Arithmetic.{exact}
 use Rattle.dp_spec.specs.Bound.{agreeing_actions}
 use Rattle.dp_spec.specs.Calls.{size}
@@ -23,6 +21,9 @@ use Rattle.dp_spec.specs.Sizes.{reward_size}
 use Rattle.dp_spec.specs.SizesOfEarnings.{IsActing, earned_size}
 use Rattle.dp_spec.specs.SizesOfFronts.{IsChoosing, advanced_size, class_look_size, class_reward_size}
 use Rattle.dp_spec.specs.Sums.{greatest, nat_sum}
+use Rattle.dp_laws.proofs.GreatestValues.{greatest_abs}
+use Rattle.dp_spec.proofs.NaturalSumLaws.{nat_sum_ext, nat_sum_le, nat_sum_times}
+use Rattle.dp_laws.proofs.HistorySums.{nat_history_sum_le, nat_history_sum_times}
 
 module _ (m : Model) (is : IsModel m) where
   -- a start weight is its chance
@@ -82,10 +83,7 @@ module _ (m : Model) (is : IsModel m) where
   -- a value over the steps that are left against the weights of a stage
   value_at_stage : (f r h : ℕ) → f + suc r ≡ h → m.scales.start * step_scale m ^ f * value_most m (suc r) ≡ suc r * (m.scales.start * step_scale m ^ h * reward_most m)
   unfolding value_most
-  value_at_stage f r h e = grouped m.scales.start (step_scale m ^ f) (suc r) (reward_most m) (step_scale m ^ suc r) (step_scale m ^ h) (split_power f (suc r) h e)
-    where
-      grouped : (d p r x q k : ℕ) → p * q ≡ k → d * p * (r * x * q) ≡ r * (d * k * x)
-      grouped d p r x q k e = omega (arith, ap (λ (n : ℕ). r * d * n * x) e)
+  value_at_stage f r h e = weights_times_value m.scales.start (step_scale m ^ f) (suc r) (reward_most m) (step_scale m ^ suc r) (step_scale m ^ h) (split_power f (suc r) h e)
 
   -- the best look-aheads of all joint classes together
   pub class_looks_most : (F : Front) (r k h : ℕ) → F.stage + suc r ≡ h → IsActing m F.stage (fixed_joint_action m F) → class_look_size (exact m.scales) m r F k ≤ suc r * (m.scales.start * step_scale m ^ h * reward_most m)

@@ -1,6 +1,6 @@
 -- In exact mode the size records of rewards, worth, the table, look-ahead and fronts hold, by the mode's condition.
 use Rattle.std.proofs.Common.{◌≡◌, ℕ, suc, ◌+◌, ◌-◌, ◌*◌, ◌^◌, ◌<◌, ◌≤◌, true, unsigned_abs, List, refl, sym, ap, ◌∙◌, arith}
-use Rattle.std.proofs.Math.Nat.{le-mul_of_pos_right, pow-suc, mul-le-mul_left, mul-le-mul_right, one-le-pow, pow-zero}
+use Rattle.std.proofs.Math.Nat.{le-mul_of_pos_right, mul-le-mul_left, mul-le-mul_right, mul-pos, one-le-pow, pow-suc, pow-zero}
 use Rattle.std.proofs.lemmas.Nat.{pow-add}
 use Rattle.dp_spec.specs.declared.span.Span.{Span}
 use Rattle.dp_laws.proofs.ExactHistorySizes.{advanced_most, class_rewards_most, class_looks_most, earned_most, front_total, histories_total}
@@ -10,8 +10,7 @@ use Rattle.dp_laws.proofs.ExactValueSizes.{looks_most, one_size, table_most, tab
 use Rattle.dp_laws.proofs.ActingHistories.{class_weights, front_acting}
 use Rattle.dp_laws.proofs.ModeCondition.{reward_most, reward_most_some, step_scale_some}
 use Rattle.dp_laws.proofs.OrderedSpans.{total_size}
-use Rattle.dp_laws.proofs.Scales.{product_positive, step_scale_is}
-use Rattle.dp_laws.proofs.SizeSums.{nat_sum_at}
+use Rattle.dp_laws.proofs.Scales.{step_scale_is, weights_times_value}
 use Rattle.dp_spec.specs.Arithmetic.{exact, reward_factor}
 use Rattle.dp_spec.specs.Calls.{IsPoint, exact_calls, size}
 use Rattle.dp_spec.specs.Front.{Front, fixed_joint_action}
@@ -28,6 +27,7 @@ use Rattle.dp_spec.specs.SizesOfLookAhead.{CanLookAhead, next_look_size, weighte
 use Rattle.dp_spec.specs.SizesOfTable.{CanTabulate, table_later_size, table_reward_size}
 use Rattle.dp_spec.specs.Sums.{nat_sum}
 use Rattle.dp_spec.specs.WellFormed.{IsFront}
+use Rattle.dp_spec.proofs.NaturalSumLaws.{nat_sum_at}
 
 -- the weight 1 is one number
 one_point : (m : Model) → IsPoint (exact m.scales).one
@@ -45,10 +45,7 @@ module _ (m : Model) (is : IsModel m) (h : ℕ) (some : 0 < h) (mode : true ≡ 
   value_room t r w e small =
       let le = mul-le-mul_right (r * reward_most m * step_scale m ^ r) small in
       let whole = whole_room m is h some mode r (omega arith) in
-      let f = grouped m.scales.start (step_scale m ^ t) r (reward_most m) (step_scale m ^ r) (step_scale m ^ h) (split_power t r e) in omega arith
-    where
-      grouped : (d p r x q k : ℕ) → p * q ≡ k → d * p * (r * x * q) ≡ r * (d * k * x)
-      grouped d p r x q k e = omega (arith, ap (λ (n : ℕ). r * d * n * x) e)
+      let f = weights_times_value m.scales.start (step_scale m ^ t) r (reward_most m) (step_scale m ^ r) (step_scale m ^ h) (split_power t r e) in omega arith
 
   -- a reward of the weights of a time
   reward_room : (t r w : ℕ) → t + suc r ≡ h → w ≤ m.scales.start * step_scale m ^ t → w * (reward_most m * step_scale m ^ suc r) ≤ 2 ^ 126
@@ -65,7 +62,7 @@ module _ (m : Model) (is : IsModel m) (h : ℕ) (some : 0 < h) (mode : true ≡ 
   table_room r le =
       let t = h - r in
       let room = value_room t r (m.scales.start * step_scale m ^ t) (omega arith) (omega arith) in
-      let scale : 0 < m.scales.start * step_scale m ^ t = product_positive m.scales.start _ is.scales.start (one-le-pow t (step_scale m) (step_scale_some m is)) in
+      let scale : 0 < m.scales.start * step_scale m ^ t = mul-pos is.scales.start (one-le-pow t (step_scale m) (step_scale_some m is)) in
       let le = le-mul_of_pos_right (value_most m r) scale in omega arith
 
   -- what a reward is multiplied by
@@ -73,14 +70,14 @@ module _ (m : Model) (is : IsModel m) (h : ℕ) (some : 0 < h) (mode : true ≡ 
   unfolding value_most
   factor_room r lt =
       let room = table_room (suc r) lt in
-      let part = le-mul_of_pos_right (step_scale m ^ suc r) (product_positive (suc r) (reward_most m) (omega arith) (reward_most_some m)) in
+      let part = le-mul_of_pos_right (step_scale m ^ suc r) (mul-pos {m = suc r} {n = reward_most m} (omega arith) (reward_most_some m)) in
       let e = reward_factor_is m r in
       let f = pow-suc (step_scale m) r in
       let le = mul-le-mul_left (step_scale m ^ r) (discount_le m.scales.trans m.scales.obs m.scales.discount (step_scale m) is.scales.trans is.scales.obs (step_scale_is m)) in
       omega arith
     where
       discount_le : (a b d k : ℕ) → 0 < a → 0 < b → a * b * d ≡ k → d ≤ k
-      discount_le a b d k p q e = let le = le-mul_of_pos_right d (product_positive a b p q) in omega arith
+      discount_le a b d k p q e = let le = le-mul_of_pos_right d (mul-pos p q) in omega arith
 
   -- ---- rewards
   -- the call for a part of a reward

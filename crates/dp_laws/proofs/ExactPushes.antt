@@ -8,9 +8,8 @@ use Rattle.dp_laws.proofs.ExactHistorySizes.{start_total}
 use Rattle.dp_laws.proofs.ExactSizes.{chance_size, later_size, next_parts, pushed_total}
 use Rattle.dp_laws.proofs.ModeCondition.{exact_condition, reward_most, reward_most_some, step_scale_some}
 use Rattle.dp_laws.proofs.OrderedSpans.{IsOrdered, sum_ordered, sum_point, times_ordered, total_size, weight_ordered}
-use Rattle.dp_laws.proofs.Ring.{zle_of}
+use Rattle.dp_laws.proofs.Ring.{zle_of, zle_pos}
 use Rattle.dp_laws.proofs.Scales.{scale_of_first, scale_of_next, step_scale_is}
-use Rattle.dp_laws.proofs.SizeSums.{nat_sum_at}
 use Rattle.dp_spec.specs.Arithmetic.{exact}
 use Rattle.dp_spec.specs.Calls.{IsPoint, exact_calls, size}
 use Rattle.dp_spec.specs.Mode.{is_exact_mode}
@@ -18,6 +17,7 @@ use Rattle.dp_spec.specs.Model.{IsModel, Model, joint_actions, joint_observation
 use Rattle.dp_spec.specs.Quantities.{weights_after_in}
 use Rattle.dp_spec.specs.Sizes.{AreWeights, CanPush, IsStep}
 use Rattle.dp_spec.specs.Sums.{nat_sum}
+use Rattle.dp_spec.proofs.NaturalSumLaws.{nat_sum_at}
 
 -- a weight times chances is one number where the weight is
 pub chance_point : (c : Scales) (w : Span) (p z : ℕ) → IsPoint w → IsPoint ((exact c).chance w p z)
@@ -107,14 +107,11 @@ module _ (m : Model) (is : IsModel m) (h : ℕ) (some : 0 < h) (mode : true ≡ 
   started_weights : AreWeights true m 0 (λ s. (exact m.scales).start (start_at m s))
   unfolding exact
   started_weights = record {
-    from = λ s p. from_pos (start_at m s);
+    from = λ s p. zle_pos (start_at m s);
     order = λ s p. zle_of _ _ refl;
     points = λ e s p. refl;
     limit = let e = start_total m is in let f = scale_of_first m in omega arith;
   }
-    where
-      from_pos : (b : ℕ) → pos 0 ≤ℤ pos b
-      from_pos b = omega (arith, ints)
 
   -- next weights are from 0 and in order
   next_ordered : (t : ℕ) (ws : ℕ → Span) (a o u : ℕ) → AreWeights true m t ws → IsOrdered (weights_after_in (exact m.scales) m ws a o u)

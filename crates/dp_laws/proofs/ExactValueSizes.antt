@@ -4,12 +4,10 @@ use Rattle.std.proofs.Math.Nat.{pow-suc, mul-le-mul_left, mul-le-mul_right, mul-
 use Rattle.dp_spec.specs.declared.span.Span.{Span}
 use Rattle.dp_laws.proofs.ExactSizes.{carry_size, gained_total, pushed_total, reward_total, tail_size}
 use Rattle.dp_laws.proofs.ModeCondition.{reward_most}
-use Rattle.dp_laws.proofs.NaturalSums.{nat_sum_times}
 use Rattle.dp_laws.proofs.OneStep.{trees_after_fit, root_joint_action_below}
 use Rattle.dp_laws.proofs.OrderedSpans.{total_size}
 use Rattle.dp_laws.proofs.Scales.{step_scale_is}
-use Rattle.dp_laws.proofs.SizeSums.{abs_add, abs_min, below_in, greatest_abs, int_sum_abs, nat_sum_le, reward_size_le, table_action_le}
-use Rattle.dp_laws.proofs.Sums.{nat_sum_scale}
+use Rattle.dp_laws.proofs.SizeSums.{abs_add, abs_min, int_sum_abs, reward_size_le, table_action_le}
 use Rattle.dp_spec.specs.Arithmetic.{exact}
 use Rattle.dp_spec.specs.Calls.{size}
 use Rattle.dp_spec.specs.Model.{IsModel, Model, joint_actions, joint_observations, step_scale, trans_at}
@@ -21,6 +19,9 @@ use Rattle.dp_spec.specs.SizesOfLookAhead.{next_look_size, weighted_table_size}
 use Rattle.dp_spec.specs.SizesOfTable.{table_later_size, table_reward_size}
 use Rattle.dp_spec.specs.Sums.{int_sum, nat_sum, numbers_below}
 use Rattle.dp_spec.specs.Value.{joint_root_action, trees_after}
+use Rattle.dp_laws.proofs.Members.{below-IsIn}
+use Rattle.dp_laws.proofs.GreatestValues.{greatest_abs}
+use Rattle.dp_spec.proofs.NaturalSumLaws.{nat_sum_le, nat_sum_scale, nat_sum_times}
 
 -- a reward now and r rewards after it
 one_more : (M K r most p q : ℕ) → q ≡ p * K → M * (most * q) + M * K * (r * most * p) ≡ M * (suc r * most * q)
@@ -96,7 +97,7 @@ module _ (m : Model) (is : IsModel m) where
   table_most zero s ps = omega arith
   table_most (suc r) s ps =
       greatest_abs _ (value_most m (suc r)) (numbers_below (joint_actions m))
-      (λ a h. let pa = below_in (joint_actions m) a h in let parts = table_action_le (exact m.scales) m r a s in let most = table_parts_most r a s pa ps (λ t pt. table_most r t pt) in omega arith)
+      (λ a h. let pa = below-IsIn (joint_actions m) a h in let parts = table_action_le (exact m.scales) m r a s in let most = table_parts_most r a s pa ps (λ t pt. table_most r t pt) in omega arith)
 
   -- ---- look-ahead
   -- all weights against the table
@@ -143,7 +144,7 @@ module _ (m : Model) (is : IsModel m) where
   look_most (suc r) (suc k) ws =
       abs_min _ (weighted_table_in (exact m.scales) m (suc r) ws) (total_size m ws * value_most m (suc r))
       (greatest_abs _ (total_size m ws * value_most m (suc r)) (numbers_below (joint_actions m))
-      (λ a h. let pa = below_in (joint_actions m) a h in let parts = look_parts r k ws a in let most = looks_from r k ws a pa (λ vs. look_most r k vs) in omega arith))
+      (λ a h. let pa = below-IsIn (joint_actions m) a h in let parts = look_parts r k ws a in let most = looks_from r k ws a pa (λ vs. look_most r k vs) in omega arith))
       (weighted_table_abs (suc r) ws)
 
   -- the reward now and the look-aheads after it

@@ -5,10 +5,9 @@ use Rattle.std.proofs.Math.IntN.{zero-*ℤ}
 use Rattle.dp_laws.proofs.Order.{add_le_right}
 use Rattle.dp_laws.proofs.Ring.{zle_trans, zle_of}
 use Rattle.dp_laws.proofs.Sums.{int_sum_ext, int_sum_le, int_sum_zero, int_sum_one, int_sum_weigh}
-use Rattle.dp_laws.proofs.Best.{best_in, IsIn-below, IsIn-filter}
 use Rattle.dp_laws.proofs.OneStep.{value_le_action_look_ahead, root_joint_action_below}
-use Rattle.dp_laws.proofs.ForwardValue.{int_history_sum_ext, int_history_sum_swap, forward_is_backward}
-use Rattle.dp_laws.proofs.OwnHistories.{joint_below, parts-joint, parts_below, own_histories_within, followed_from_start}
+use Rattle.dp_laws.proofs.ForwardValue.{forward_is_backward}
+use Rattle.dp_laws.proofs.OwnHistories.{own_histories_within, followed_from_start}
 use Rattle.dp_laws.proofs.FollowedFronts.{trees_of, trees_after_history_are, trees_at_stage, classes_below, class_trees_fit, class_trees_agree, class_actions_below}
 use Rattle.dp_laws.proofs.Keeping.{keeps_of_follows}
 use Rattle.dp_laws.proofs.KeptActions.{kept_joint_action}
@@ -22,26 +21,17 @@ use Rattle.dp_spec.specs.Model.{IsModel, Model, joint_actions, joint_observation
 use Rattle.dp_spec.specs.PolicyTree.{PolicyTree, root_action}
 use Rattle.dp_spec.specs.Sums.{greatest, int_sum, nat_sum, numbers_below}
 use Rattle.dp_spec.specs.Value.{backward_value, joint_root_action, policy_value}
-
--- weights against one number
-pub int_history_sum_weigh : (n t : ℕ) (g : List ℕ → ℕ) (x : ℤ) → int_history_sum n t (λ H. pos (g H) *ℤ x) ≡ pos (nat_history_sum n t g) *ℤ x
-int_history_sum_weigh n zero g x = refl
-int_history_sum_weigh n (suc t) g x = int_history_sum_ext n t _ _ (λ H p. int_sum_weigh n (λ o. g (o ∷ H)) x) ∙ int_history_sum_weigh n t (λ H. nat_sum n (λ o. g (o ∷ H))) x
-
--- a sum over histories, by classes
-pub int_history_sum_group : (n t k : ℕ) (v : List ℕ → ℤ) (c : List ℕ → ℕ) → ((H : List ℕ) → IsJointHistory n t H → c H < k) →
-    int_history_sum n t v ≡ int_sum k (λ C. int_history_sum n t (λ H. cond (eqb (c H) C) (v H) (pos 0)))
-int_history_sum_group n t k v c h = int_history_sum_ext n t _ _ (λ H p. sym (int_sum_one k (c H) (v H) (h H p))) ∙ int_history_sum_swap n t k (λ H C. cond (eqb (c H) C) (v H) (pos 0))
+use Rattle.dp_spec.proofs.JointNumberLaws.{joint_number_below, parts_below, parts_of-joint_number}
+use Rattle.dp_laws.proofs.GreatestValues.{le_greatest}
+use Rattle.dp_laws.proofs.Members.{IsIn-below, IsIn-filter}
+use Rattle.dp_laws.proofs.HistorySums.{int_history_sum_ext, int_history_sum_group, int_history_sum_swap, int_history_sum_weigh}
+use Rattle.std.proofs.lemmas.Bool.{eqb-true}
 
 -- weights against a value, where the test holds
 pub value_where : (t : Bool) (n : ℕ) (w : ℕ → ℕ) (N : List PolicyTree → ℕ → ℤ) (q q' : List PolicyTree) → (t ≡ true → q ≡ q') →
     cond t (int_sum n (λ s. pos (w s) *ℤ N q s)) (pos 0) ≡ int_sum n (λ s. pos (cond t (w s) 0) *ℤ N q' s)
 value_where true n w N q q' h = ap (λ x. int_sum n (λ s. pos (w s) *ℤ N x s)) (h refl)
 value_where false n w N q q' h = sym (int_sum_ext n _ (λ s. pos 0) (λ s p. zero-*ℤ (N q' s)) ∙ int_sum_zero n)
-
--- what a test of equality says
-pub equal_of_test : (a b : ℕ) → eqb a b ≡ true → a ≡ b
-equal_of_test a b e = grind (arith, nat_tests)
 
 -- the joint action that is done is the fixed one
 pub follows_fixed : (m : Model) (F : Front) (r : ℕ) (qs : List PolicyTree) (uss : List (ℕ → PolicyTree)) → FollowsAgentFronts F.stage r m.actions m.observations F.agents qs uss →
@@ -55,13 +45,13 @@ unfolding joint_class joint_observations
 trees_by_class m F r qs uss ks H h =
     let w = own_histories_within m.observations F.stage H h in
     trees_after_history_are m qs (followed_from_start ks) F.stage H h ∙ trees_at_stage ks (own_histories m.observations H) w
-    ∙ ap (trees_of uss) (sym (parts-joint (class_counts F.agents) (own_classes F.agents (own_histories m.observations H)) (classes_below ks (own_histories m.observations H) w)))
+    ∙ ap (trees_of uss) (sym (parts_of-joint_number (class_counts F.agents) (own_classes F.agents (own_histories m.observations H)) (classes_below ks (own_histories m.observations H) w)))
 
 -- joint classes are below the product of the counts
 joint_class_below : (m : Model) (F : Front) (r : ℕ) (qs : List PolicyTree) (uss : List (ℕ → PolicyTree)) → FollowsAgentFronts F.stage r m.actions m.observations F.agents qs uss →
     (H : List ℕ) → IsJointHistory (joint_observations m) F.stage H → joint_class m F H < product (class_counts F.agents)
 unfolding joint_class joint_observations
-joint_class_below m F r qs uss ks H h = joint_below _ _ (classes_below ks (own_histories m.observations H) (own_histories_within m.observations F.stage H h))
+joint_class_below m F r qs uss ks H h = joint_number_below _ _ (classes_below ks (own_histories m.observations H) (own_histories_within m.observations F.stage H h))
 
 -- the value after a front, by joint classes
 pub value_by_joint_class : (m : Model) (F : Front) (r : ℕ) (qs : List PolicyTree) (uss : List (ℕ → PolicyTree)) → FollowsAgentFronts F.stage r m.actions m.observations F.agents qs uss →
@@ -75,7 +65,7 @@ value_by_joint_class m F r qs uss ks =
     let qC = trees_of uss (parts_of (class_counts F.agents) C) in
     int_history_sum_ext O F.stage _ (λ H. int_sum m.states (λ s. pos (cond (eqb (joint_class m F H) C) (history_weight m (fixed_joint_action m F) H s) 0) *ℤ backward_value m r s qC))
     (λ H h. value_where (eqb (joint_class m F H) C) m.states (history_weight m (fixed_joint_action m F) H) (λ q s. backward_value m r s q) (trees_after_history m qs H) qC
-    (λ e. trees_by_class m F r qs uss ks H h ∙ ap (λ (c : ℕ). trees_of uss (parts_of (class_counts F.agents) c)) (equal_of_test _ _ e)))
+    (λ e. trees_by_class m F r qs uss ks H h ∙ ap (λ (c : ℕ). trees_of uss (parts_of (class_counts F.agents) c)) (eqb-true _ _ e)))
     ∙ int_history_sum_swap O F.stage m.states _
     ∙ int_sum_ext m.states _ _ (λ s q. int_history_sum_weigh O F.stage (λ H. cond (eqb (joint_class m F H) C) (history_weight m (fixed_joint_action m F) H s) 0) (backward_value m r s qC)))
 
@@ -86,8 +76,8 @@ unfolding agreeing_actions joint_root_action
 chosen_action_le_greatest m F r qs uss ks C p f =
     let cs = parts_of (class_counts F.agents) C in
     let inside = parts_below (class_counts F.agents) C p in
-    let e = parts-joint m.actions (map root_action (trees_of uss cs)) (class_actions_below ks cs inside) in
-    best_in f _ (agreeing_actions m F C)
+    let e = parts_of-joint_number m.actions (map root_action (trees_of uss cs)) (class_actions_below ks cs inside) in
+    le_greatest f _ (agreeing_actions m F C)
     (IsIn-filter _ _ (numbers_below (joint_actions m)) (IsIn-below (joint_actions m) _ (root_joint_action_below m r (trees_of uss cs) (class_trees_fit ks cs inside)))
     (rw e (class_trees_agree ks cs inside)))
 

@@ -9,21 +9,7 @@ use Rattle.dp_spec.specs.Model.{Model, joint_observations}
 use Rattle.dp_spec.specs.PolicyTree.{PolicyTree}
 use Rattle.dp_spec.specs.Sums.{int_sum}
 use Rattle.dp_spec.specs.Value.{backward_value, joint_root_action, policy_value, trees_after}
-
--- equal numbers
-pub int_history_sum_ext : (n t : ℕ) (f g : List ℕ → ℤ) → ((H : List ℕ) → IsJointHistory n t H → f H ≡ g H) → int_history_sum n t f ≡ int_history_sum n t g
-int_history_sum_ext n zero f g h = h [] tt
-int_history_sum_ext n (suc t) f g h = int_history_sum_ext n t _ _ (λ H p. int_sum_ext n _ _ (λ o q. h (o ∷ H) (q, p)))
-
--- sums of two
-pub int_history_sum_add : (n t : ℕ) (f g : List ℕ → ℤ) → int_history_sum n t (λ H. f H +ℤ g H) ≡ int_history_sum n t f +ℤ int_history_sum n t g
-int_history_sum_add n zero f g = refl
-int_history_sum_add n (suc t) f g = int_history_sum_ext n t _ _ (λ H p. int_sum_add n (λ o. f (o ∷ H)) (λ o. g (o ∷ H))) ∙ int_history_sum_add n t _ _
-
--- a sum of sums in the other order
-pub int_history_sum_swap : (n t k : ℕ) (f : List ℕ → ℕ → ℤ) → int_history_sum n t (λ H. int_sum k (λ c. f H c)) ≡ int_sum k (λ c. int_history_sum n t (λ H. f H c))
-int_history_sum_swap n zero k f = refl
-int_history_sum_swap n (suc t) k f = int_history_sum_ext n t _ _ (λ H p. int_sum_swap n k (λ o c. f (o ∷ H) c)) ∙ int_history_sum_swap n t k _
+use Rattle.dp_laws.proofs.HistorySums.{int_history_sum_add, int_history_sum_ext}
 
 -- forward is backward: what is earned before time f, and the weights against what remains
 pub forward_is_backward : (m : Model) (act : List ℕ → ℕ) (qs : List PolicyTree) (h f r : ℕ) → f + r ≡ h →

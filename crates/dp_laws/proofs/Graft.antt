@@ -2,10 +2,11 @@
 use Rattle.std.proofs.Common.{◌≡◌, ℕ, zero, suc, ◌+◌, ◌*◌, ◌/◌, ◌%◌, ◌^◌, ◌<◌, refl, sym, ap, ◌∙◌, subst, arith}
 use Rattle.std.proofs.Math.Nat.{pow-suc, pow-zero}
 use Rattle.std.proofs.lemmas.Nat.{mod_below}
-use Rattle.dp_laws.proofs.Trees.{subtree_fits, part_below, positive_factor, root_action_below, row_below}
+use Rattle.dp_laws.proofs.Trees.{subtree_fits, root_action_below}
 use Rattle.dp_spec.specs.FullPolicy.{trees_from}
 use Rattle.dp_spec.specs.Keeping.{tree_at}
 use Rattle.dp_spec.specs.PolicyTree.{ArePolicyTrees, IsPolicyTree, PolicyTree, node, nth_tree, root_action, subtree}
+use Rattle.dp_spec.proofs.JointNumberLaws.{part_below, positive_right, row_below}
 
 -- the tree at place o
 pub nth_tree-trees_from : (c : ℕ) (g : ℕ → PolicyTree) (o : ℕ) → o < c → nth_tree (trees_from c g) o ≡ g o
@@ -34,7 +35,7 @@ tree_at-graft n q new (suc t) j k x y e h =
     let h' : y < n ^ t * n = rw pow-suc at h in
     let h2 : y < n * n ^ t = omega arith in
     ap (λ z. subtree z (y % n)) (tree_at-graft n q new t (suc j) k x (y / n) (omega arith) (part_below (n ^ t) n y h'))
-    ∙ nth_tree-trees_from n _ (y % n) (mod_below y n (positive_factor (n ^ t) n y h'))
+    ∙ nth_tree-trees_from n _ (y % n) (mod_below y n (positive_right (n ^ t) n y h'))
     ∙ ap (λ (z : ℕ). graft n j z (subtree (tree_at n q t (y / n)) (y % n)) new) (next_number n t y x)
 
 -- they are trees of r steps where each is

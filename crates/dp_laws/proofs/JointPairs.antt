@@ -2,14 +2,12 @@
 use Rattle.std.proofs.Common.{◌≡◌, ℕ, ◌+◌, ◌*◌, ◌/◌, ◌%◌, ◌<◌, ℤ, pos, ◌+ℤ◌, List, [], ◌∷◌, length, refl, sym, ap, ◌∙◌, arith}
 use Rattle.std.proofs.lemmas.Int.{ints}
 use Rattle.std.proofs.lemmas.Nat.{div-mul-add, mod-mul-add}
-use Rattle.dp_laws.proofs.JointParts.{joint-parts}
 use Rattle.dp_laws.proofs.KeptSteps.{same_parts}
-use Rattle.dp_laws.proofs.OwnHistories.{Below, parts-joint, parts_below}
 use Rattle.dp_laws.proofs.Sums.{int_sum_ext, int_sum_prod, int_sum_swap}
-use Rattle.dp_laws.proofs.Trees.{row_below}
 use Rattle.dp_spec.specs.Front.{next_own_histories}
 use Rattle.dp_spec.specs.JointNumbers.{joint_number, parts_of, product}
 use Rattle.dp_spec.specs.Sums.{int_sum}
+use Rattle.dp_spec.proofs.JointNumberLaws.{AreBelow, joint_number-parts_of, parts_below, parts_of-joint_number, row_below}
 
 -- as many as pairs, agent by agent
 abbrev pub pair_counts : List ℕ → List ℕ → List ℕ
@@ -21,7 +19,7 @@ pair_counts (c ∷ cs) (n ∷ ns) = c * n ∷ pair_counts cs ns
 abbrev pub pair_number : List ℕ → List ℕ → ℕ → ℕ → ℕ
 pair_number cs ns C o = joint_number (pair_counts cs ns) (next_own_histories ns (parts_of cs C) (parts_of ns o))
 
-pub next_below : (cs ns xs ps : List ℕ) → length ns ≡ length cs → Below cs xs → Below ns ps → Below (pair_counts cs ns) (next_own_histories ns xs ps)
+pub next_below : (cs ns xs ps : List ℕ) → length ns ≡ length cs → AreBelow cs xs → AreBelow ns ps → AreBelow (pair_counts cs ns) (next_own_histories ns xs ps)
 next_below [] [] xs ps e h g = tt
 next_below [] (n ∷ ns) xs ps e h g = absurd (omega arith)
 next_below (c ∷ cs) [] xs ps e h g = absurd (omega arith)
@@ -29,11 +27,11 @@ next_below (c ∷ cs) (n ∷ ns) [] ps e h g = absurd h
 next_below (c ∷ cs) (n ∷ ns) (x ∷ xs) [] e h g = absurd g
 next_below (c ∷ cs) (n ∷ ns) (x ∷ xs) (p ∷ ps) e h g = (row_below x c n p h.0 g.0, next_below cs ns xs ps (omega arith) h.1 g.1)
 
-nothing : (xs : List ℕ) → Below [] xs → xs ≡ []
+nothing : (xs : List ℕ) → AreBelow [] xs → xs ≡ []
 nothing [] h = refl
 nothing (x ∷ xs) h = absurd h
 
-next_injective : (cs ns xs ps ys qs : List ℕ) → length ns ≡ length cs → Below cs xs → Below ns ps → Below cs ys → Below ns qs → next_own_histories ns xs ps ≡ next_own_histories ns ys qs → (xs ≡ ys) × (ps ≡ qs)
+next_injective : (cs ns xs ps ys qs : List ℕ) → length ns ≡ length cs → AreBelow cs xs → AreBelow ns ps → AreBelow cs ys → AreBelow ns qs → next_own_histories ns xs ps ≡ next_own_histories ns ys qs → (xs ≡ ys) × (ps ≡ qs)
 next_injective [] [] xs ps ys qs e hx hp hy hq same = (nothing xs hx ∙ sym (nothing ys hy), nothing ps hp ∙ sym (nothing qs hq))
 next_injective [] (n ∷ ns) xs ps ys qs e hx hp hy hq same = absurd (omega arith)
 next_injective (c ∷ cs) [] xs ps ys qs e hx hp hy hq same = absurd (omega arith)
@@ -55,9 +53,9 @@ pair_injective cs ns C o D u e hC ho hD hu same =
     let D_in = parts_below cs D hD in
     let u_in = parts_below ns u hu in
     let parts = next_injective cs ns (parts_of cs C) (parts_of ns o) (parts_of cs D) (parts_of ns u) e C_in o_in D_in u_in
-    (sym (parts-joint _ _ (next_below cs ns _ _ e C_in o_in)) ∙ ap (parts_of (pair_counts cs ns)) same ∙ parts-joint _ _ (next_below cs ns _ _ e D_in u_in)) in (
-      sym (joint-parts cs C hC) ∙ ap (joint_number cs) parts.0 ∙ joint-parts cs D hD,
-      sym (joint-parts ns o ho) ∙ ap (joint_number ns) parts.1 ∙ joint-parts ns u hu,
+    (sym (parts_of-joint_number _ _ (next_below cs ns _ _ e C_in o_in)) ∙ ap (parts_of (pair_counts cs ns)) same ∙ parts_of-joint_number _ _ (next_below cs ns _ _ e D_in u_in)) in (
+      sym (joint_number-parts_of cs C hC) ∙ ap (joint_number cs) parts.0 ∙ joint_number-parts_of cs D hD,
+      sym (joint_number-parts_of ns o ho) ∙ ap (joint_number ns) parts.1 ∙ joint_number-parts_of ns u hu,
     )
 
 one_place : (f : ℕ → ℤ) → pos 0 +ℤ f 0 ≡ pos 0 +ℤ (pos 0 +ℤ f 0)

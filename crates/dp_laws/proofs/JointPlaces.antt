@@ -1,12 +1,11 @@
 -- joint numbers by the part at one place and the joint number of the others
 use Rattle.std.proofs.Common.{◌≡◌, ℕ, zero, suc, ◌+◌, ◌*◌, ◌/◌, ◌%◌, ◌<◌, ◌≤◌, ℤ, List, [], ◌∷◌, length, get_or, refl, sym, ap, ◌∙◌, arith}
 use Rattle.std.proofs.lemmas.Nat.{div-mul-add, mod-mul-add}
-use Rattle.dp_laws.proofs.JointParts.{joint-parts}
-use Rattle.dp_laws.proofs.OwnHistories.{Below, parts-joint, parts_below}
 use Rattle.dp_laws.proofs.Sums.{int_sum_ext, int_sum_prod, int_sum_swap}
 use Rattle.dp_spec.specs.JointNumbers.{joint_number, parts_of, product}
 use Rattle.dp_spec.specs.Merge.{inserted, without}
 use Rattle.dp_spec.specs.Sums.{int_sum}
+use Rattle.dp_spec.proofs.JointNumberLaws.{AreBelow, joint_number-parts_of, length-below, parts_below, parts_of-joint_number}
 
 -- the joint number whose part at place i is c and whose others have joint number x
 abbrev pub placed_number : ℕ → List ℕ → ℕ → ℕ → ℕ
@@ -28,30 +27,18 @@ inserted-without i [] h = absurd (omega arith)
 inserted-without zero (x ∷ xs) h = refl
 inserted-without (suc i) (x ∷ xs) h = ap (λ z. x ∷ z) (inserted-without i xs (omega arith))
 
-pub below_inserted : (i : ℕ) (ns : List ℕ) (c : ℕ) (ps : List ℕ) → i < length ns → c < get_or ns i 0 → Below (without i ns) ps → Below ns (inserted i c ps)
+pub below_inserted : (i : ℕ) (ns : List ℕ) (c : ℕ) (ps : List ℕ) → i < length ns → c < get_or ns i 0 → AreBelow (without i ns) ps → AreBelow ns (inserted i c ps)
 below_inserted i [] c ps p q h = absurd (omega arith)
 below_inserted zero (n ∷ ns) c ps p q h = (q, h)
 below_inserted (suc i) (n ∷ ns) c [] p q h = absurd h
 below_inserted (suc i) (n ∷ ns) c (x ∷ ps) p q h = (h.0, below_inserted i ns c ps (omega arith) q h.1)
 
-pub below_others : (i : ℕ) (ns xs : List ℕ) → Below ns xs → Below (without i ns) (without i xs)
+pub below_others : (i : ℕ) (ns xs : List ℕ) → AreBelow ns xs → AreBelow (without i ns) (without i xs)
 below_others i [] [] h = tt
 below_others i [] (x ∷ xs) h = absurd h
 below_others i (n ∷ ns) [] h = absurd h
 below_others zero (n ∷ ns) (x ∷ xs) h = h.1
 below_others (suc i) (n ∷ ns) (x ∷ xs) h = (h.0, below_others i ns xs h.1)
-
-pub below_place : (i : ℕ) (ns xs : List ℕ) → i < length ns → Below ns xs → get_or xs i 0 < get_or ns i 0
-below_place i [] xs p h = absurd (omega arith)
-below_place i (n ∷ ns) [] p h = absurd h
-below_place zero (n ∷ ns) (x ∷ xs) p h = h.0
-below_place (suc i) (n ∷ ns) (x ∷ xs) p h = below_place i ns xs (omega arith) h.1
-
-pub as_long : (ns xs : List ℕ) → Below ns xs → length xs ≡ length ns
-as_long [] [] h = refl
-as_long [] (x ∷ xs) h = absurd h
-as_long (n ∷ ns) [] h = absurd h
-as_long (n ∷ ns) (x ∷ xs) h = ap suc (as_long ns xs h.1)
 
 others_long : (i : ℕ) (ns : List ℕ) → i < length ns → i ≤ length (without i ns)
 others_long i [] h = absurd (omega arith)
@@ -60,10 +47,10 @@ others_long (suc i) (n ∷ ns) h = let e = others_long i ns (omega arith) in ome
 
 -- ---- joint numbers
 parts_long : (i : ℕ) (ns : List ℕ) (x : ℕ) → i < length ns → x < product (without i ns) → i ≤ length (parts_of (without i ns) x)
-parts_long i ns x p h = let e = as_long (without i ns) (parts_of (without i ns) x) (parts_below (without i ns) x h) in let l = others_long i ns p in omega arith
+parts_long i ns x p h = let e = length-below (without i ns) (parts_of (without i ns) x) (parts_below (without i ns) x h) in let l = others_long i ns p in omega arith
 
 pub parts-placed : (i : ℕ) (ns : List ℕ) (c x : ℕ) → i < length ns → c < get_or ns i 0 → x < product (without i ns) → parts_of ns (placed_number i ns c x) ≡ inserted i c (parts_of (without i ns) x)
-parts-placed i ns c x p q h = parts-joint ns _ (below_inserted i ns c _ p q (parts_below (without i ns) x h))
+parts-placed i ns c x p q h = parts_of-joint_number ns _ (below_inserted i ns c _ p q (parts_below (without i ns) x h))
 
 -- different places have different numbers
 pub placed_injective : (i : ℕ) (ns : List ℕ) (c x d y : ℕ) → i < length ns → c < get_or ns i 0 → x < product (without i ns) → d < get_or ns i 0 → y < product (without i ns) → placed_number i ns c x ≡ placed_number i ns d y → (c ≡ d) × (x ≡ y)
@@ -72,17 +59,17 @@ placed_injective i ns c x d y p hc hx hd hy e =
     let long_x = parts_long i ns x p hx in
     let long_y = parts_long i ns y p hy in (
       sym (get_or-inserted i c _ long_x) ∙ ap (λ z. get_or z i 0) lists ∙ get_or-inserted i d _ long_y,
-      sym (joint-parts (without i ns) x hx) ∙ ap (joint_number (without i ns)) (sym (without-inserted i c _ long_x) ∙ ap (without i) lists ∙ without-inserted i d _ long_y) ∙ joint-parts (without i ns) y hy,
+      sym (joint_number-parts_of (without i ns) x hx) ∙ ap (joint_number (without i ns)) (sym (without-inserted i c _ long_x) ∙ ap (without i) lists ∙ without-inserted i d _ long_y) ∙ joint_number-parts_of (without i ns) y hy,
     )
 
 -- a joint number of parts, by place
-pub joint_is_placed : (i : ℕ) (ns xs : List ℕ) → i < length ns → Below ns xs → joint_number ns xs ≡ placed_number i ns (get_or xs i 0) (joint_number (without i ns) (without i xs))
+pub joint_is_placed : (i : ℕ) (ns xs : List ℕ) → i < length ns → AreBelow ns xs → joint_number ns xs ≡ placed_number i ns (get_or xs i 0) (joint_number (without i ns) (without i xs))
 joint_is_placed i ns xs p h =
-    let long = as_long ns xs h in
-    ap (joint_number ns) (sym (inserted-without i xs (omega arith)) ∙ ap (inserted i (get_or xs i 0)) (sym (parts-joint (without i ns) (without i xs) (below_others i ns xs h))))
+    let long = length-below ns xs h in
+    ap (joint_number ns) (sym (inserted-without i xs (omega arith)) ∙ ap (inserted i (get_or xs i 0)) (sym (parts_of-joint_number (without i ns) (without i xs) (below_others i ns xs h))))
 
 place_first : (n : ℕ) (ns : List ℕ) (c x : ℕ) → x < product ns → c * product ns + x ≡ placed_number zero (n ∷ ns) c x
-place_first n ns c x h = ap (λ (z : ℕ). c * product ns + z) (sym (joint-parts ns x h))
+place_first n ns c x h = ap (λ (z : ℕ). c * product ns + z) (sym (joint_number-parts_of ns x h))
 
 place_later : (i n : ℕ) (ns : List ℕ) (y c x : ℕ) → x < product (without i ns) → y * product ns + placed_number i ns c x ≡ placed_number (suc i) (n ∷ ns) c (y * product (without i ns) + x)
 place_later i n ns y c x h =

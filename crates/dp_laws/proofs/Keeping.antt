@@ -4,8 +4,7 @@ use Rattle.std.proofs.lemmas.Bool.Decides.{nat_tests}
 use Rattle.std.proofs.lemmas.Nat.{mod_below}
 use Rattle.std.proofs.Math.Nat.{pow-suc}
 use Rattle.dp_laws.proofs.Order.{last_or_before}
-use Rattle.dp_laws.proofs.Sums.{dec_eq}
-use Rattle.dp_laws.proofs.Trees.{subtree_fits, part_below, positive_factor}
+use Rattle.dp_laws.proofs.Trees.{subtree_fits}
 use Rattle.dp_laws.specs.Following.{FollowsAgentFront, FollowsAgentFronts}
 use Rattle.dp_laws.specs.Following.FollowsAgentFronts.{and_agent as and_follows, no_agents as none_follow}
 use Rattle.dp_spec.specs.Front.{AgentFront, Front}
@@ -16,13 +15,15 @@ use Rattle.dp_spec.specs.PolicyTree.{IsJointPolicy, IsPolicyOf, IsPolicyTree, Po
 use Rattle.dp_spec.specs.PolicyTree.IsJointPolicy.{and_agent as and_policy, no_agents as no_policies}
 use Rattle.dp_spec.specs.WellFormed.{AreAgentFronts, IsAgentFront, IsFront}
 use Rattle.dp_spec.specs.WellFormed.AreAgentFronts.{and_agent as and_front, no_agents as no_fronts}
+use Rattle.dp_spec.proofs.JointNumberLaws.{part_below, positive_right}
+use Rattle.std.proofs.lemmas.Bool.{cases_eq}
 
 -- what remains of a tree of k steps after an own history of length t is a tree of the other r steps
 pub tree_at_fits : (b n : ℕ) (q : PolicyTree) (t r k x : ℕ) → t + r ≡ k → x < n ^ t → IsPolicyTree b n k q → IsPolicyTree b n r (tree_at n q t x)
 tree_at_fits b n q zero r k x e h is = let e' : k ≡ r = omega arith in subst (λ (z : ℕ). IsPolicyTree b n z q) e' is
 tree_at_fits b n q (suc t) r k x e h is =
     let h' : x < n ^ t * n = rw pow-suc at h in
-    subtree_fits b n r (tree_at n q t (x / n)) (x % n) (mod_below x n (positive_factor (n ^ t) n x h')) (tree_at_fits b n q t (suc r) k (x / n) (omega arith) (part_below (n ^ t) n x h') is)
+    subtree_fits b n r (tree_at n q t (x / n)) (x % n) (mod_below x n (positive_right (n ^ t) n x h')) (tree_at_fits b n q t (suc r) k (x / n) (omega arith) (part_below (n ^ t) n x h') is)
 
 -- the last number below k that is of class c
 abbrev last_member : (ℕ → ℕ) → ℕ → ℕ → ℕ
@@ -33,7 +34,7 @@ last_member class c (suc k) = cond (eqb (class k) c) k (last_member class c k)
 last_member_is : (class : ℕ → ℕ) (c k x : ℕ) → x < k → class x ≡ c → (last_member class c k < k) × (class (last_member class c k) ≡ c)
 last_member_is class c zero x h e = absurd (omega arith)
 last_member_is class c (suc k) x h e =
-    elim (dec_eq (class k) c) [
+    elim (cases_eq (class k) c) [
       | inl same ↦ let t : eqb (class k) c ≡ true = grind (arith, nat_tests) in rw t (omega arith, same)
       | inr other ↦ let t : eqb (class k) c ≡ false = grind (arith, nat_tests) in
           elim (last_or_before x k h) [

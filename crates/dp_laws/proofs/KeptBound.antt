@@ -2,8 +2,8 @@
 use Rattle.std.proofs.Common.{◌≡◌, ℕ, zero, suc, ◌+◌, ℤ, pos, ◌+ℤ◌, ◌≤ℤ◌, List, refl, ◌∙◌, subst, arith}
 use Rattle.std.proofs.lemmas.Int.{ints}
 use Rattle.dp_laws.proofs.OneStep.{weighted_zeros}
-use Rattle.dp_laws.proofs.ForwardValue.{int_history_sum_ext, forward_is_backward}
-use Rattle.dp_laws.proofs.HistorySums.{int_history_sum_zero}
+use Rattle.dp_laws.proofs.ForwardValue.{forward_is_backward}
+use Rattle.dp_laws.proofs.HistorySums.{int_history_sum_ext, int_history_sum_zero}
 use Rattle.dp_laws.proofs.Keeping.{follows_of_keeps}
 use Rattle.dp_laws.proofs.Ring.{zle_trans, zle_of}
 use Rattle.dp_laws.proofs.FollowedBound.{following_policy_le_bound, follows_fixed}

@@ -6,12 +6,10 @@ use Rattle.std.proofs.lemmas.List.{get_or-set_other, get_or-set_same, get_or_app
 use Rattle.std.proofs.lemmas.List.FromFn.{get_or-map-range_with_len}
 use Rattle.std.proofs.lemmas.Nat.{div-mul-add, mod-mul-add, mod_below}
 use Rattle.std.proofs.Math.Nat.{pow-suc}
-use Rattle.dp_laws.proofs.CompleteFronts.{parts_of_true}
 use Rattle.dp_laws.proofs.Keeping.{tree_at_fits}
 use Rattle.dp_laws.proofs.CompleteFronts.{new_class, some_at}
-use Rattle.dp_laws.proofs.Sums.{dec_eq}
-use Rattle.dp_laws.proofs.Trees.{part_below, positive_factor, root_action_below}
-use Rattle.dp_laws.proofs.WellFormedSteps.{before_or_at, chosen_is_front, no_choice}
+use Rattle.dp_laws.proofs.Trees.{root_action_below}
+use Rattle.dp_laws.proofs.WellFormedSteps.{chosen_is_front, no_choice}
 use Rattle.dp_spec.specs.Front.{AgentFront, Front}
 use Rattle.dp_spec.specs.Keeping.{KeepAgentFronts, KeepsAgentFront, KeepsFront, tree_at}
 use Rattle.dp_spec.specs.Keeping.KeepAgentFronts.{and_agent as and_keeps, no_agents as none_keep}
@@ -21,6 +19,9 @@ use Rattle.dp_spec.specs.PolicyTree.IsJointPolicy.{and_agent as and_policy, no_a
 use Rattle.dp_spec.specs.Steps.{IsUnassigned, advanced_agent, advanced_agents, advanced_front, advanced_if, all_chosen, chosen_front, front_after_choice, is_complete, with_choice}
 use Rattle.dp_spec.specs.WellFormed.{AreAgentFronts, IsAgentFront, IsFront}
 use Rattle.dp_spec.specs.WellFormed.AreAgentFronts.{and_agent as and_front, no_agents as no_fronts}
+use Rattle.dp_spec.proofs.JointNumberLaws.{part_below, positive_right}
+use Rattle.std.proofs.lemmas.Bool.{and_parts, cases_eq}
+use Rattle.dp_laws.proofs.Order.{last_or_before}
 
 -- ---- choosing
 -- a tree that does action a after one history of class c keeps the choice of a for that class
@@ -29,7 +30,7 @@ keeps_choice : (n f : ℕ) (d : AgentFront) (q : PolicyTree) (c a x : ℕ) → K
 keeps_choice n f d q c a x k p u is does = record {
   does_fixed = k.does_fixed;
   alike = k.alike;
-  does_chosen = λ y e v s. elim (dec_eq c (get_or d.class_of y 0)) [
+  does_chosen = λ y e v s. elim (cases_eq c (get_or d.class_of y 0)) [
     | inl same ↦
         let g : get_or (set d.chosen c (Some a)) c None ≡ Some a = get_or-set_same d.chosen c (Some a) None p in
         let s' : get_or (set d.chosen c (Some a)) c None ≡ Some e = subst (λ (z : ℕ). get_or (set d.chosen c (Some a)) z None ≡ Some e) (sym same) s in
@@ -70,9 +71,9 @@ keeps_next b n f d q front k all =
     let act : ℕ → ℕ = λ x. unwrap_or (get_or d.chosen (get_or d.class_of x 0) None) 0 in
     let acts = map act (range_with_len 0 (n ^ f)) in
     record {
-      does_fixed = λ t x p u. elim (before_or_at t f p) [
-        | inl lt ↦ k.does_fixed t x lt u ∙ ap (λ z. get_or z x 0) (sym (get_or_append_left d.fixed (acts ∷ []) [] t (omega (arith, front.of_stage))))
-        | inr e ↦
+      does_fixed = λ t x p u. elim (last_or_before t f p) [
+        | inr lt ↦ k.does_fixed t x lt u ∙ ap (λ z. get_or z x 0) (sym (get_or_append_left d.fixed (acts ∷ []) [] t (omega (arith, front.of_stage))))
+        | inl e ↦
             let u' : x < n ^ f = subst (λ (z : ℕ). x < n ^ z) e u in
             let some = some_at d.chosen (get_or d.class_of x 0) all (front.class_below x u') in
             ap (λ (z : ℕ). root_action (tree_at n q z x)) e ∙ k.does_chosen x some.0 u' some.1
@@ -83,7 +84,7 @@ keeps_next b n f d q front k all =
       alike = λ x y u v e.
           let u' : x < n ^ f * n = rw pow-suc at u in
           let v' : y < n ^ f * n = rw pow-suc at v in
-          let parts = same_parts n _ _ _ _ (mod_below x n (positive_factor (n ^ f) n x u')) (mod_below y n (positive_factor (n ^ f) n y v')) (sym (new_class n f x d.class_of u) ∙ e ∙ new_class n f y d.class_of v) in
+          let parts = same_parts n _ _ _ _ (mod_below x n (positive_right (n ^ f) n x u')) (mod_below y n (positive_right (n ^ f) n y v')) (sym (new_class n f x d.class_of u) ∙ e ∙ new_class n f y d.class_of v) in
           ap (λ z. subtree z (x % n)) (k.alike (x / n) (y / n) (part_below (n ^ f) n x u') (part_below (n ^ f) n y v') parts.0)
           ∙ ap (λ (z : ℕ). subtree (tree_at n q f (y / n)) z) parts.1;
       does_chosen = λ x a u s. let none = no_choice (length d.chosen * n) (get_or (map (λ x. get_or d.class_of (x / n) 0 * n + x % n) (range_with_len 0 (n ^ suc f))) x 0) in cc;
@@ -91,7 +92,7 @@ keeps_next b n f d q front k all =
 
 advance : {f : ℕ} {bs ns : List ℕ} {ds : List AgentFront} {qs : List PolicyTree} → AreAgentFronts f bs ns ds → KeepAgentFronts f ns ds qs → is_complete ds ≡ true → KeepAgentFronts (suc f) ns (advanced_agents ns f ds) qs
 advance no_fronts none_keep all = none_keep
-advance (and_front front fronts) (and_keeps k ks) all = let both = parts_of_true _ _ all in and_keeps (keeps_next _ _ _ _ _ front k both.0) (advance fronts ks both.1)
+advance (and_front front fronts) (and_keeps k ks) all = let both = and_parts _ _ all in and_keeps (keeps_next _ _ _ _ _ front k both.0) (advance fronts ks both.1)
 
 -- a policy that keeps a complete front keeps the advanced front
 pub keeps_advanced : (m : Model) (h : ℕ) (F : Front) (qs : List PolicyTree) → IsFront m h F → KeepsFront m F qs → is_complete F.agents ≡ true → KeepsFront m (advanced_front m F) qs

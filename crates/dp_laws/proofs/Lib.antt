@@ -2,7 +2,7 @@ pub mod ActingHistories
 pub mod AdvancedBound
 pub mod AdvancedFronts
 pub mod AgreeingActions
-pub mod Best
+pub mod GreatestValues
 pub mod BoundOnPath
 pub mod CertificateTexts
 pub mod ChosenBound
@@ -30,7 +30,6 @@ pub mod FullPolicies
 pub mod Graft
 pub mod HistorySums
 pub mod JointPairs
-pub mod JointParts
 pub mod JointPlaces
 pub mod Keeping
 pub mod KeptActions
@@ -47,10 +46,10 @@ pub mod MergedBound
 pub mod MergedFronts
 pub mod MergedKept
 pub mod MergedTrees
+pub mod Members
 pub mod Merging
 pub mod ModeCondition
 pub mod Modes
-pub mod NaturalSums
 pub mod OneStep
 pub mod Order
 pub mod OrderedSpans

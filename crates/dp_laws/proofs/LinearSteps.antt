@@ -2,16 +2,17 @@
 use Rattle.std.proofs.Common.{◌≡◌, ℕ, zero, suc, ◌+◌, ◌-◌, ◌*◌, ◌^◌, Bool, true, false, cond, ℤ, pos, ◌+ℤ◌, ◌*ℤ◌, ◌≤ℤ◌, List, [], ◌∷◌, refl, sym, ap, ◌∙◌, arith}
 use Rattle.std.specs.Int.{int_max}
 use Rattle.std.proofs.lemmas.Int.{ints, clamps}
-use Rattle.dp_laws.proofs.ForwardValue.{int_history_sum_ext, int_history_sum_swap}
-use Rattle.dp_laws.proofs.NaturalSums.{nat_history_sum_ext, nat_history_sum_swap, nat_history_sum_times, nat_sum_add, nat_sum_cond}
 use Rattle.dp_laws.proofs.Ring.{v, nat, ◌⊕◌, ◌⊗◌, by_ring, zadd_le, zadd_swap, zle_of, zle_trans}
-use Rattle.dp_laws.proofs.FollowedBound.{int_history_sum_weigh, value_where}
-use Rattle.dp_laws.proofs.Sums.{int_sum_add, int_sum_ext, int_sum_le, mul_two, nat_sum_ext}
+use Rattle.dp_laws.proofs.FollowedBound.{value_where}
+use Rattle.dp_laws.proofs.Sums.{int_sum_add, int_sum_ext, int_sum_le, mul_two}
 use Rattle.dp_spec.specs.JointHistory.{int_history_sum, nat_history_sum}
 use Rattle.dp_spec.specs.LookAhead.{action_look_ahead, look_ahead, weighted_reward, weights_after}
 use Rattle.dp_spec.specs.MdpTable.{mdp_table}
 use Rattle.dp_spec.specs.Model.{Model, joint_actions, joint_observations, obs_at, reward_at, step_scale, trans_at}
 use Rattle.dp_spec.specs.Sums.{greatest, int_sum, numbers_below}
+use Rattle.dp_laws.proofs.GreatestValues.{greatest_of_sums}
+use Rattle.dp_spec.proofs.NaturalSumLaws.{nat_sum_add, nat_sum_cond, nat_sum_ext}
+use Rattle.dp_laws.proofs.HistorySums.{int_history_sum_ext, int_history_sum_swap, int_history_sum_weigh, nat_history_sum_ext, nat_history_sum_swap, nat_history_sum_times}
 
 -- ---- the reward of a step by states
 abbrev pub state_reward : Model → ℕ → ℕ → ℕ → ℤ
@@ -74,15 +75,6 @@ after_together m w u a o t =
     let K = λ (s : ℕ). trans_at m a s t * obs_at m a t o * m.scales.gain in
     nat_sum_ext m.states _ _ (λ s p. times_together (w s) (u s) (K s)) ∙ nat_sum_add m.states (λ s. w s * K s) (λ s. u s * K s)
 
-max_together : (a b c d p q : ℤ) → p ≤ℤ (a +ℤ b) → q ≤ℤ (c +ℤ d) → int_max p q ≤ℤ (int_max a c +ℤ int_max b d)
-max_together a b c d p q h g = omega (arith, ints, clamps)
-
--- the greatest of sums is at most the sum of the greatest
-pub greatest_together : (f g e : ℕ → ℤ) (xs : List ℕ) → ((x : ℕ) → e x ≤ℤ (f x +ℤ g x)) → greatest e xs ≤ℤ (greatest f xs +ℤ greatest g xs)
-greatest_together f g e [] h = zle_of (pos 0) (pos 0 +ℤ pos 0) refl
-greatest_together f g e (x ∷ []) h = h x
-greatest_together f g e (x ∷ (y ∷ ys)) h = max_together (f x) (g x) (greatest f (y ∷ ys)) (greatest g (y ∷ ys)) _ _ (h x) (greatest_together f g e (y ∷ ys) h)
-
 step_together : (m : Model) (r k : ℕ) (w u : ℕ → ℕ) (a : ℕ) → ((w u : ℕ → ℕ) → look_ahead m r (λ s. w s + u s) k ≤ℤ (look_ahead m r w k +ℤ look_ahead m r u k)) →
     (weighted_reward m r (λ s. w s + u s) a +ℤ int_sum (joint_observations m) (λ o. look_ahead m r (weights_after m (λ s. w s + u s) a o) k))
     ≤ℤ ((weighted_reward m r w a +ℤ int_sum (joint_observations m) (λ o. look_ahead m r (weights_after m w a o) k)) +ℤ (weighted_reward m r u a +ℤ int_sum (joint_observations m) (λ o. look_ahead m r (weights_after m u a o) k)))
@@ -101,7 +93,7 @@ pub look_ahead_together : (m : Model) (r k : ℕ) (w u : ℕ → ℕ) → look_a
 look_ahead_together m zero k w u = zle_of (pos 0) (pos 0 +ℤ pos 0) refl
 look_ahead_together m (suc r) zero w u =
     zle_of _ _ (int_sum_ext m.states _ _ (λ s p. together (w s) (u s) (mdp_table m (suc r) s)) ∙ int_sum_add m.states (λ s. pos (w s) *ℤ mdp_table m (suc r) s) (λ s. pos (u s) *ℤ mdp_table m (suc r) s))
-look_ahead_together m (suc r) (suc k) w u = greatest_together _ _ _ (numbers_below (joint_actions m)) (λ a. step_together m r k w u a (look_ahead_together m r k))
+look_ahead_together m (suc r) (suc k) w u = greatest_of_sums _ _ _ (numbers_below (joint_actions m)) (λ a i. step_together m r k w u a (look_ahead_together m r k))
 
 -- the same where a joint action is done first
 pub action_look_ahead_together : (m : Model) (r k : ℕ) (w u : ℕ → ℕ) (a : ℕ) → action_look_ahead m r (λ s. w s + u s) a k ≤ℤ (action_look_ahead m r w a k +ℤ action_look_ahead m r u a k)

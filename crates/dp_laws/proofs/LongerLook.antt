@@ -5,7 +5,6 @@ use Rattle.std.proofs.lemmas.Int.{ints, clamps}
 use Rattle.dp_laws.proofs.Order.{add_le_right, max_le}
 use Rattle.dp_laws.proofs.Ring.{zle_trans, zle_of}
 use Rattle.dp_laws.proofs.Sums.{int_sum_le}
-use Rattle.dp_laws.proofs.Best.{IsIn}
 use Rattle.dp_laws.proofs.TableBound.{look_ahead_le_table}
 use Rattle.dp_laws.proofs.OneStep.{value_le_action_look_ahead}
 use Rattle.dp_spec.specs.LookAhead.{action_look_ahead, look_ahead, weighted_reward, weights_after}
@@ -13,28 +12,14 @@ use Rattle.dp_spec.specs.Model.{IsModel, Model, joint_actions, joint_observation
 use Rattle.dp_spec.specs.PolicyTree.{IsPolicyOf, PolicyTree}
 use Rattle.dp_spec.specs.Sums.{greatest, int_sum, numbers_below}
 use Rattle.dp_spec.specs.Value.{backward_value, joint_root_action}
-
--- what is above each of a list that is not empty is above the greatest
-pub greatest_under : (f : ℕ → ℤ) (xs : List ℕ) (z : ℤ) → 0 < length xs → ((x : ℕ) → IsIn x xs → f x ≤ℤ z) → greatest f xs ≤ℤ z
-greatest_under f [] z p h = absurd (omega arith)
-greatest_under f (x ∷ []) z p h = h x (inl refl)
-greatest_under f (x ∷ (y ∷ ys)) z p h = max_le _ _ z (h x (inl refl)) (greatest_under f (y ∷ ys) z (omega arith) (λ a i. h a (inr i)))
-
-max_mono : (a b c d : ℤ) → a ≤ℤ c → b ≤ℤ d → int_max a b ≤ℤ int_max c d
-max_mono a b c d p q = omega (arith, ints, clamps)
-
--- greater numbers have a greater greatest
-pub greatest_le : (f g : ℕ → ℤ) (xs : List ℕ) → ((x : ℕ) → f x ≤ℤ g x) → greatest f xs ≤ℤ greatest g xs
-greatest_le f g [] h = zle_of (pos 0) (pos 0) refl
-greatest_le f g (x ∷ []) h = h x
-greatest_le f g (x ∷ (y ∷ ys)) h = max_mono _ _ _ _ (h x) (greatest_le f g (y ∷ ys) h)
+use Rattle.dp_laws.proofs.GreatestValues.{greatest_mono}
 
 -- one step of look more
 one_more : (m : Model) → IsModel m → (r k : ℕ) (w : ℕ → ℕ) → look_ahead m r w (suc k) ≤ℤ look_ahead m r w k
 one_more m ok zero k w = zle_of (pos 0) (pos 0) refl
 one_more m ok (suc r) zero w = look_ahead_le_table m ok (suc r) 1 w
 one_more m ok (suc r) (suc k) w =
-    greatest_le _ _ (numbers_below (joint_actions m)) (λ a. add_le_right (weighted_reward m r w a) _ _ (int_sum_le (joint_observations m) _ _ (λ o p. one_more m ok r k (weights_after m w a o))))
+    greatest_mono _ _ (numbers_below (joint_actions m)) (λ a i. add_le_right (weighted_reward m r w a) _ _ (int_sum_le (joint_observations m) _ _ (λ o p. one_more m ok r k (weights_after m w a o))))
 
 so_many_more : (m : Model) → IsModel m → (r k j : ℕ) (w : ℕ → ℕ) → look_ahead m r w (k + j) ≤ℤ look_ahead m r w k
 so_many_more m ok r k zero w = zle_of _ _ (let e : k + 0 ≡ k = omega arith in rw e)

@@ -1,13 +1,12 @@
 -- One agent whose classes a < b were merged: its front, and the tree that follows it.
 use Rattle.std.proofs.Common.{◌≡◌, ◌≢◌, ◌⊎◌, inl, inr, ℕ, zero, suc, ◌+◌, ◌*◌, ◌-◌, ◌^◌, ◌<◌, ◌≤◌, true, false, cond, eqb, ltb, List, [], ◌∷◌, map, length, get_or, Option, Some, None, refl, sym, ap, ◌∙◌, subst, arith}
 use Rattle.std.proofs.lemmas.Bool.Decides.{nat_tests}
-use Rattle.dp_laws.proofs.Order.{less_or_not}
 use Rattle.dp_laws.proofs.Graft.{graft, graft_fits, tree_at-graft}
-use Rattle.dp_laws.proofs.Sums.{dec_eq}
 use Rattle.dp_spec.specs.Front.{AgentFront}
 use Rattle.dp_laws.specs.Following.{FollowsAgentFront}
 use Rattle.dp_spec.specs.Merge.{merged_agent, renumbered, without}
 use Rattle.dp_spec.specs.PolicyTree.{IsPolicyTree, PolicyTree, root_action}
+use Rattle.std.proofs.lemmas.Bool.{cases_eq, cases_lt}
 
 -- ---- lists without a place
 -- a place before the one that is left out
@@ -111,9 +110,9 @@ chosen_actions_kept : (a b : ℕ) (y : PolicyTree) (us : ℕ → PolicyTree) (os
     (c e : ℕ) → c < length (without b os) → get_or (without b os) c None ≡ Some e → root_action (joined_trees a b y us c) ≡ e
 chosen_actions_kept a b y us os h g na does c e p s =
     let len = length-without b os g in
-    elim (dec_eq a c) [
+    elim (cases_eq a c) [
       | inl ac ↦ let lt : c < b = omega arith in let same = get_or-without_below b os c None lt in let na' : get_or os c None ≡ None = subst (λ (z : ℕ). get_or os z None ≡ None) ac na in cc
-      | inr ne ↦ elim (less_or_not c b) [
+      | inr ne ↦ elim (cases_lt c b) [
         | inl lt ↦ ap root_action (joined_trees_below a b y us c ne lt) ∙ does c e (omega arith) (sym (get_or-without_below b os c None lt) ∙ s)
         | inr le ↦ ap root_action (joined_trees_above a b y us c h le) ∙ does (suc c) e (omega arith) (sym (get_or-without_above b os c None le) ∙ s)
       ]

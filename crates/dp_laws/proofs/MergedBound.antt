@@ -2,12 +2,11 @@
 use Rattle.std.proofs.Common.{◌≡◌, ◌≢◌, inl, inr, ℕ, zero, suc, ◌+◌, ◌<◌, ◌≤◌, cond, eqb, ℤ, pos, ◌+ℤ◌, ◌≤ℤ◌, List, length, get_or, sym, ap, ◌∙◌, subst, arith}
 use Rattle.std.proofs.lemmas.Int.{ints}
 use Rattle.dp_laws.proofs.JointPlaces.{int_sum_placed, placed_number}
-use Rattle.dp_laws.proofs.LinearSteps.{action_look_ahead_together, greatest_together}
+use Rattle.dp_laws.proofs.LinearSteps.{action_look_ahead_together}
 use Rattle.dp_laws.proofs.MergedFronts.{agreeing_either, agreeing_kept, as_many_merged, counts_of_others, joined_weight, kept_below, kept_class, kept_high, kept_low, kept_weight, one_class_less, placed_weight, unassigned_agent}
 use Rattle.dp_laws.proofs.MergedTrees.{fixed_joint_action_merged}
-use Rattle.dp_laws.proofs.Order.{less_or_not}
 use Rattle.dp_laws.proofs.Ring.{zadd_le, zle_of, zle_trans}
-use Rattle.dp_laws.proofs.Sums.{dec_eq, int_sum_add, int_sum_ext, int_sum_le, int_sum_out, ite_same}
+use Rattle.dp_laws.proofs.Sums.{int_sum_add, int_sum_ext, int_sum_le, int_sum_out, ite_same}
 use Rattle.dp_laws.proofs.WellFormedSteps.{merged_is_front}
 use Rattle.dp_spec.specs.Bound.{agreeing_actions, bound_of}
 use Rattle.dp_spec.specs.Front.{Front, class_counts, class_weight}
@@ -19,6 +18,8 @@ use Rattle.dp_spec.specs.Model.{Model}
 use Rattle.dp_spec.specs.Steps.{IsUnassigned}
 use Rattle.dp_spec.specs.Sums.{greatest, int_sum}
 use Rattle.dp_spec.specs.WellFormed.{IsFront}
+use Rattle.dp_laws.proofs.GreatestValues.{greatest_of_sums}
+use Rattle.std.proofs.lemmas.Bool.{cases_eq, cases_lt}
 
 -- ---- sums with one class less
 swap_last : (x y z w : ℤ) → z ≡ w → (x +ℤ y) +ℤ z ≡ (x +ℤ w) +ℤ y
@@ -28,7 +29,7 @@ swap_last x y z w e = omega (arith, ints)
 int_sum_skip : (k b : ℕ) (g : ℕ → ℤ) → b ≤ k → int_sum (suc k) g ≡ int_sum k (λ c. g (kept_class b c)) +ℤ g b
 int_sum_skip zero b g h = let e : zero ≡ b = omega arith in ap (λ z. pos 0 +ℤ g z) e
 int_sum_skip (suc k) b g h =
-    elim (less_or_not k b) [
+    elim (cases_lt k b) [
       | inl lt ↦
           let e : suc k ≡ b = omega arith in
           let rest = int_sum_ext (suc k) g (λ c. g (kept_class b c)) (λ c p. ap g (kept_low b c (omega arith))) in
@@ -47,7 +48,7 @@ int_sum_joined k a b f g ab bk others here =
     let old = λ (c : ℕ). g (kept_class b c) in
     let a_in : a < k = omega arith in
     let rest : int_sum k (λ c. cond (eqb a c) (pos 0) (f c)) ≡ int_sum k (λ c. cond (eqb a c) (pos 0) (old c)) =
-    int_sum_ext k _ _ (λ c p. elim (dec_eq a c) [
+    int_sum_ext k _ _ (λ c p. elim (cases_eq a c) [
       | inl e ↦ rw (e, ite_same c (pos 0) (f c), ite_same c (pos 0) (old c))
       | inr ne ↦ ap (cond (eqb a c) (pos 0)) (others c p ne)
     ]) in
@@ -108,8 +109,8 @@ module _ (m : Model) (h r look : ℕ) (F : Front) (front : IsFront m h F) (lt : 
       zle_trans _ _ _
       (zle_of _ _ (λ j. greatest (λ y. action_look_ahead m r (λ s. weights s j) y look) (actions j)))
       (zle_trans _ _ _
-      (greatest_together (λ y. action_look_ahead m r (class_weight m F A) y look) (λ y. action_look_ahead m r (class_weight m F B) y look) (λ y. action_look_ahead m r (λ s. class_weight m F A s + class_weight m F B s) y look) (agreeing_actions m F A)
-      (λ y. action_look_ahead_together m r look (class_weight m F A) (class_weight m F B) y))
+      (greatest_of_sums (λ y. action_look_ahead m r (class_weight m F A) y look) (λ y. action_look_ahead m r (class_weight m F B) y look) (λ y. action_look_ahead m r (λ s. class_weight m F A s + class_weight m F B s) y look) (agreeing_actions m F A)
+      (λ y i. action_look_ahead_together m r look (class_weight m F A) (class_weight m F B) y))
       (zle_of _ _ (ap (λ l. best F A +ℤ greatest (λ y. action_look_ahead m r (class_weight m F B) y look) l) (sym (agreeing_either m F i a b free_a free_b x hx)))))
 
   -- all joint classes together

@@ -1,13 +1,11 @@
 -- how a merged front weighs, and which joint actions agree with it
 use Rattle.std.proofs.Common.{◌≡◌, ◌≢◌, inl, inr, ℕ, zero, suc, ◌+◌, ◌<◌, ◌≤◌, Bool, true, false, cond, ◌&&◌, eqb, ltb, List, [], ◌∷◌, length, get_or, filter, Option, None, refl, sym, ap, ◌∙◌, subst, arith}
 use Rattle.std.proofs.lemmas.Bool.Decides.{nat_tests}
-use Rattle.dp_laws.proofs.Order.{less_or_not}
 use Rattle.dp_laws.proofs.AdvancedFronts.{both_tests, classes_below}
-use Rattle.dp_laws.proofs.JointPlaces.{below_others, below_place, joint_is_placed, parts-placed, placed_injective, placed_number}
+use Rattle.dp_laws.proofs.JointPlaces.{below_others, joint_is_placed, parts-placed, placed_injective, placed_number}
 use Rattle.dp_laws.proofs.MergedAgents.{get_or-renumbered, get_or-without_above, get_or-without_below, length-without}
 use Rattle.dp_laws.proofs.MergedTrees.{fixed_joint_action_merged}
-use Rattle.dp_laws.proofs.NaturalSums.{nat_history_sum_add, nat_history_sum_ext}
-use Rattle.dp_laws.proofs.OwnHistories.{Below, joint_below, own_histories_within}
+use Rattle.dp_laws.proofs.OwnHistories.{own_histories_within}
 use Rattle.dp_spec.specs.Bound.{agreeing_actions, agrees, all_agree}
 use Rattle.dp_spec.specs.Front.{AgentFront, Front, class_counts, class_weight, fixed_joint_action, joint_class, own_classes, own_histories}
 use Rattle.dp_spec.specs.JointHistory.{IsJointHistory, history_weight, nat_history_sum}
@@ -17,6 +15,9 @@ use Rattle.dp_spec.specs.Model.{Model, joint_actions, joint_observations}
 use Rattle.dp_spec.specs.Steps.{IsUnassigned}
 use Rattle.dp_spec.specs.Sums.{numbers_below}
 use Rattle.dp_spec.specs.WellFormed.{IsFront}
+use Rattle.dp_spec.proofs.JointNumberLaws.{AreBelow, below_at, joint_number_below}
+use Rattle.std.proofs.lemmas.Bool.{cases_lt}
+use Rattle.dp_laws.proofs.HistorySums.{nat_history_sum_add, nat_history_sum_ext}
 
 -- ---- a joint class by the class of one agent
 pub unassigned_agent : (i c : ℕ) (ds : List AgentFront) → IsUnassigned i c ds → (i < length (class_counts ds)) × (c < get_or (class_counts ds) i 0)
@@ -25,17 +26,17 @@ unassigned_agent zero c (d ∷ ds) free = (omega arith, free.0)
 unassigned_agent (suc i) c (d ∷ ds) free = let rest = unassigned_agent i c ds free in (omega (arith, rest.0), rest.1)
 
 module _ (m : Model) (h : ℕ) (F : Front) (front : IsFront m h F) (i : ℕ) (i_in : i < length (class_counts F.agents)) where
-  classes_in : (H : List ℕ) → IsJointHistory (joint_observations m) F.stage H → Below (class_counts F.agents) (own_classes F.agents (own_histories m.observations H))
+  classes_in : (H : List ℕ) → IsJointHistory (joint_observations m) F.stage H → AreBelow (class_counts F.agents) (own_classes F.agents (own_histories m.observations H))
   unfolding joint_observations
   classes_in H p = classes_below front.agents _ (own_histories_within m.observations F.stage H p)
 
   agent_in_range : (H : List ℕ) → IsJointHistory (joint_observations m) F.stage H → class_of_agent m F i H < get_or (class_counts F.agents) i 0
   unfolding class_of_agent
-  agent_in_range H p = below_place i _ _ i_in (classes_in H p)
+  agent_in_range H p = below_at i _ _ i_in (classes_in H p)
 
   others_in_range : (H : List ℕ) → IsJointHistory (joint_observations m) F.stage H → class_of_others m F i H < product (without i (class_counts F.agents))
   unfolding class_of_others
-  others_in_range H p = joint_below _ _ (below_others i _ _ (classes_in H p))
+  others_in_range H p = joint_number_below _ _ (below_others i _ _ (classes_in H p))
 
   class_is_placed : (H : List ℕ) → IsJointHistory (joint_observations m) F.stage H → joint_class m F H ≡ placed_number i (class_counts F.agents) (class_of_agent m F i H) (class_of_others m F i H)
   unfolding joint_class class_of_agent class_of_others
@@ -147,7 +148,7 @@ kept_below b c k n h e = grind (arith, nat_tests)
 
 choice_kept : (b c : ℕ) (os : List (Option ℕ)) → get_or (without b os) c None ≡ get_or os (kept_class b c) None
 choice_kept b c os =
-    elim (less_or_not c b) [
+    elim (cases_lt c b) [
       | inl low ↦ get_or-without_below b os c None low ∙ ap (λ z. get_or os z None) (kept_low b c low)
       | inr high ↦ get_or-without_above b os c None high ∙ ap (λ z. get_or os z None) (kept_high b c high)
     ]

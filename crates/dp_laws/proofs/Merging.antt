@@ -2,10 +2,10 @@
 use Rattle.std.proofs.Common.{◌≡◌, ℕ, zero, suc, ◌+◌, ◌<◌, Bool, true, false, cond, eqb, ℤ, pos, ◌+ℤ◌, ◌*ℤ◌, ◌≤ℤ◌, List, [], ◌∷◌, get_or, refl, sym, ap, ◌∙◌, subst, arith}
 use Rattle.dp_laws.proofs.JointPlaces.{below_others}
 use Rattle.dp_laws.proofs.Sums.{int_sum_ext, int_sum_two}
-use Rattle.dp_laws.proofs.ForwardValue.{int_history_sum_ext, forward_is_backward}
-use Rattle.dp_laws.proofs.OwnHistories.{Below, joint_below, parts-joint, own_histories_within, followed_from_start}
+use Rattle.dp_laws.proofs.ForwardValue.{forward_is_backward}
+use Rattle.dp_laws.proofs.OwnHistories.{own_histories_within, followed_from_start}
 use Rattle.dp_laws.proofs.FollowedFronts.{trees_of, trees_after_history_are, trees_at_stage, classes_below}
-use Rattle.dp_laws.proofs.FollowedBound.{int_history_sum_group, equal_of_test, follows_fixed}
+use Rattle.dp_laws.proofs.FollowedBound.{follows_fixed}
 use Rattle.dp_laws.proofs.Order.{add_le_right}
 use Rattle.dp_laws.proofs.ClassValue.{better_for_both}
 use Rattle.dp_laws.proofs.MergedTrees.{fixed_joint_action_merged, joined_trees_by_agent, joined_trees_of, merged_agents_follow, tree_for, trees_by_agent}
@@ -20,9 +20,12 @@ use Rattle.dp_spec.specs.PolicyTree.{IsPolicyOf, PolicyTree}
 use Rattle.dp_spec.specs.Steps.{IsUnassigned}
 use Rattle.dp_spec.specs.Sums.{int_sum}
 use Rattle.dp_spec.specs.Value.{backward_value, policy_value}
+use Rattle.dp_spec.proofs.JointNumberLaws.{AreBelow, joint_number_below, parts_of-joint_number}
+use Rattle.dp_laws.proofs.HistorySums.{int_history_sum_ext, int_history_sum_group}
+use Rattle.std.proofs.lemmas.Bool.{eqb-true}
 
 -- a class of an agent is below its count
-class_in_count : (i c : ℕ) (ds : List AgentFront) (cs : List ℕ) → IsUnassigned i c ds → Below (class_counts ds) cs → get_or cs i 0 < get_or (class_counts ds) i 0
+class_in_count : (i c : ℕ) (ds : List AgentFront) (cs : List ℕ) → IsUnassigned i c ds → AreBelow (class_counts ds) cs → get_or cs i 0 < get_or (class_counts ds) i 0
 class_in_count i c [] cs free h = absurd free
 class_in_count i c (d ∷ ds) [] free h = absurd h
 class_in_count zero c (d ∷ ds) (x ∷ xs) free h = h.0
@@ -59,7 +62,7 @@ module _ (m : Model) (F : Front) (r i : ℕ) (uss : List (ℕ → PolicyTree)) w
       let O = joint_observations m in
       int_history_sum_group O F.stage k _ (class_of_agent m F i) in_range
       ∙ int_sum_ext k _ _ (λ c p.
-      int_history_sum_ext O F.stage _ _ (λ H h. value_at_class (eqb (class_of_agent m F i H) c) m.states (weight H) (λ x s. value_with (class_of_others m F i H) x s) _ _ (λ e. ap z (equal_of_test _ _ e))))
+      int_history_sum_ext O F.stage _ _ (λ H h. value_at_class (eqb (class_of_agent m F i H) c) m.states (weight H) (λ x s. value_with (class_of_others m F i H) x s) _ _ (λ e. ap z (eqb-true _ _ e))))
 
   -- the value of a joint policy whose trees after the front are given by class
   value_of_policy : (qs : List PolicyTree) (F' : Front) (uss' : List (ℕ → PolicyTree)) (z : ℕ → PolicyTree) (k : ℕ) → F'.stage ≡ F.stage → fixed_joint_action m F' ≡ fixed_joint_action m F →
@@ -82,7 +85,7 @@ class_in_range m F r qs uss ks i c free H h = class_in_count i c F.agents _ free
 others_in_range : (m : Model) (F : Front) (r : ℕ) (qs : List PolicyTree) (uss : List (ℕ → PolicyTree)) → FollowsAgentFronts F.stage r m.actions m.observations F.agents qs uss → (i : ℕ) →
     (H : List ℕ) → IsJointHistory (joint_observations m) F.stage H → class_of_others m F i H < product (without i (class_counts F.agents))
 unfolding class_of_others joint_observations
-others_in_range m F r qs uss ks i H h = joint_below _ _ (below_others i _ _ (classes_below ks _ (own_histories_within m.observations F.stage H h)))
+others_in_range m F r qs uss ks i H h = joint_number_below _ _ (below_others i _ _ (classes_below ks _ (own_histories_within m.observations F.stage H h)))
 
 -- what remains after a joint history of the stage, by agent i and the others
 trees_after_front : (m : Model) (F : Front) (r : ℕ) (qs : List PolicyTree) (uss : List (ℕ → PolicyTree)) → FollowsAgentFronts F.stage r m.actions m.observations F.agents qs uss → (i c : ℕ) → IsUnassigned i c F.agents →
@@ -92,7 +95,7 @@ unfolding class_of_agent class_of_others joint_observations
 trees_after_front m F r qs uss ks i c free H h =
     let w = own_histories_within m.observations F.stage H h in
     trees_after_history_are m qs (followed_from_start ks) F.stage H h ∙ trees_at_stage ks _ w ∙ trees_by_agent ks i c free _ w
-    ∙ ap (λ z. inserted i (tree_for i uss (get_or (own_classes F.agents (own_histories m.observations H)) i 0)) (trees_of (without i uss) z)) (sym (parts-joint _ _ (below_others i _ _ (classes_below ks _ w))))
+    ∙ ap (λ z. inserted i (tree_for i uss (get_or (own_classes F.agents (own_histories m.observations H)) i 0)) (trees_of (without i uss) z)) (sym (parts_of-joint_number _ _ (below_others i _ _ (classes_below ks _ w))))
 
 -- the same for the joint policy that follows the merged front
 trees_after_merged : (m : Model) (F : Front) (r : ℕ) (qs qs' : List PolicyTree) (uss : List (ℕ → PolicyTree)) → FollowsAgentFronts F.stage r m.actions m.observations F.agents qs uss → (i a b : ℕ) → a < b → IsUnassigned i b F.agents → (y : PolicyTree) →
@@ -103,7 +106,7 @@ unfolding class_of_agent class_of_others joint_observations
 trees_after_merged m F r qs qs' uss ks i a b lt free y ks' H h =
     let w = own_histories_within m.observations F.stage H h in
     trees_after_history_are m qs' (followed_from_start ks') F.stage H h ∙ trees_at_stage ks' _ w ∙ joined_trees_by_agent ks i a b lt free y _ w
-    ∙ ap (λ z. inserted i (replaced_trees a b y (tree_for i uss) (get_or (own_classes F.agents (own_histories m.observations H)) i 0)) (trees_of (without i uss) z)) (sym (parts-joint _ _ (below_others i _ _ (classes_below ks _ w))))
+    ∙ ap (λ z. inserted i (replaced_trees a b y (tree_for i uss) (get_or (own_classes F.agents (own_histories m.observations H)) i 0)) (trees_of (without i uss) z)) (sym (parts_of-joint_number _ _ (below_others i _ _ (classes_below ks _ w))))
 
 -- Some trees follow the merged front and are worth at least as much, and where steps are left they are a joint policy if the old ones are.
 pub merging_keeps_value : (m : Model) (F : Front) (r : ℕ) (qs : List PolicyTree) (uss : List (ℕ → PolicyTree)) → FollowsAgentFronts F.stage r m.actions m.observations F.agents qs uss →

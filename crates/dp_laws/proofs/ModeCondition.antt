@@ -1,12 +1,12 @@
 -- The condition of exact mode in numbers, and the greatest magnitude of a reward.
 use Rattle.std.proofs.Common.{◌≡◌, ℕ, zero, suc, ◌+◌, ◌*◌, ◌^◌, ◌<◌, ◌≤◌, true, max, ℤ, pos, unsigned_abs, List, [], ◌∷◌, get_or, sym, arith}
 use Rattle.std.proofs.lemmas.Bool.{leb-true}
-use Rattle.dp_laws.proofs.Scales.{product_positive}
 use Rattle.dp_spec.specs.Mode.{greatest_magnitude, is_exact_mode}
 use Rattle.dp_spec.specs.Model.{IsModel, Model, joint_observations, reward_at, step_scale}
+use Rattle.std.proofs.Math.Nat.{mul-pos}
 
 -- the magnitude that the condition of exact mode takes for a reward
-pub reward_most : Model → ℕ
+unfoldable pub reward_most : Model → ℕ
 reward_most m = max (max (greatest_magnitude m.reward) m.scales.reward) 1
 
 -- each number of a list is within the greatest magnitude
@@ -33,7 +33,7 @@ exact_condition m h e = leb-true _ _ (sym e)
 -- the step scale is at least 1
 pub step_scale_some : (m : Model) → IsModel m → 0 < step_scale m
 unfolding step_scale
-step_scale_some m is = product_positive _ _ (product_positive _ _ is.scales.trans is.scales.obs) is.scales.discount
+step_scale_some m is = mul-pos (mul-pos is.scales.trans is.scales.obs) is.scales.discount
 
 -- the limit of rewards
 pub reward_within : (m : Model) → IsModel m → (a s t o : ℕ) → unsigned_abs (reward_at m a s t o) ≤ 10 ^ 8 * m.scales.reward
@@ -41,7 +41,7 @@ unfolding reward_at
 reward_within m is a s t o = is.tables.reward_limit (((a * m.states + s) * m.states + t) * joint_observations m + o)
 
 -- a limit of all numbers is one of the greatest magnitude
-magnitude_most : (rs : List ℤ) (c : ℕ) → ((i : ℕ) → unsigned_abs (get_or rs i (pos 0)) ≤ c) → greatest_magnitude rs ≤ c
+pub magnitude_most : (rs : List ℤ) (c : ℕ) → ((i : ℕ) → unsigned_abs (get_or rs i (pos 0)) ≤ c) → greatest_magnitude rs ≤ c
 magnitude_most [] c h = omega arith
 magnitude_most (r ∷ rs) c h = let here : unsigned_abs r ≤ c = h 0 in let rest = magnitude_most rs c (λ i. h (suc i)) in omega arith
 

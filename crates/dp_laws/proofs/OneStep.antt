@@ -2,16 +2,17 @@
 use Rattle.std.proofs.Common.{◌≡◌, ℕ, zero, suc, ◌*◌, ◌-◌, ◌^◌, ◌<◌, ℤ, pos, ◌+ℤ◌, ◌*ℤ◌, ◌≤ℤ◌, List, refl, sym, ap, ◌∙◌, arith}
 use Rattle.std.proofs.lemmas.Int.{ints}
 use Rattle.dp_laws.proofs.Trees.{joint_root_action_below, subtrees_fit}
-use Rattle.dp_laws.proofs.Best.{best_below}
 use Rattle.dp_laws.proofs.Order.{add_le_right}
 use Rattle.dp_laws.proofs.Ring.{v, nat, ◌⊕◌, ◌⊗◌, by_ring, zmul_le, zle_trans, zle_of}
-use Rattle.dp_laws.proofs.Sums.{int_sum_ext, int_sum_le, int_sum_add, mul_two, add_two, ext_two, rotate, int_sum_weigh, le_two, nat_sum_scale}
+use Rattle.dp_laws.proofs.Sums.{int_sum_ext, int_sum_le, int_sum_add, mul_two, add_two, ext_two, rotate, int_sum_weigh, le_two}
 use Rattle.dp_spec.specs.LookAhead.{action_look_ahead, look_ahead, weighted_reward, weights_after}
 use Rattle.dp_spec.specs.MdpTable.{mdp_table}
 use Rattle.dp_spec.specs.Model.{IsModel, Model, joint_actions, joint_observations, obs_at, reward_at, step_scale, trans_at}
 use Rattle.dp_spec.specs.PolicyTree.{IsPolicyOf, PolicyTree}
 use Rattle.dp_spec.specs.Sums.{int_sum}
 use Rattle.dp_spec.specs.Value.{backward_value, joint_root_action, trees_after}
+use Rattle.dp_laws.proofs.GreatestValues.{le_greatest_below}
+use Rattle.dp_spec.proofs.NaturalSumLaws.{nat_sum_scale}
 
 -- the step's summand
 regroup : (w p g k : ℕ) (r n : ℤ) → pos w *ℤ (pos p *ℤ (r *ℤ pos k +ℤ pos g *ℤ n)) ≡ pos (w * p) *ℤ (r *ℤ pos k) +ℤ pos (w * (p * g)) *ℤ n
@@ -83,7 +84,7 @@ step_le_table m ok r s a N p a_in small =
     ∙ ap (λ (n : ℕ). pos n *ℤ mdp_table m r t) (nat_sum_scale O (trans_at m a s t) m.scales.gain (obs_at m a t) ∙ ap (λ (n : ℕ). trans_at m a s t * n * m.scales.gain) (ok.rows.obs a t a_in q)))) in
     zle_trans _ _ _
     (le_two S O _ _ (λ t o q u. step_le (P t o) m.scales.gain (X t o) _ _ (small t o q u)))
-    (zle_trans _ _ _ (zle_of _ _ e) (best_below _ (joint_actions m) a a_in))
+    (zle_trans _ _ _ (zle_of _ _ e) (le_greatest_below _ (joint_actions m) a a_in))
 
 -- no joint policy of r steps is worth more in a state than the table says
 pub value_le_table : (m : Model) → IsModel m → (r s : ℕ) (qs : List PolicyTree) → s < m.states → IsPolicyOf m r qs → backward_value m r s qs ≤ℤ mdp_table m r s
@@ -105,7 +106,7 @@ value_le_look_ahead m ok (suc r) (suc k) w qs h =
     zle_trans _ _ _ (zle_of _ _ (one_step m r w qs))
     (zle_trans _ _ _
     (add_le_right (weighted_reward m r w a) _ _ (int_sum_le (joint_observations m) _ _ (λ o p. value_le_look_ahead m ok r k (weights_after m w a o) (trees_after m qs o) (trees_after_fit m r qs o p h))))
-    (best_below _ (joint_actions m) a (root_joint_action_below m r qs h)))
+    (le_greatest_below _ (joint_actions m) a (root_joint_action_below m r qs h)))
 
 -- the same for trees whose roots do a
 pub value_le_action_look_ahead : (m : Model) → IsModel m → (r k : ℕ) (w : ℕ → ℕ) (qs : List PolicyTree) → IsPolicyOf m (suc r) qs → int_sum m.states (λ s. pos (w s) *ℤ backward_value m (suc r) s qs) ≤ℤ action_look_ahead m r w (joint_root_action m qs) k

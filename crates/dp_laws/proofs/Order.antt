@@ -59,10 +59,6 @@ min_is_either a b = elim (le_total a b) [ inl le ↦ inl (omega (arith, ints, cl
 
 -- ---- cases of natural numbers
 
--- less or not
-pub less_or_not : (a b : ℕ) → (a < b) ⊎ (b ≤ a)
-less_or_not a b = grind arith
-
 -- at most is equal or less
 pub equal_or_less : (a b : ℕ) → a ≤ b → (a ≡ b) ⊎ (a < b)
 equal_or_less a b h = grind arith

@@ -3,11 +3,9 @@ use Rattle.std.proofs.Common.{◌≡◌, ℕ, zero, suc, ◌<◌, ◌≤◌, inl
 use Rattle.std.proofs.lemmas.Int.{ints}
 use Rattle.std.proofs.lemmas.Bool.Decides.{nat_tests}
 use Rattle.dp_spec.specs.declared.span.Span.{Span}
-use Rattle.dp_laws.proofs.NaturalSums.{nat_history_sum_ext, nat_history_sum_swap, nat_sum_cond}
 use Rattle.dp_laws.proofs.Order.{mul_le_right}
 use Rattle.dp_laws.proofs.Ring.{zadd_le, zle_of, zle_trans}
-use Rattle.dp_laws.proofs.SizeSums.{nat_history_sum_le, nat_sum_le, span_history_sum_size}
-use Rattle.dp_laws.proofs.Sums.{dec_eq, nat_sum_ext}
+use Rattle.dp_laws.proofs.SizeSums.{span_history_sum_size}
 use Rattle.dp_spec.specs.Arithmetic.{Arithmetic, point}
 use Rattle.dp_spec.specs.Calls.{IsPoint, size}
 use Rattle.dp_spec.specs.Front.{Front, fixed_joint_action, joint_class}
@@ -16,6 +14,9 @@ use Rattle.dp_spec.specs.Model.{Model, joint_observations}
 use Rattle.dp_spec.specs.Quantities.{class_weight_in, history_weight_in, span_history_sum, span_sum}
 use Rattle.dp_spec.specs.Sizes.{AreWeights}
 use Rattle.dp_spec.specs.Sums.{nat_sum}
+use Rattle.dp_spec.proofs.NaturalSumLaws.{nat_sum_cond, nat_sum_ext, nat_sum_le}
+use Rattle.std.proofs.lemmas.Bool.{cases_eq}
+use Rattle.dp_laws.proofs.HistorySums.{nat_history_sum_ext, nat_history_sum_le, nat_history_sum_swap}
 
 -- from 0, and in order
 pub record IsOrdered (w : Span) : Type 0 where
@@ -110,26 +111,24 @@ class_total A m F C =
     (λ H p. nat_sum_ext S _ (λ s. cond (test H) (size (W H s)) 0) (λ s q. where_size (test H) (W H s)) ∙ nat_sum_cond S (test H) (λ s. size (W H s))) in
     omega arith
 
+-- a number counts at no other place
+elsewhere : (k n x : ℕ) → (k ≡ n → ⊥) → cond (eqb k n) x 0 ≡ 0
+elsewhere k n x ne = grind (arith, nat_tests)
+
 -- a place past the end counts nowhere
 none_before : (n k x : ℕ) → n ≤ k → nat_sum n (λ i. cond (eqb k i) x 0) ≡ 0
 none_before zero k x h = refl
-none_before (suc n) k x h = let rest = none_before n k x (omega arith) in let here : cond (eqb k n) x 0 ≡ 0 = other (omega arith) in omega arith
-  where
-    other : (k ≡ n → ⊥) → cond (eqb k n) x 0 ≡ 0
-    other ne = grind (arith, nat_tests)
+none_before (suc n) k x h = let rest = none_before n k x (omega arith) in let here : cond (eqb k n) x 0 ≡ 0 = elsewhere k n x (omega arith) in omega arith
 
 -- a number counts at one place at most
 pub one_place : (n k x : ℕ) → nat_sum n (λ i. cond (eqb k i) x 0) ≤ x
 one_place zero k x = omega arith
 one_place (suc n) k x =
-    elim (dec_eq k n) [
+    elim (cases_eq k n) [
       | inl e ↦ let rest = none_before n k x (omega arith) in let here = at_most (eqb k n) x in omega arith
-      | inr ne ↦ let rest = one_place n k x in let here : cond (eqb k n) x 0 ≡ 0 = other ne in omega arith
+      | inr ne ↦ let rest = one_place n k x in let here : cond (eqb k n) x 0 ≡ 0 = elsewhere k n x ne in omega arith
     ]
   where
-    other : (k ≡ n → ⊥) → cond (eqb k n) x 0 ≡ 0
-    other ne = grind (arith, nat_tests)
-
     at_most : (b : Bool) (x : ℕ) → cond b x 0 ≤ x
     at_most true x = omega arith
     at_most false x = omega arith

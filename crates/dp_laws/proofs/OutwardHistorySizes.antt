@@ -4,20 +4,19 @@ use Rattle.std.proofs.Math.Nat.{le-mul_of_pos_right, mul-le-mul, mul-le-mul_righ
 use Rattle.dp_spec.specs.declared.span.Span.{Span}
 use Rattle.dp_laws.proofs.ClassCounts.{joint_classes_within_histories}
 use Rattle.dp_laws.proofs.ActingHistories.{class_weights, front_acting, history_weights}
-use Rattle.dp_laws.proofs.NaturalSums.{nat_history_sum_const}
 use Rattle.dp_laws.proofs.OneStep.{trees_after_fit, root_joint_action_below}
 use Rattle.dp_laws.proofs.OrderedSpans.{classes_total, total_size, weight_ordered}
 use Rattle.dp_laws.proofs.OutwardLookSizes.{looks_room}
 use Rattle.dp_laws.proofs.OutwardModeSizes.{limit_room, next_weights, outward_can_push, reward_room, state_squares}
 use Rattle.dp_laws.proofs.OutwardSizes.{next_total, start_total}
-use Rattle.dp_laws.proofs.SizeSums.{action_look_le, agreeing_below, greatest_abs, nat_history_sum_le, nat_sum_at, nat_sum_most}
+use Rattle.dp_laws.proofs.SizeSums.{action_look_le, agreeing_below}
 use Rattle.dp_spec.specs.Arithmetic.{outward}
 use Rattle.dp_spec.specs.Bound.{agreeing_actions}
 use Rattle.dp_spec.specs.Calls.{outward_calls}
 use Rattle.dp_spec.specs.Front.{Front, class_counts, fixed_joint_action}
 use Rattle.dp_spec.specs.JointHistory.{IsJointHistory, nat_history_sum}
 use Rattle.dp_spec.specs.JointNumbers.{product}
-use Rattle.dp_spec.specs.Model.{IsModel, Model, joint_observations}
+use Rattle.dp_spec.specs.Model.{IsModel, Model, joint_observations, obs_at, start_at}
 use Rattle.dp_spec.specs.PolicyTree.{IsPolicyOf, PolicyTree}
 use Rattle.dp_spec.specs.Quantities.{action_look_ahead_in, class_weight_in, history_weight_in, weights_after_in}
 use Rattle.dp_spec.specs.Sizes.{AreWeights, reward_size, weight_limit}
@@ -26,6 +25,10 @@ use Rattle.dp_spec.specs.SizesOfFronts.{CanAdvance, IsChoosing, advanced_size, c
 use Rattle.dp_spec.specs.Sums.{greatest, nat_sum}
 use Rattle.dp_spec.specs.Value.{joint_root_action, trees_after}
 use Rattle.dp_spec.specs.WellFormed.{IsFront}
+use Rattle.dp_laws.proofs.GreatestValues.{greatest_abs}
+use Rattle.dp_spec.proofs.NaturalSumLaws.{nat_sum_at, nat_sum_most}
+use Rattle.dp_laws.proofs.HistorySums.{nat_history_sum_const, nat_history_sum_le}
+use Rattle.dp_spec.proofs.ModelLaws.{some_state, some_joint_observation}
 
 -- how many rewards a joint policy of r steps has at most, for n joint observations
 abbrev pub reward_count : ℕ → ℕ → ℕ
@@ -37,25 +40,12 @@ count_more : (n r : ℕ) → 0 < n → 1 + n * reward_count n r ≤ reward_count
 count_more n zero some = let e = pow-zero n in omega arith
 count_more n (suc r) some = let e = ap (λ (k : ℕ). suc r * k) (pow-suc n r) in let one = one-le-pow (suc r) n some in omega arith
 
--- a sum that is not 0 has a part
-some_of_sum : (n d : ℕ) (f : ℕ → ℕ) → 0 < d → nat_sum n f ≡ d → 0 < n
-some_of_sum zero d f some e = absurd (omega arith)
-some_of_sum (suc n) d f some e = omega arith
-
 module _ (m : Model) (is : IsModel m) (h : ℕ) (horizon : h ≤ 24) (cells : m.states * joint_observations m ^ (h - 1) ≤ 2 ^ 22) where
-  -- there is a state
-  some_state : 0 < m.states
-  some_state = some_of_sum m.states m.scales.start _ is.scales.start is.rows.start
-
-  -- there is a joint observation
-  some_observation : 0 < joint_observations m
-  some_observation = some_of_sum (joint_observations m) m.scales.obs _ is.scales.obs (is.rows.obs 0 0 is.sizes.some_action some_state)
-
   -- the joint histories of a time before the horizon are at most 2^22
   histories_before : (t : ℕ) → t < h → joint_observations m ^ t ≤ 2 ^ 22
   histories_before t lt =
-      let grows : joint_observations m ^ t ≤ joint_observations m ^ (h - 1) = pow-le-pow_right some_observation (omega arith) in
-      let states = le-mul_of_pos_right (joint_observations m ^ (h - 1)) some_state in
+      let grows : joint_observations m ^ t ≤ joint_observations m ^ (h - 1) = pow-le-pow_right (some_joint_observation m is) (omega arith) in
+      let states = le-mul_of_pos_right (joint_observations m ^ (h - 1)) (some_state m is) in
       omega arith
 
   -- ---- worth and earnings
@@ -69,7 +59,7 @@ module _ (m : Model) (is : IsModel m) (h : ℕ) (horizon : h ≤ 24) (cells : m.
       let reward = reward_room m is h horizon t r ws a (omega arith) are a_in in
       let each = nat_sum_most O (reward_count O r * 2 ^ 82) (λ o. worth_size (outward m.scales) m r (weights_after_in (outward m.scales) m ws a o) (trees_after m qs o))
       (λ o q. worth_room (suc t) r (weights_after_in (outward m.scales) m ws a o) (trees_after m qs o) (omega arith) (next_weights m is h horizon t ws a o are a_in q) (trees_after_fit m r qs o q p)) in
-      let more = mul-le-mul_right (2 ^ 82) (count_more O r some_observation) in
+      let more = mul-le-mul_right (2 ^ 82) (count_more O r (some_joint_observation m is)) in
       omega arith
 
   -- their number is at most 2^27

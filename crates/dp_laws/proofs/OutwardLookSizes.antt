@@ -1,23 +1,20 @@
 -- In outward mode look-ahead stays within its type up to a horizon of 24: from above by the table, and from below by the true value.
 use Rattle.std.proofs.Common.{◌≡◌, ℕ, zero, suc, ◌+◌, ◌*◌, ◌^◌, ◌<◌, ◌≤◌, max, false, ℤ, pos, negsuc, ◌*ℤ◌, neg_ℤ, ◌≤ℤ◌, unsigned_abs, refl, sym, ap, subst, arith}
 use Rattle.std.proofs.lemmas.Int.{ints, clamps, unsigned_abs-mul}
-use Rattle.std.proofs.Math.Nat.{le_of_mul-le-mul_right, mul-le-mul, mul-le-mul_right, one-le-pow}
+use Rattle.std.proofs.Math.Nat.{le_of_mul-le-mul_right, mul-le-mul, mul-le-mul_right, mul-pos, one-le-pow}
 use Rattle.std.specs.Int.{int_min}
 use Rattle.dp_spec.specs.declared.span.Span.{Span}
 use Rattle.dp_laws.proofs.EnclosedQuantities.{look_ahead_enclosed}
 use Rattle.dp_laws.proofs.ExactArithmetic.{exact_sound}
 use Rattle.dp_laws.proofs.ExactValueSizes.{look_most, value_most}
 use Rattle.dp_laws.proofs.ModeCondition.{reward_most, reward_most_within, step_scale_some}
-use Rattle.dp_laws.proofs.NaturalSums.{nat_sum_add, nat_sum_const, nat_sum_times}
 use Rattle.dp_laws.proofs.Order.{mul_le_right}
 use Rattle.dp_laws.proofs.OrderedSpans.{IsOrdered, total_size, weight_ordered}
 use Rattle.dp_laws.proofs.OutwardArithmetic.{outward_sound}
 use Rattle.dp_laws.proofs.OutwardModeSizes.{limit_room, next_weights, reward_room, table_room, weight_le, weight_of}
 use Rattle.dp_laws.proofs.OutwardSizes.{tail_most}
 use Rattle.dp_laws.proofs.Ring.{zle_of}
-use Rattle.dp_laws.proofs.Scales.{product_positive}
-use Rattle.dp_laws.proofs.SizeSums.{int_sum_abs, nat_sum_le, nat_sum_most}
-use Rattle.dp_laws.proofs.Sums.{nat_sum_ext}
+use Rattle.dp_laws.proofs.SizeSums.{int_sum_abs}
 use Rattle.dp_spec.specs.Arithmetic.{exact, outward, point}
 use Rattle.dp_spec.specs.Calls.{outward_calls, size}
 use Rattle.dp_spec.specs.Enclosure.{Encloses, containment, equality}
@@ -27,6 +24,7 @@ use Rattle.dp_spec.specs.Quantities.{look_ahead_in, mdp_table_in, weighted_table
 use Rattle.dp_spec.specs.Sizes.{AreWeights, reward_size}
 use Rattle.dp_spec.specs.SizesOfLookAhead.{CanLookAhead, next_look_size, weighted_table_size}
 use Rattle.dp_spec.specs.Sums.{nat_sum}
+use Rattle.dp_spec.proofs.NaturalSumLaws.{nat_sum_add, nat_sum_const, nat_sum_ext, nat_sum_le, nat_sum_most, nat_sum_times}
 
 -- a number over d that is at least x over c is not far below 0
 below_zero : (v x : ℤ) (c d B : ℕ) → (x *ℤ pos c) ≤ℤ (v *ℤ pos d) → unsigned_abs x * c ≤ B * d → 0 < d → neg_ℤ (pos B) ≤ℤ v
@@ -93,7 +91,7 @@ module _ (m : Model) (is : IsModel m) where
       let most = mul-le-mul_right (10 ^ 9) (true_most r k w) in
       let lows : nat_sum m.states w ≤ total_size m ws = nat_sum_le m.states w (λ s. size (ws s)) (λ s p. omega arith) in
       let value = scaled_value (nat_sum m.states w) r (reward_most m) m.scales.reward (step_scale m ^ r) (omega arith) few (reward_most_within m is) in
-      let scale = product_positive (10 ^ 12) _ (omega arith) (product_positive _ _ is.scales.reward (one-le-pow r (step_scale m) (step_scale_some m is))) in
+      let scale = mul-pos {m = 10 ^ 12} (omega arith) (mul-pos is.scales.reward (one-le-pow r (step_scale m) (step_scale_some m is))) in
       below_zero (look_ahead_in (outward m.scales) m r ws k) (look_ahead m r w k) (10 ^ 9) (10 ^ 12 * (m.scales.reward * step_scale m ^ r)) (2 ^ 88) above (omega arith) scale
 
   module _ (h : ℕ) (horizon : h ≤ 24) where

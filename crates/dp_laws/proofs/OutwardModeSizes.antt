@@ -8,7 +8,7 @@ use Rattle.dp_laws.proofs.ModeCondition.{reward_within}
 use Rattle.dp_laws.proofs.OrderedSpans.{IsOrdered, from_high, high_is_size, sum_ordered, total_size, weight_ordered}
 use Rattle.dp_laws.proofs.OutwardSizes.{carry_most, chance_ordered, chance_small, gained_total, later_ordered, next_parts, next_total, obs_part, reward_total, shares, start_ordered, start_total, trans_part}
 use Rattle.dp_laws.proofs.Ring.{zle_of, zle_trans}
-use Rattle.dp_laws.proofs.SizeSums.{below_in, greatest_abs, nat_sum_at, table_action_le}
+use Rattle.dp_laws.proofs.SizeSums.{table_action_le}
 use Rattle.dp_spec.specs.Arithmetic.{outward}
 use Rattle.dp_spec.specs.Calls.{IsWeight, outward_calls, size}
 use Rattle.dp_spec.specs.Model.{IsModel, Model, joint_actions, joint_observations, obs_at, reward_at, start_at, trans_at}
@@ -16,6 +16,9 @@ use Rattle.dp_spec.specs.Quantities.{mdp_table_in, weights_after_in}
 use Rattle.dp_spec.specs.Sizes.{AreWeights, CanPush, CanReward, IsStep, reward_size}
 use Rattle.dp_spec.specs.SizesOfTable.{CanTabulate, table_later_size, table_reward_size}
 use Rattle.dp_spec.specs.Sums.{nat_sum, numbers_below}
+use Rattle.dp_laws.proofs.Members.{below-IsIn}
+use Rattle.dp_laws.proofs.GreatestValues.{greatest_abs}
+use Rattle.dp_spec.proofs.NaturalSumLaws.{nat_sum_at}
 
 -- a span of weights of at most 2^64 may be calculated with
 pub weight_of : (w : Span) → IsOrdered w → size w ≤ 2 ^ 64 → IsWeight w
@@ -79,7 +82,7 @@ module _ (m : Model) (is : IsModel m) where
   table_most zero s ps = omega arith
   table_most (suc r) s ps =
       greatest_abs _ (suc r * (10 ^ 17 + 10 ^ 10)) (numbers_below (joint_actions m))
-      (λ a h. let pa = below_in (joint_actions m) a h in let parts = table_action_le (outward m.scales) m r a s in let most = table_parts_most r a s (r * (10 ^ 17 + 10 ^ 10)) pa ps (λ t pt. table_most r t pt) in omega arith)
+      (λ a h. let pa = below-IsIn (joint_actions m) a h in let parts = table_action_le (outward m.scales) m r a s in let most = table_parts_most r a s (r * (10 ^ 17 + 10 ^ 10)) pa ps (λ t pt. table_most r t pt) in omega arith)
 
   -- ---- weights of a time up to the horizon
   module _ (h : ℕ) (horizon : h ≤ 24) where

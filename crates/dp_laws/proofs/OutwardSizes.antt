@@ -5,11 +5,10 @@ use Rattle.std.proofs.Math.Nat.{div-mul-le_self, le_of_mul-le-mul_right, mul-le-
 use Rattle.dp_spec.specs.declared.span.Span.{Span}
 use Rattle.dp_laws.proofs.Floors.{le_mul_up, mul_down_le, part_abs}
 use Rattle.dp_laws.proofs.ModeCondition.{reward_within}
-use Rattle.dp_laws.proofs.NaturalSums.{nat_sum_add, nat_sum_const, nat_sum_swap, nat_sum_times}
 use Rattle.dp_laws.proofs.Order.{le_of_mul_le_right, mul_le_right}
 use Rattle.dp_laws.proofs.OrderedSpans.{IsOrdered, high_is_size, total_size}
-use Rattle.dp_laws.proofs.Ring.{zle_of, zle_trans}
-use Rattle.dp_laws.proofs.SizeSums.{nat_sum_at, nat_sum_le, pushed_size_le}
+use Rattle.dp_laws.proofs.Ring.{zle_of, zle_pos, zle_trans}
+use Rattle.dp_laws.proofs.SizeSums.{pushed_size_le}
 use Rattle.dp_spec.specs.Arithmetic.{outward}
 use Rattle.dp_spec.specs.Calls.{size}
 use Rattle.dp_spec.specs.Model.{IsModel, Model, joint_actions, joint_observations, obs_at, reward_at, start_at, trans_at}
@@ -17,12 +16,10 @@ use Rattle.dp_spec.specs.Quantities.{weights_after_in}
 use Rattle.dp_spec.specs.Rounding.{by_sign, ceiling_of, floor_of, mul_down, mul_up}
 use Rattle.dp_spec.specs.Sizes.{reward_size}
 use Rattle.dp_spec.specs.Sums.{nat_sum}
+use Rattle.dp_spec.proofs.NaturalSumLaws.{nat_sum_add, nat_sum_at, nat_sum_const, nat_sum_le, nat_sum_swap, nat_sum_times}
+use Rattle.dp_spec.proofs.RoundingLaws.{unsigned_abs-neg}
 
 -- ---- one quotient
--- a negated number
-abs_negated : (a : ℤ) → unsigned_abs (neg_ℤ a) ≡ unsigned_abs a
-abs_negated a = omega (arith, ints)
-
 -- a quotient rounded down
 floor_abs : (a : ℤ) (d : ℕ) → unsigned_abs (floor_of a d) * d ≤ unsigned_abs a + d
 floor_abs (pos n) d = let q = div-mul-le_self n d in omega arith
@@ -31,7 +28,7 @@ floor_abs (negsuc n) d = let q = div-mul-le_self n d in omega arith
 -- a quotient rounded up
 ceiling_abs : (a : ℤ) (d : ℕ) → unsigned_abs (ceiling_of a d) * d ≤ unsigned_abs a + d
 unfolding ceiling_of
-ceiling_abs a d = let q = floor_abs (neg_ℤ a) d in let e = abs_negated a in rw (abs_negated (floor_of (neg_ℤ a) d)) (omega arith)
+ceiling_abs a d = let q = floor_abs (neg_ℤ a) d in let e = unsigned_abs-neg a in rw (unsigned_abs-neg (floor_of (neg_ℤ a) d)) (omega arith)
 
 -- a product over d, rounded down
 pub mul_down_abs : (a b : ℤ) (d : ℕ) → unsigned_abs (mul_down a b d) * d ≤ unsigned_abs a * unsigned_abs b + d
@@ -157,10 +154,7 @@ module _ (m : Model) (is : IsModel m) where
   -- a start weight is from 0 and in order
   pub start_ordered : (b : ℕ) → IsOrdered ((outward m.scales).start b)
   unfolding outward
-  start_ordered b = rounded_ordered (pos b) (pos b) (10 ^ 12) m.scales.start is.scales.start (from_pos b) (zle_of _ _ refl)
-    where
-      from_pos : (b : ℕ) → pos 0 ≤ℤ pos b
-      from_pos b = omega (arith, ints)
+  start_ordered b = rounded_ordered (pos b) (pos b) (10 ^ 12) m.scales.start is.scales.start (zle_pos b) (zle_of _ _ refl)
 
   -- it grows by at most one in rounding
   start_most : (b : ℕ) → size ((outward m.scales).start b) * m.scales.start ≤ 10 ^ 12 * b + m.scales.start

@@ -2,7 +2,6 @@
 use Rattle.std.proofs.Common.{◌≡◌, ℕ, zero, suc, ◌+◌, ◌*◌, ◌/◌, ◌%◌, ◌^◌, ◌<◌, List, [], ◌∷◌, map, refl, ap, arith}
 use Rattle.std.proofs.lemmas.Nat.{mod-mul-add, div-mul-add, mod_below}
 use Rattle.std.proofs.Math.Nat.{pow-suc, pow-zero}
-use Rattle.dp_laws.proofs.Trees.{row_below, part_below, positive_factor}
 use Rattle.dp_spec.specs.Front.{AgentFront, next_own_histories, own_histories}
 use Rattle.dp_spec.specs.JointHistory.{IsJointHistory}
 use Rattle.dp_spec.specs.JointNumbers.{joint_number, parts_of, product}
@@ -13,6 +12,7 @@ use Rattle.dp_spec.specs.Keeping.{KeepAgentFronts}
 use Rattle.dp_spec.specs.Keeping.KeepAgentFronts.{and_agent as and_keeps, no_agents as none_keep}
 use Rattle.dp_spec.specs.PolicyTree.{PolicyTree}
 use Rattle.dp_spec.specs.Value.{subtrees_at}
+use Rattle.dp_spec.proofs.JointNumberLaws.{AreBelow, part_below, parts_below, positive_right, row_below}
 
 -- each own history of length t is below the power
 abbrev pub Within : List ℕ → ℕ → List ℕ → Type 0
@@ -21,42 +21,12 @@ Within [] t (x ∷ xs) = ⊥
 Within (n ∷ ns) t [] = ⊥
 Within (n ∷ ns) t (x ∷ xs) = (x < n ^ t) × Within ns t xs
 
--- each part is below its radix
-abbrev pub Below : List ℕ → List ℕ → Type 0
-Below [] [] = Unit {0}
-Below [] (x ∷ xs) = ⊥
-Below (n ∷ ns) [] = ⊥
-Below (n ∷ ns) (x ∷ xs) = (x < n) × Below ns xs
-
--- the parts of a joint number are below their numbers
-pub parts_below : (ns : List ℕ) (o : ℕ) → o < product ns → Below ns (parts_of ns o)
-parts_below [] o h = tt
-parts_below (n ∷ ns) o h = (part_below n (product ns) o h, parts_below ns _ (mod_below o (product ns) (positive_factor n (product ns) o h)))
-
--- a joint number is below the product
-pub joint_below : (ns ps : List ℕ) → Below ns ps → joint_number ns ps < product ns
-joint_below [] [] h = omega arith
-joint_below [] (p ∷ ps) h = absurd h
-joint_below (n ∷ ns) [] h = absurd h
-joint_below (n ∷ ns) (p ∷ ps) h = row_below p n _ _ h.0 (joint_below ns ps h.1)
-
--- the parts of the joint number of parts
-pub parts-joint : (ns ps : List ℕ) → Below ns ps → parts_of ns (joint_number ns ps) ≡ ps
-parts-joint [] [] h = refl
-parts-joint [] (p ∷ ps) h = absurd h
-parts-joint (n ∷ ns) [] h = absurd h
-parts-joint (n ∷ ns) (p ∷ ps) h =
-    let lt : joint_number ns ps < product ns = joint_below ns ps h.1 in
-    let first : (p * product ns + joint_number ns ps) / product ns ≡ p = div-mul-add p (product ns) (joint_number ns ps) lt in
-    let rest : (p * product ns + joint_number ns ps) % product ns ≡ joint_number ns ps = mod-mul-add p (product ns) (joint_number ns ps) lt in
-    rw (first, rest, parts-joint ns ps h.1)
-
 -- an own history one step longer is a number below the next power
 pub next_history_below : (x n t p : ℕ) → x < n ^ t → p < n → x * n + p < n ^ suc t
 next_history_below x n t p h g = rw pow-suc (row_below x (n ^ t) n p h g)
 
 -- own histories one step longer
-next_within : (ns : List ℕ) (t : ℕ) (xs ps : List ℕ) → Within ns t xs → Below ns ps → Within ns (suc t) (next_own_histories ns xs ps)
+next_within : (ns : List ℕ) (t : ℕ) (xs ps : List ℕ) → Within ns t xs → AreBelow ns ps → Within ns (suc t) (next_own_histories ns xs ps)
 next_within [] t [] ps h g = tt
 next_within [] t (x ∷ xs) ps h g = absurd h
 next_within (n ∷ ns) t [] ps h g = absurd h
@@ -83,7 +53,7 @@ trees_at (n ∷ ns) (q ∷ qs) t [] = []
 trees_at (n ∷ ns) (q ∷ qs) t (x ∷ xs) = tree_at n q t x ∷ trees_at ns qs t xs
 
 -- what remains one step on
-pub subtrees_at_next : (ns : List ℕ) (qs : List PolicyTree) (t : ℕ) (xs ps : List ℕ) → Below ns ps → subtrees_at (trees_at ns qs t xs) ps ≡ trees_at ns qs (suc t) (next_own_histories ns xs ps)
+pub subtrees_at_next : (ns : List ℕ) (qs : List PolicyTree) (t : ℕ) (xs ps : List ℕ) → AreBelow ns ps → subtrees_at (trees_at ns qs t xs) ps ≡ trees_at ns qs (suc t) (next_own_histories ns xs ps)
 subtrees_at_next [] qs t xs ps h = refl
 subtrees_at_next (n ∷ ns) [] t xs ps h = refl
 subtrees_at_next (n ∷ ns) (q ∷ qs) t [] ps h = refl

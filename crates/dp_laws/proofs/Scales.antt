@@ -1,6 +1,6 @@
 -- The scales of the quantities: how they grow with each operation.
 use Rattle.std.proofs.Common.{◌≡◌, ℕ, zero, suc, ◌+◌, ◌*◌, ◌^◌, ◌<◌, refl, sym, ap, ◌∙◌, arith}
-use Rattle.std.proofs.Math.Nat.{one-le-pow, pow-suc, pow-zero}
+use Rattle.std.proofs.Math.Nat.{mul-pos, one-le-pow, pow-suc, pow-zero}
 use Rattle.std.proofs.lemmas.Nat.{pow-add}
 use Rattle.dp_spec.specs.Model.{IsModel, Model, step_scale, value_scale}
 
@@ -44,6 +44,10 @@ pub scale_at_stage : (m : Model) (t r : ℕ) → m.scales.start * step_scale m ^
 unfolding value_scale
 scale_at_stage m t r = omega (arith, ap (λ (n : ℕ). m.scales.start * (m.scales.reward * n)) (pow-add (step_scale m) t r))
 
+-- weights against a value of r rewards of at most x, where two powers make up one
+pub weights_times_value : (d p r x q k : ℕ) → p * q ≡ k → d * p * (r * x * q) ≡ r * (d * k * x)
+weights_times_value d p r x q k e = omega (arith, ap (λ (n : ℕ). r * d * n * x) e)
+
 -- weights of the next stage
 pub scale_of_next : (m : Model) (t : ℕ) → m.scales.start * step_scale m ^ t * step_scale m ≡ m.scales.start * step_scale m ^ suc t
 scale_of_next m t = omega (arith, ap (λ (n : ℕ). m.scales.start * n) (pow-suc (step_scale m) t))
@@ -52,15 +56,9 @@ scale_of_next m t = omega (arith, ap (λ (n : ℕ). m.scales.start * n) (pow-suc
 pub scale_of_first : (m : Model) → m.scales.start ≡ m.scales.start * step_scale m ^ 0
 scale_of_first m = rw pow-zero (omega arith)
 
--- a product of numbers that are not 0
-pub product_positive : (a b : ℕ) → 0 < a → 0 < b → 0 < a * b
-product_positive zero b p q = absurd (omega arith)
-product_positive (suc a) zero p q = absurd (omega arith)
-product_positive (suc a) (suc b) p q = omega arith
-
 -- the value scale of a model is not 0
 pub value_scale_positive : (m : Model) (h : ℕ) → IsModel m → 0 < value_scale m h
 unfolding value_scale step_scale
 value_scale_positive m h is =
-    product_positive _ _ is.scales.start
-    (product_positive _ _ is.scales.reward (one-le-pow h _ (product_positive _ _ (product_positive _ _ is.scales.trans is.scales.obs) is.scales.discount)))
+    mul-pos is.scales.start
+    (mul-pos is.scales.reward (one-le-pow h _ (mul-pos (mul-pos is.scales.trans is.scales.obs) is.scales.discount)))

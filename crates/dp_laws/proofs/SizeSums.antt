@@ -3,8 +3,6 @@ use Rattle.std.proofs.Common.{◌≡◌, ◌⊎◌, inl, inr, ℕ, zero, suc, �
 use Rattle.std.proofs.lemmas.Int.{ints, clamps}
 use Rattle.std.specs.Int.{int_max, int_min}
 use Rattle.dp_spec.specs.declared.span.Span.{Span}
-use Rattle.dp_laws.proofs.AgreeingActions.{IsIn_filter}
-use Rattle.dp_laws.proofs.Best.{IsIn}
 use Rattle.dp_spec.specs.Arithmetic.{Arithmetic, span_add}
 use Rattle.dp_spec.specs.Bound.{agreeing_actions}
 use Rattle.dp_spec.specs.Calls.{size}
@@ -19,43 +17,9 @@ use Rattle.dp_spec.specs.Value.{joint_root_action, trees_after}
 use Rattle.dp_spec.specs.SizesOfLookAhead.{next_look_size}
 use Rattle.dp_spec.specs.SizesOfTable.{table_later_size, table_reward_size}
 use Rattle.dp_spec.specs.Sums.{greatest, int_sum, nat_sum, numbers_below}
-
--- ---- sums of naturals
-
--- one of a sum
-pub nat_sum_at : (n : ℕ) (f : ℕ → ℕ) (i : ℕ) → i < n → f i ≤ nat_sum n f
-nat_sum_at zero f i h = absurd (omega arith)
-nat_sum_at (suc n) f i h = elim (cases i n h) [ inl e ↦ rw e (omega arith) | inr lt ↦ let rest = nat_sum_at n f i lt in omega arith ]
-  where
-    cases : (i n : ℕ) → i < suc n → (i ≡ n) ⊎ (i < n)
-    cases i n h = grind arith
-
--- smaller numbers have a smaller sum
-pub nat_sum_le : (n : ℕ) (f g : ℕ → ℕ) → ((i : ℕ) → i < n → f i ≤ g i) → nat_sum n f ≤ nat_sum n g
-nat_sum_le zero f g h = omega arith
-nat_sum_le (suc n) f g h = let here = h n (omega arith) in let rest = nat_sum_le n f g (λ i p. h i (omega arith)) in omega arith
-
--- n numbers of at most c
-pub nat_sum_most : (n c : ℕ) (f : ℕ → ℕ) → ((i : ℕ) → i < n → f i ≤ c) → nat_sum n f ≤ n * c
-nat_sum_most zero c f h = omega arith
-nat_sum_most (suc n) c f h = let here = h n (omega arith) in let rest = nat_sum_most n c f (λ i p. h i (omega arith)) in omega arith
-
--- a part of a sum
-pub nat_sum_part : (k n : ℕ) (f : ℕ → ℕ) → k ≤ n → nat_sum k f ≤ nat_sum n f
-nat_sum_part k zero f h = let e : k ≡ 0 = omega arith in rw e (omega arith)
-nat_sum_part k (suc n) f h =
-    elim (cases k n h) [
-      | inl e ↦ rw e (omega arith)
-      | inr le ↦ let rest = nat_sum_part k n f le in omega arith
-    ]
-  where
-    cases : (k n : ℕ) → k ≤ suc n → (k ≡ suc n) ⊎ (k ≤ n)
-    cases k n h = grind arith
-
--- the same over joint histories
-pub nat_history_sum_le : (n t : ℕ) (f g : List ℕ → ℕ) → ((H : List ℕ) → IsJointHistory n t H → f H ≤ g H) → nat_history_sum n t f ≤ nat_history_sum n t g
-nat_history_sum_le n zero f g h = h [] tt
-nat_history_sum_le n (suc t) f g h = nat_history_sum_le n t _ _ (λ H p. nat_sum_le n _ _ (λ o q. h (o ∷ H) (q, p)))
+use Rattle.dp_laws.proofs.Members.{IsIn, below-IsIn, filter-IsIn}
+use Rattle.dp_spec.proofs.NaturalSumLaws.{nat_sum_at, nat_sum_le, nat_sum_part}
+use Rattle.dp_laws.proofs.HistorySums.{nat_history_sum_le}
 
 -- ---- sums of whole numbers
 
@@ -68,25 +32,9 @@ pub int_sum_abs : (n : ℕ) (f : ℕ → ℤ) → unsigned_abs (int_sum n f) ≤
 int_sum_abs zero f = omega arith
 int_sum_abs (suc n) f = let rest = int_sum_abs n f in let both = abs_add (int_sum n f) (f n) in omega arith
 
--- the greater of two
-abs_max : (a b : ℤ) (c : ℕ) → unsigned_abs a ≤ c → unsigned_abs b ≤ c → unsigned_abs (int_max a b) ≤ c
-abs_max a b c p q = omega (arith, ints, clamps)
-
 -- the smaller of two
 pub abs_min : (a b : ℤ) (c : ℕ) → unsigned_abs a ≤ c → unsigned_abs b ≤ c → unsigned_abs (int_min a b) ≤ c
 abs_min a b c p q = omega (arith, ints, clamps)
-
--- the greatest of a list
-pub greatest_abs : (f : ℕ → ℤ) (c : ℕ) (xs : List ℕ) → ((a : ℕ) → IsIn a xs → unsigned_abs (f a) ≤ c) → unsigned_abs (greatest f xs) ≤ c
-greatest_abs f c [] h = omega arith
-greatest_abs f c (x ∷ []) h = h x (inl refl)
-greatest_abs f c (x ∷ (y ∷ ys)) h = abs_max (f x) (greatest f (y ∷ ys)) c (h x (inl refl)) (greatest_abs f c (y ∷ ys) (λ a p. h a (inr p)))
-
--- what is among the numbers below n
-pub below_in : (n a : ℕ) → IsIn a (numbers_below n) → a < n
-below_in zero a h = absurd h
-below_in (suc n) a (inl e) = omega arith
-below_in (suc n) a (inr h) = let rest = below_in n a h in omega arith
 
 -- ---- sums of spans
 -- the magnitude of a sum of two spans
@@ -145,7 +93,7 @@ action_look_le A m r ws a k =
 -- a joint action that agrees with a joint class exists
 pub agreeing_below : (m : Model) (F : Front) (C a : ℕ) → IsIn a (agreeing_actions m F C) → a < joint_actions m
 unfolding agreeing_actions
-agreeing_below m F C a h = below_in (joint_actions m) a (IsIn_filter _ a (numbers_below (joint_actions m)) h).0
+agreeing_below m F C a h = below-IsIn (joint_actions m) a (filter-IsIn _ a (numbers_below (joint_actions m)) h).0
 
 -- a value of the table is no larger than its parts
 pub table_action_le : (A : Arithmetic) (m : Model) (r a s : ℕ) →

@@ -5,10 +5,7 @@ use Rattle.std.proofs.lemmas.Bool.Decides.{nat_tests}
 use Rattle.std.proofs.lemmas.Int.{ints}
 use Rattle.dp_laws.proofs.Ring.{v, nat, ◌⊕◌, ◌⊗◌, by_ring, zadd_le, zmul_add, zle_of}
 use Rattle.dp_spec.specs.Sums.{int_sum, nat_sum}
-
--- equal or not
-pub dec_eq : (k n : ℕ) → (k ≡ n) ⊎ (k ≢ n)
-dec_eq k n = grind arith
+use Rattle.std.proofs.lemmas.Bool.{cases_eq}
 
 -- equal numbers
 pub int_sum_ext : (n : ℕ) (f g : ℕ → ℤ) → ((i : ℕ) → i < n → f i ≡ g i) → int_sum n f ≡ int_sum n g
@@ -73,7 +70,7 @@ int_sum_none (suc n) k x h =
 pub int_sum_one : (n k : ℕ) (x : ℤ) → k < n → int_sum n (λ i. cond (eqb k i) x (pos 0)) ≡ x
 int_sum_one zero k x h = absurd (omega arith)
 int_sum_one (suc n) k x h =
-    elim (dec_eq k n) [
+    elim (cases_eq k n) [
       | inl e ↦ let le : n ≤ k = omega arith in rw (int_sum_none n k x le, e, ite_same n x (pos 0)) (+ℤ_idl x)
       | inr ne ↦ let lt : k < n = omega arith in rw (int_sum_one n k x lt, ite_other k n x (pos 0) ne) (+ℤ_idr x)
     ]
@@ -104,22 +101,10 @@ pub int_sum_weigh : (n : ℕ) (f : ℕ → ℕ) (x : ℤ) → int_sum n (λ s. p
 int_sum_weigh zero f x = omega (arith, ints)
 int_sum_weigh (suc n) f x = rw (int_sum_weigh n f x) (by_ring (nat (nat_sum n f) ⊗ v x ⊕ nat (f n) ⊗ v x) (nat (nat_sum n f + f n) ⊗ v x) (omega arith))
 
--- common factors of naturals
-pub nat_sum_scale : (n t g : ℕ) (f : ℕ → ℕ) → nat_sum n (λ o. t * f o * g) ≡ t * nat_sum n f * g
-nat_sum_scale zero t g f = omega arith
-nat_sum_scale (suc n) t g f = rw (nat_sum_scale n t g f) (omega arith)
-
--- equal naturals
-pub nat_sum_ext : (n : ℕ) (f g : ℕ → ℕ) → ((i : ℕ) → i < n → f i ≡ g i) → nat_sum n f ≡ nat_sum n g
-nat_sum_ext zero f g h = refl
-nat_sum_ext (suc n) f g h =
-    let here : f n ≡ g n = h n (omega arith) in
-    let rest : nat_sum n f ≡ nat_sum n g = nat_sum_ext n f g (λ i p. h i (omega arith)) in cc
-
 -- one place taken out of a sum
 place_split : (a c : ℕ) (f : ℕ → ℤ) → f c ≡ cond (eqb a c) (pos 0) (f c) +ℤ cond (eqb a c) (f a) (pos 0)
 place_split a c f =
-    elim (dec_eq a c) [
+    elim (cases_eq a c) [
       | inl e ↦ rw (e, ite_same c (pos 0) (f c), ite_same c (f c) (pos 0)) (sym (+ℤ_idl (f c)))
       | inr ne ↦ rw (ite_other a c (pos 0) (f c) ne, ite_other a c (f a) (pos 0) ne) (sym (+ℤ_idr (f c)))
     ]
@@ -141,9 +126,9 @@ int_sum_two n a b f g p q ne same h =
     λ f. int_sum_out n a f p ∙ ap (λ x. x +ℤ f a) (int_sum_out n b _ q ∙ ap (λ x. int_sum n (λ c. cond (eqb b c) (pos 0) (cond (eqb a c) (pos 0) (f c))) +ℤ x) (ite_other a b (pos 0) (f b) ne)) in
     rw (out f, out g)
     (two_le _ _ _ _ _ _
-    (int_sum_ext n _ _ (λ c u. elim (dec_eq a c) [
+    (int_sum_ext n _ _ (λ c u. elim (cases_eq a c) [
       | inl e ↦ rw (e, ite_same c (pos 0) (f c), ite_same c (pos 0) (g c))
-      | inr na ↦ elim (dec_eq b c) [
+      | inr na ↦ elim (cases_eq b c) [
         | inl e ↦ rw (e, ite_same c (pos 0) (cond (eqb a c) (pos 0) (f c)), ite_same c (pos 0) (cond (eqb a c) (pos 0) (g c)))
         | inr nb ↦ rw (same c u na nb)
       ]

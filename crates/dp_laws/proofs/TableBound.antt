@@ -9,12 +9,7 @@ use Rattle.dp_spec.specs.LookAhead.{look_ahead, weighted_reward, weights_after}
 use Rattle.dp_spec.specs.MdpTable.{mdp_table}
 use Rattle.dp_spec.specs.Model.{IsModel, Model, joint_actions, joint_observations}
 use Rattle.dp_spec.specs.Sums.{greatest, int_sum, numbers_below}
-
--- the greatest over the numbers below n is at most what each is
-greatest_below_le : (f : ℕ → ℤ) (x : ℤ) (n : ℕ) → 0 < n → ((a : ℕ) → a < n → f a ≤ℤ x) → greatest f (numbers_below n) ≤ℤ x
-greatest_below_le f x zero p h = absurd (omega arith)
-greatest_below_le f x (suc zero) p h = h zero (omega arith)
-greatest_below_le f x (suc (suc n)) p h = max_le _ _ _ (h (suc n) (omega arith)) (greatest_below_le f x (suc n) (omega arith) (λ a q. h a (omega arith)))
+use Rattle.dp_laws.proofs.GreatestValues.{greatest_below_at_most}
 
 -- one joint action, where what comes after is at most the table
 pub action_le_table : (m : Model) → IsModel m → (r k : ℕ) (w : ℕ → ℕ) (a : ℕ) → a < joint_actions m → ((v : ℕ → ℕ) → look_ahead m r v k ≤ℤ int_sum m.states (λ s. pos (v s) *ℤ mdp_table m r s)) →
@@ -28,4 +23,4 @@ action_le_table m ok r k w a p small =
 pub look_ahead_le_table : (m : Model) → IsModel m → (r k : ℕ) (w : ℕ → ℕ) → look_ahead m r w k ≤ℤ int_sum m.states (λ s. pos (w s) *ℤ mdp_table m r s)
 look_ahead_le_table m ok zero k w = zle_of _ _ (sym (int_sum_weigh m.states w (pos 0) ∙ omega (arith, ints)))
 look_ahead_le_table m ok (suc r) zero w = zle_of _ _ refl
-look_ahead_le_table m ok (suc r) (suc k) w = greatest_below_le _ _ (joint_actions m) ok.sizes.some_action (λ a p. action_le_table m ok r k w a p (look_ahead_le_table m ok r k))
+look_ahead_le_table m ok (suc r) (suc k) w = greatest_below_at_most _ _ (joint_actions m) ok.sizes.some_action (λ a p. action_le_table m ok r k w a p (look_ahead_le_table m ok r k))

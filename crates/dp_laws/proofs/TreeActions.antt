@@ -5,10 +5,11 @@ use Rattle.std.proofs.lemmas.Nat.{div-mul-add, mod-mul-add, mod_below}
 use Rattle.dp_laws.proofs.Graft.{nth_tree-trees_from, trees_from_fit}
 use Rattle.dp_laws.proofs.Keeping.{tree_at_fits}
 use Rattle.dp_laws.proofs.OwnHistories.{next_history_below}
-use Rattle.dp_laws.proofs.Trees.{part_below, positive_factor, root_action_below}
+use Rattle.dp_laws.proofs.Trees.{root_action_below}
 use Rattle.dp_spec.specs.FullPolicy.{tree_doing, tree_doing_after}
 use Rattle.dp_spec.specs.Keeping.{tree_at}
 use Rattle.dp_spec.specs.PolicyTree.{ArePolicyTrees, IsPolicyTree, PolicyTree, PolicyTrees, more_trees, no_trees, node, nth_tree, root_action, subtree}
+use Rattle.dp_spec.proofs.JointNumberLaws.{part_below, positive_right}
 
 under_one : (n x : ℕ) → x < n ^ 0 → x ≡ 0
 under_one n x h = omega (arith, pow-zero n)
@@ -70,7 +71,7 @@ tree_at-tree_doing n act (suc t) r h x e u =
     let u' : x < n ^ t * n = rw pow-suc at u in
     let place : x / n * n + x % n ≡ x = omega arith in
     ap (λ z. subtree z (x % n)) (tree_at-tree_doing n act t (suc r) h (x / n) (omega arith) (part_below (n ^ t) n x u'))
-    ∙ subtree-tree_doing_after n act r t (x / n) (x % n) (mod_below x n (positive_factor (n ^ t) n x u'))
+    ∙ subtree-tree_doing_after n act r t (x / n) (x % n) (mod_below x n (positive_right (n ^ t) n x u'))
     ∙ ap (tree_doing_after n act r (suc t)) place
 
 root-tree_doing_after : (n : ℕ) (act : ℕ → ℕ → ℕ) (r t x : ℕ) → root_action (tree_doing_after n act (suc r) t x) ≡ act t x

@@ -4,9 +4,7 @@ use Rattle.std.proofs.Common.{◌≡◌, inl, inr, ℕ, zero, suc, ◌+◌, ◌-
 use Rattle.std.proofs.lemmas.List.{length-replicate}
 use Rattle.std.proofs.Math.ListN.{length-set}
 use Rattle.std.proofs.Math.Nat.{mul-le-mul_right, pow-suc}
-use Rattle.dp_laws.proofs.Order.{less_or_not}
 use Rattle.dp_laws.proofs.ClassCounts.{classes_within_histories}
-use Rattle.dp_laws.proofs.CompleteFronts.{parts_of_true}
 use Rattle.dp_laws.proofs.MergedAgents.{length-without}
 use Rattle.dp_laws.proofs.RootFront.{root_is_front}
 use Rattle.dp_spec.specs.Arithmetic.{Arithmetic}
@@ -20,6 +18,7 @@ use Rattle.dp_spec.specs.Model.{IsModel, Model}
 use Rattle.dp_spec.specs.Steps.{IsUnassigned, advanced_agent, advanced_agents, advanced_if, all_chosen, chosen_front, front_after_choice, is_complete, root_front, with_choice}
 use Rattle.dp_spec.specs.WellFormed.{AreAgentFronts, IsFront}
 use Rattle.dp_spec.specs.WellFormed.AreAgentFronts.{and_agent, no_agents}
+use Rattle.std.proofs.lemmas.Bool.{and_parts, cases_lt}
 
 -- ---- how many classes have no action
 abbrev none_count : List (Option ℕ) → ℕ
@@ -67,7 +66,7 @@ merge_joins_one (suc i) a b (d ∷ ds) free = omega (arith, merge_joins_one i a 
 
 complete_has_none : (ds : List AgentFront) → is_complete ds ≡ true → unassigned_count ds ≡ 0
 complete_has_none [] e = refl
-complete_has_none (d ∷ ds) e = let both = parts_of_true (all_chosen d.chosen) (is_complete ds) e in omega (arith, none_count-chosen d.chosen both.0, complete_has_none ds both.1)
+complete_has_none (d ∷ ds) e = let both = and_parts (all_chosen d.chosen) (is_complete ds) e in omega (arith, none_count-chosen d.chosen both.0, complete_has_none ds both.1)
 
 -- ---- how many own histories there are
 -- those of length t
@@ -135,7 +134,7 @@ after_advance m h F true all lt w =
     let none = complete_has_none F.agents all in
     let opened = unassigned_within (suc f) ns (advanced_agents ns f F.agents) w' in (
       w',
-      λ d below end. elim (less_or_not (suc f) h) [
+      λ d below end. elim (cases_lt (suc f) h) [
         | inl lt' ↦ omega (arith, none, opened, below lt', shorter_histories ns (suc f))
         | inr le ↦ omega (arith, end le, longer_histories ns f h lt)
       ],
@@ -181,7 +180,7 @@ pub depth_below : (A : Arithmetic) (m : Model) (h look : ℕ) (T : BoundTree) (F
 depth_below A m h look T F cap front fits =
     let ns = m.observations in
     let w = fronts_within front.agents in
-    elim (less_or_not F.stage h) [
+    elim (cases_lt F.stage h) [
       | inl lt ↦ omega (arith, tree_depth A m h look T F cap fits lt w, unassigned_within F.stage ns F.agents w, shorter_histories ns F.stage)
       | inr le ↦ omega (arith, no_inner_node A m h look T F cap fits le, history_count-le ns F.stage (h - F.stage) h (omega (arith, front.stage_limit)))
     ]

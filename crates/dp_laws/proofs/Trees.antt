@@ -1,4 +1,4 @@
--- Parts of policy trees, and of joint numbers.
+-- Parts of policy trees and of joint policies.
 use Rattle.std.proofs.Common.{ℕ, zero, suc, ◌+◌, ◌*◌, ◌/◌, ◌%◌, ◌<◌, List, map, arith}
 use Rattle.std.proofs.Math.Nat.{div-lt_iff_lt-mul, mul-le-mul_right}
 use Rattle.std.proofs.lemmas.Nat.{mod_below}
@@ -6,10 +6,7 @@ use Rattle.dp_spec.specs.JointNumbers.{joint_number, parts_of, product}
 use Rattle.dp_spec.specs.PolicyTree.IsJointPolicy.{and_agent, no_agents}
 use Rattle.dp_spec.specs.PolicyTree.{ArePolicyTrees, IsJointPolicy, IsPolicyTree, PolicyTree, PolicyTrees, more_trees, no_trees, node, nth_tree, root_action, subtree}
 use Rattle.dp_spec.specs.Value.{subtrees_at}
-
--- a row and a place in it are below the rows together
-pub row_below : (p n k j : ℕ) → p < n → j < k → p * k + j < n * k
-row_below p n k j h g = omega (arith, mul-le-mul_right k h)
+use Rattle.dp_spec.proofs.JointNumberLaws.{part_below, positive_right, row_below}
 
 -- the root of a tree of steps does an action of the agent
 pub root_action_below : (b n r : ℕ) (q : PolicyTree) → IsPolicyTree b n (suc r) q → root_action q < b
@@ -33,18 +30,9 @@ pub subtree_fits : (b n r : ℕ) (q : PolicyTree) (o : ℕ) → o < n → IsPoli
 subtree_fits b n zero q o p h = tt
 subtree_fits b n (suc r) (node a ks) o p h = nth_tree_fits b n (suc r) n ks o p h.1
 
--- a factor of what is above a number is not 0
-pub positive_factor : (n k o : ℕ) → o < n * k → 0 < k
-positive_factor n zero o h = absurd (omega arith)
-positive_factor n (suc k) o h = omega arith
-
--- the row of a number
-pub part_below : (n k o : ℕ) → o < n * k → o / k < n
-part_below n k o h = (div-lt_iff_lt-mul (positive_factor n k o h)).1 h
-
 -- what remains of a joint policy after a joint observation is one of one step less
 pub subtrees_fit : {r : ℕ} {bs ns : List ℕ} {qs : List PolicyTree} (o : ℕ) → o < product ns → IsJointPolicy (suc r) bs ns qs → IsJointPolicy r bs ns (subtrees_at qs (parts_of ns o))
 subtrees_fit o p no_agents = no_agents
 subtrees_fit o p (and_agent {n = n} {ns = ns} h hs) =
     and_agent (subtree_fits _ n _ _ _ (part_below n (product ns) o p) h)
-    (subtrees_fit (o % product ns) (mod_below o (product ns) (positive_factor n (product ns) o p)) hs)
+    (subtrees_fit (o % product ns) (mod_below o (product ns) (positive_right n (product ns) o p)) hs)

@@ -7,18 +7,17 @@ use Rattle.std.proofs.lemmas.List.FromFn.{get_or-map-range_with_len, length-map-
 use Rattle.std.proofs.lemmas.Nat.{div-mul-add, mod-mul-add, mod_below}
 use Rattle.std.proofs.Math.Nat.{pow-suc}
 use Rattle.std.proofs.Math.ListN.{length-set}
-use Rattle.dp_laws.proofs.Order.{less_or_not}
-use Rattle.dp_laws.proofs.CompleteFronts.{parts_of_true}
 use Rattle.dp_laws.proofs.MergedAgents.{get_or-renumbered, get_or-without_above, get_or-without_below, length-without, renumbered_below, renumbered_high, renumbered_low}
 use Rattle.dp_laws.proofs.CompleteFronts.{new_class, some_at}
-use Rattle.dp_laws.proofs.Sums.{dec_eq}
-use Rattle.dp_laws.proofs.Trees.{part_below, positive_factor, row_below}
 use Rattle.dp_spec.specs.Front.{AgentFront, Front}
 use Rattle.dp_spec.specs.Merge.{merged_agent, merged_agents, merged_front, renumbered}
 use Rattle.dp_spec.specs.Model.{Model}
 use Rattle.dp_spec.specs.Steps.{IsUnassigned, advanced_agent, advanced_agents, advanced_front, advanced_if, all_chosen, chosen_front, front_after_choice, is_complete, with_choice}
 use Rattle.dp_spec.specs.WellFormed.{AreAgentFronts, IsAgentFront, IsFront, NoneChosen}
 use Rattle.dp_spec.specs.WellFormed.AreAgentFronts.{and_agent, no_agents}
+use Rattle.dp_spec.proofs.JointNumberLaws.{part_below, positive_right, row_below}
+use Rattle.std.proofs.lemmas.Bool.{and_parts, cases_eq, cases_lt}
+use Rattle.dp_laws.proofs.Order.{last_or_before}
 
 -- ---- choosing
 chosen_agent : (b n f : ℕ) (d : AgentFront) (c a : ℕ) → IsAgentFront b n f d → c < length d.chosen → a < b → IsAgentFront b n f (record d { chosen = set d.chosen c (Some a) })
@@ -31,7 +30,7 @@ chosen_agent b n f d c a k p a_in =
       of_histories = k.of_histories;
       class_below = λ x u. let i = k.class_below x u in omega arith;
       member = λ e u. k.member e (omega arith);
-      chosen_below = λ e a' u s. elim (dec_eq c e) [
+      chosen_below = λ e a' u s. elim (cases_eq c e) [
         | inl same ↦
             let g : get_or (set d.chosen c (Some a)) c None ≡ Some a = get_or-set_same d.chosen c (Some a) None p in
             let s' : get_or (set d.chosen c (Some a)) c None ≡ Some a' = subst (λ (z : ℕ). get_or (set d.chosen c (Some a)) z None ≡ Some a') (sym same) s in
@@ -54,10 +53,6 @@ chosen_is_front m h F i c a front lt free p = record {
 }
 
 -- ---- advancing
--- at a stage one on
-pub before_or_at : (t f : ℕ) → t < suc f → (t < f) ⊎ (t ≡ f)
-before_or_at t f h = grind arith
-
 next_agent : (b n f : ℕ) (d : AgentFront) → IsAgentFront b n f d → all_chosen d.chosen ≡ true → IsAgentFront b n (suc f) (advanced_agent n f d)
 unfolding advanced_agent
 next_agent b n f d k all =
@@ -69,13 +64,13 @@ next_agent b n f d k all =
     let new : (t : ℕ) → t ≡ f → get_or (d.fixed ++ acts ∷ []) t [] ≡ acts = λ t e. get_or_push d.fixed acts [] t (k.of_stage ∙ sym e) in
     record {
       of_stage = omega (arith, k.of_stage, length-append d.fixed (acts ∷ []));
-      of_length = λ t p. elim (before_or_at t f p) [
-        | inl lt ↦ ap length (old t lt) ∙ k.of_length t lt
-        | inr e ↦ ap length (new t e) ∙ length-map-range_with_len act 0 (n ^ f) ∙ ap (λ (z : ℕ). n ^ z) (sym e)
+      of_length = λ t p. elim (last_or_before t f p) [
+        | inr lt ↦ ap length (old t lt) ∙ k.of_length t lt
+        | inl e ↦ ap length (new t e) ∙ length-map-range_with_len act 0 (n ^ f) ∙ ap (λ (z : ℕ). n ^ z) (sym e)
       ];
-      fixed_below = λ t x p u. elim (before_or_at t f p) [
-        | inl lt ↦ subst (λ (z : List ℕ). get_or z x 0 < b) (sym (old t lt)) (k.fixed_below t x lt u)
-        | inr e ↦
+      fixed_below = λ t x p u. elim (last_or_before t f p) [
+        | inr lt ↦ subst (λ (z : List ℕ). get_or z x 0 < b) (sym (old t lt)) (k.fixed_below t x lt u)
+        | inl e ↦
             let u' : x < n ^ f = subst (λ (z : ℕ). x < n ^ z) e u in
             let c_in = k.class_below x u' in
             let some = some_at d.chosen (get_or d.class_of x 0) all c_in in
@@ -86,11 +81,11 @@ next_agent b n f d k all =
       of_histories = length-map-range_with_len (λ x. get_or d.class_of (x / n) 0 * n + x % n) 0 (n ^ suc f);
       class_below = λ x u.
           let u' : x < n ^ f * n = rw pow-suc at u in
-          rw (new_class n f x d.class_of u, len) (row_below _ _ n _ (k.class_below (x / n) (part_below (n ^ f) n x u')) (mod_below x n (positive_factor (n ^ f) n x u')));
+          rw (new_class n f x d.class_of u, len) (row_below _ _ n _ (k.class_below (x / n) (part_below (n ^ f) n x u')) (mod_below x n (positive_right (n ^ f) n x u')));
       member = λ c u.
           let u' : c < length d.chosen * n = omega arith in
           let old_member = k.member (c / n) (part_below (length d.chosen) n c u') in
-          let lt : c % n < n = mod_below c n (positive_factor (length d.chosen) n c u') in
+          let lt : c % n < n = mod_below c n (positive_right (length d.chosen) n c u') in
           let x = old_member.0 * n + c % n in
           let x_in : x < n ^ suc f = rw pow-suc (row_below old_member.0 (n ^ f) n (c % n) old_member.1 lt) in
           let first : x / n ≡ old_member.0 = div-mul-add old_member.0 n (c % n) lt in
@@ -104,7 +99,7 @@ next_agent b n f d k all =
 
 next_agents : {f : ℕ} {bs ns : List ℕ} {ds : List AgentFront} → AreAgentFronts f bs ns ds → is_complete ds ≡ true → AreAgentFronts (suc f) bs ns (advanced_agents ns f ds)
 next_agents no_agents all = no_agents
-next_agents (and_agent k ks) all = let both = parts_of_true _ _ all in and_agent (next_agent _ _ _ _ k both.0) (next_agents ks both.1)
+next_agents (and_agent k ks) all = let both = and_parts _ _ all in and_agent (next_agent _ _ _ _ k both.0) (next_agents ks both.1)
 
 -- a new class has no action
 pub no_choice : (n c : ℕ) → get_or {A = Option ℕ} (replicate n None) c None ≡ None
@@ -147,11 +142,11 @@ joined_agent b n f d first second k lt p =
       fixed_below = k.fixed_below;
       of_histories = length-map d.class_of (renumbered first second) ∙ k.of_histories;
       class_below = λ x u. rw (get_or-renumbered first second d.class_of x lt) (renumbered_below first second _ _ lt (omega arith) (let c_in = k.class_below x u in omega arith));
-      member = λ c u. elim (less_or_not c second) [
+      member = λ c u. elim (cases_lt c second) [
         | inl low ↦ let old = k.member c (omega arith) in (old.0, old.1, new old.0 c c old.2 (renumbered_low first second c low))
         | inr high ↦ let old = k.member (suc c) (omega arith) in (old.0, old.1, new old.0 (suc c) c old.2 (renumbered_high first second c high))
       ];
-      chosen_below = λ c a u s. elim (less_or_not c second) [
+      chosen_below = λ c a u s. elim (cases_lt c second) [
         | inl low ↦ k.chosen_below c a (omega arith) (sym (get_or-without_below second d.chosen c None low) ∙ s)
         | inr high ↦ k.chosen_below (suc c) a (omega arith) (sym (get_or-without_above second d.chosen c None high) ∙ s)
       ];

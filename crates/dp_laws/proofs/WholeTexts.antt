@@ -9,9 +9,9 @@ use Rattle.dp_spec.specs.PolicyTree.IsJointPolicy.{and_agent, no_agents}
 use Rattle.dp_spec.specs.PolicyTree.{IsJointPolicy, IsPolicyOf, IsPolicyTree, PolicyTree}
 use Rattle.dp_spec.specs.TextLines.{Line, fixed_line, line_text, Allows, AllAllowed}
 use Rattle.dp_spec.specs.PolicyText.{horizon_form, end_form, row_line, policy_rows, agent_lines, policy_lines, policy_text, IsPolicyText}
-use Rattle.dp_laws.proofs.Trees.{positive_factor}
 use Rattle.dp_laws.proofs.LineTexts.{decimal_item, AreLines, bytes_of, first_of_list, rest_of_list, line_text_injective, text_of_lines_injective}
 use Rattle.dp_laws.proofs.PolicyTexts.{AreSmall, row_is, agent_lines_injective}
+use Rattle.dp_spec.proofs.JointNumberLaws.{positive_right}
 
 -- ---- lines
 
@@ -55,10 +55,10 @@ agents_are_lines h (b ∷ bs) (n ∷ ns) (q ∷ qs) small (and_agent is iss) age
 small_factors : (bs : List ℕ) (k : ℕ) → k ≤ 2 ^ 32 → 0 < product bs → product bs ≤ k → AreSmall bs
 small_factors [] k few some most = tt
 small_factors (b ∷ bs) k few some most =
-    let others : 0 < product bs = positive_factor b (product bs) 0 some in
+    let others : 0 < product bs = positive_right b (product bs) 0 some in
     let this : b ≤ b * product bs = le-mul_of_pos_right b others in
     let some' : 0 < product bs * b = omega arith in
-    let own : 0 < b = positive_factor (product bs) b 0 some' in
+    let own : 0 < b = positive_right (product bs) b 0 some' in
     let rest : product bs ≤ product bs * b = le-mul_of_pos_right (product bs) own in
     (omega (arith, this, most), small_factors bs k few others (omega (arith, rest, most)))
 

@@ -16,6 +16,7 @@ pub mod RowLaws
 pub mod ReadValues
 pub mod ReadHeader
 pub mod ReadStatements
+pub mod ReadFields
 pub mod ReadScales
 pub mod ModelLaws
 pub mod FaultLaws

@@ -9,14 +9,9 @@ use Rattle.std.proofs.lemmas.List.Folds.{find-append}
 use Rattle.std.proofs.lemmas.List.Sums.{sum_by_more, fails_before_first}
 use Rattle.dp_spec.specs.Sums.{nat_sum}
 use Rattle.dp_meaning.proofs.Each.{Each, all_from_each}
+use Rattle.std.proofs.lemmas.Bool.{cases_lt, eq-eqb}
 
 -- ---- sums over the numbers below n
-
-pub nat_sum_ext : (n : ℕ) (f g : ℕ → ℕ) → ((i : ℕ) → i < n → f i ≡ g i) → nat_sum n f ≡ nat_sum n g
-nat_sum_ext zero f g h = refl
-nat_sum_ext (suc n) f g h =
-    let rest = nat_sum_ext n f g (λ i l. h i (omega arith)) in
-    let here = h n (omega arith) in omega arith
 
 sum_of_front : (xs : List ℕ) (n : ℕ) → n ≤ length xs → nat_sum n (λ i. get_or xs i 0) ≡ sum (take n xs)
 sum_of_front xs zero h = refl
@@ -48,16 +43,13 @@ most_below f n acc (x ∷ xs) h each = most_below f n (max acc (f x)) xs (let k 
 pub below_greatest : (xs : List ℕ) → All (λ x. x ≤ fold max 0 xs) xs
 below_greatest xs = all_from_each (λ x. x ≤ fold max 0 xs) xs (each_below_most (λ x. x) 0 xs)
 
-dec_le : (a b : ℕ) → (a ≤ b) ⊎ (b < a)
-dec_le a b = grind arith
-
 -- one is the greatest, or the greatest is what they are compared with
 greatest_at : (acc : ℕ) (xs : List ℕ) → (fold max acc xs ≡ acc) ⊎ ((k : ℕ) × (k < length xs) × (get_or xs k 0 ≡ fold max acc xs))
 greatest_at acc [] = inl refl
 greatest_at acc (x ∷ xs) = elim (greatest_at (max acc x) xs) [
-  | inl e ↦ elim (dec_le x acc) [
-    | inl h ↦ inl (let m : max acc x ≡ acc = omega arith in e ∙ m)
-    | inr h ↦ inr (0, omega arith, (let m : x ≡ max acc x = omega arith in m ∙ sym e))
+  | inl e ↦ elim (cases_lt acc x) [
+    | inl h ↦ inr (0, omega arith, (let m : x ≡ max acc x = omega arith in m ∙ sym e))
+    | inr h ↦ inl (let m : max acc x ≡ acc = omega arith in e ∙ m)
   ]
   | inr w ↦ inr (suc w.0, (let h = w.1 in omega arith), w.2)
 ]
@@ -76,14 +68,11 @@ first_greatest (x ∷ xs) h = elim (greatest_at 0 (x ∷ xs)) [
   | inl e ↦
       let here = below_greatest (x ∷ xs) 0 0 h in
       let same : x ≡ fold max 0 (x ∷ xs) = omega arith in
-      let first = first_no_later (λ n. n == fold max 0 (x ∷ xs)) (x ∷ xs) 0 0 (equal x _ same) in omega arith
+      let first = first_no_later (λ n. n == fold max 0 (x ∷ xs)) (x ∷ xs) 0 0 (eq-eqb x _ same) in omega arith
   | inr w ↦
-      let first = first_no_later (λ n. n == fold max 0 (x ∷ xs)) (x ∷ xs) w.0 0 (equal _ _ w.2) in
+      let first = first_no_later (λ n. n == fold max 0 (x ∷ xs)) (x ∷ xs) w.0 0 (eq-eqb _ _ w.2) in
       let within = w.1 in omega arith
 ]
-  where
-    equal : (a b : ℕ) → a ≡ b → (a == b) ≡ true
-    equal a b e = grind (arith, nat_tests)
 
 -- ---- the last that passes
 

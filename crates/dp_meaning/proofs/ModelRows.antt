@@ -21,59 +21,7 @@ use Rattle.dp_meaning.specs.Scales.{scales_of}
 use Rattle.dp_meaning.specs.Rows.{start_row, table_row, trans_rows, obs_rows, repaired_cells, repair, repair_all}
 use Rattle.dp_meaning.specs.Limits.{passed_limit}
 use Rattle.dp_meaning.specs.Meaning.{Meaning, Means, text_of, rewards_of, model_of, meaning}
-
--- ---- the models
-
-tiger : Model
-tiger = record {
-  states = 2;
-  actions = 3 ∷ 3 ∷ [];
-  observations = 2 ∷ 2 ∷ [];
-  scales = record { start = 2; trans = 2; obs = 10000; reward = 1; discount = 1; gain = 1 };
-  start = 1 ∷ 1 ∷ [];
-  trans = 2 ∷ 0 ∷ 0 ∷ 2 ∷ replicate 32 1;
-  obs = 7225 ∷ 1275 ∷ 1275 ∷ 225 ∷ 225 ∷ 1275 ∷ 1275 ∷ 7225 ∷ replicate 64 2500;
-  reward = flat_map (λ r. replicate 8 r) (
-      negsuc 1 ∷ negsuc 1 ∷ negsuc 100 ∷ pos 9 ∷ pos 9 ∷ negsuc 100
-      ∷ negsuc 100 ∷ pos 9 ∷ negsuc 49 ∷ pos 20 ∷ negsuc 99 ∷ negsuc 99
-      ∷ pos 9 ∷ negsuc 100 ∷ negsuc 99 ∷ negsuc 99 ∷ pos 20 ∷ negsuc 49 ∷ []);
-}
-
-decay : Model
-decay = record {
-  states = 2;
-  actions = 1 ∷ [];
-  observations = 1 ∷ [];
-  scales = record { start = 1; trans = 10 ^ 16; obs = 1; reward = 1; discount = 1; gain = 1 };
-  start = 1 ∷ 0 ∷ [];
-  trans = 1000000000000001 ∷ 8999999999999999 ∷ 0 ∷ 10000000000000000 ∷ [];
-  obs = 1 ∷ 1 ∷ [];
-  reward = pos 1 ∷ pos 1 ∷ pos 0 ∷ pos 0 ∷ [];
-}
-
-blind : Model
-blind = record {
-  states = 1;
-  actions = 1 ∷ [];
-  observations = 2 ∷ [];
-  scales = record { start = 1; trans = 1; obs = 1; reward = 1; discount = 1; gain = 1 };
-  start = 1 ∷ [];
-  trans = 1 ∷ [];
-  obs = 1 ∷ 0 ∷ [];
-  reward = pos 1 ∷ pos 1 ∷ [];
-}
-
-solo : Model
-solo = record {
-  states = 1;
-  actions = 2 ∷ [];
-  observations = 1 ∷ [];
-  scales = record { start = 1; trans = 1; obs = 1; reward = 1; discount = 1; gain = 1 };
-  start = 1 ∷ [];
-  trans = 1 ∷ 1 ∷ [];
-  obs = 1 ∷ 1 ∷ [];
-  reward = pos 1 ∷ pos 3 ∷ [];
-}
+use Rattle.dp_spec.proofs.SmallModels.{blind, decay, solo, tiger}
 
 -- ---- the names of one agent's model
 

@@ -5,7 +5,7 @@ use Rattle.std.specs.List.{find}
 use Rattle.std.proofs.lemmas.Bool.Decides.{nat_tests}
 use Rattle.std.proofs.lemmas.Int.{unsigned_abs-mul, ints}
 use Rattle.std.proofs.lemmas.Nat.{pow-add, mul-le}
-use Rattle.std.proofs.Math.Nat.{pos_of_dvd_of_pos, dvd-mul_left, dvd-mul_right, mul-div_cancel}
+use Rattle.std.proofs.Math.Nat.{dvd-mul_left, dvd-mul_right, mul-div_cancel, mul-pos, pos_of_dvd_of_pos}
 use Rattle.dp_num.specs.declared.decimal.Decimal.{Decimal}
 use Rattle.dp_num.specs.Divisors.{lcm_of}
 use Rattle.dp_num.proofs.DivisorLaws.{lcm_of-IsLcm}
@@ -26,16 +26,15 @@ use Rattle.dp_meaning.specs.Scales.{most_digits, digits_of_value, digits_of_stat
 use Rattle.dp_meaning.proofs.Each.{Each, each_at, each_with, each_from, each_filter, each_reverse}
 use Rattle.dp_meaning.proofs.Lists.{each_below_most, most_below}
 use Rattle.dp_meaning.proofs.ReadStatements.{numbers_in, IsStatement}
+use Rattle.std.proofs.lemmas.Bool.{leb-true}
+use Rattle.dp_spec.proofs.RoundingLaws.{unsigned_abs-neg}
 
 -- ---- scales are not 0
 
 pub some_lcm : (a b : ℕ) → 0 < a → 0 < b → 0 < lcm_of a b
 some_lcm a b ha hb =
     let divides = (lcm_of-IsLcm a b ha).least (a * b) (dvd-mul_right a b) (dvd-mul_left b a) in
-    pos_of_dvd_of_pos divides (some_product a b ha hb)
-  where
-    some_product : (a b : ℕ) → 0 < a → 0 < b → 0 < a * b
-    some_product a b ha hb = let h = mul-le 1 1 a b ha hb in omega arith
+    pos_of_dvd_of_pos divides (mul-pos ha hb)
 
 pub some_scale : (digits : ℕ) (uniform : Bool) (len : ℕ) → 0 < len → 0 < scale_of digits uniform len
 some_scale digits true len h = some_lcm (10 ^ digits) len (some_tens digits) h
@@ -81,12 +80,9 @@ GivesRewards s = Each IsReward (numbers_in s.value)
 reward_parts : (d : Decimal) → is_reward d ≡ true → IsReward d
 reward_parts d e = by (nat_le (unsigned_abs d.units) (10 ^ (8 + d.digits))) refl (nat_le d.digits 9) refl e
   where
-    below : (a b : ℕ) → nat_le a b ≡ true → a ≤ b
-    below a b t = grind (arith, nat_tests)
-
     by : (b : Bool) → nat_le (unsigned_abs d.units) (10 ^ (8 + d.digits)) ≡ b → (c : Bool) → nat_le d.digits 9 ≡ c → (b && c) ≡ true
         → IsReward d
-    by true s true t f = (below _ _ t, below _ _ s)
+    by true s true t f = (leb-true _ _ t, leb-true _ _ s)
     by true s false t f = cc
     by false s c t f = cc
 
@@ -156,11 +152,8 @@ reward_bound cost digits d is h = by cost
         (subst (λ k. k ≤ 10 ^ more) (sym factor) (omega arith)) in
         subst (λ k. k ≤ 10 ^ 8 * 10 ^ digits) (sym times) (subst (λ k. unsigned_abs d.units * (10 ^ digits / 10 ^ d.digits) ≤ k) whole most)
 
-    negated : (z : ℤ) → unsigned_abs (neg_ℤ z) ≡ unsigned_abs z
-    negated z = omega (arith, ints)
-
     by : (cost : Bool) → unsigned_abs (reward_over cost (10 ^ digits) d) ≤ 10 ^ 8 * 10 ^ digits
-    by true = subst (λ k. k ≤ 10 ^ 8 * 10 ^ digits) (sym (negated _)) positive
+    by true = subst (λ k. k ≤ 10 ^ 8 * 10 ^ digits) (sym (unsigned_abs-neg _)) positive
     by false = positive
 
 given_bound : (cost : Bool) (digits : ℕ) (sizes : List ℕ) (fields : ℕ) (cell : Cell) (v : Value) → Each IsReward (numbers_in v)

@@ -11,7 +11,9 @@ use Rattle.dp_meaning.specs.declared.why.Why.TheVariants.{RowSum}
 use Rattle.dp_meaning.specs.Faults.{fault}
 use Rattle.dp_meaning.specs.Rows.{Row, Repaired, greatest_cell, greatest_place, repaired_cells, is_near, repair_at, row_place, repair, repair_all}
 use Rattle.dp_meaning.proofs.FaultSteps.{done, ok_same, err_not_ok, bind_ok}
-use Rattle.dp_meaning.proofs.Lists.{below_greatest, first_greatest, nat_sum_ext, sum_of_places}
+use Rattle.dp_meaning.proofs.Lists.{below_greatest, first_greatest, sum_of_places}
+use Rattle.dp_spec.proofs.NaturalSumLaws.{nat_sum_ext}
+use Rattle.std.proofs.lemmas.Bool.{eqb-true, cases_eq}
 
 -- ---- one row
 
@@ -26,15 +28,12 @@ sum_of_repaired scale [] short near = let h = near_parts scale 0 near in omega a
 sum_of_repaired scale (x ∷ xs) short near =
     let first = first_greatest (x ∷ xs) (omega arith) in
     let at : get_or (x ∷ xs) (position_or_len (λ n. n == greatest_cell (x ∷ xs)) (x ∷ xs)) 0 ≡ greatest_cell (x ∷ xs) =
-    equal _ _ (passes_at_first (λ n. n == greatest_cell (x ∷ xs)) (x ∷ xs) 0 first) in
+    eqb-true _ _ (passes_at_first (λ n. n == greatest_cell (x ∷ xs)) (x ∷ xs) 0 first) in
     let written = sum_by-set (λ n. n) (x ∷ xs) (position_or_len (λ n. n == greatest_cell (x ∷ xs)) (x ∷ xs))
     (greatest_cell (x ∷ xs) + scale - sum (x ∷ xs)) 0 first in
     let most = sum_by-le (λ n. n) (greatest_cell (x ∷ xs)) (x ∷ xs) (below_greatest (x ∷ xs)) in
     enough (length (x ∷ xs)) (greatest_cell (x ∷ xs)) scale (sum (x ∷ xs)) _ _ short most (near_parts scale (sum (x ∷ xs)) near) at written
   where
-    equal : (a b : ℕ) → (a == b) ≡ true → a ≡ b
-    equal a b e = grind (arith, nat_tests)
-
     enough : (len greatest scale total cell new : ℕ) → len < 1000 → total ≤ len * greatest
         → ((scale - total) + (total - scale)) * 1000 ≤ scale
         → cell ≡ greatest → new + cell ≡ total + (greatest + scale - total) → new ≡ scale
@@ -45,11 +44,11 @@ sum_of_repaired scale (x ∷ xs) short near =
 pub zero_of_repaired : (scale : ℕ) (cells : List ℕ) (i : ℕ) → i < length cells → is_near scale (sum cells) ≡ true → get_or cells i 0 ≡ 0
     → get_or (repaired_cells scale cells) i 0 ≡ 0
 unfolding repaired_cells
-zero_of_repaired scale cells i h near none = elim (dec_eq i place) [
+zero_of_repaired scale cells i h near none = elim (cases_eq i place) [
   | inl e ↦
       let at = passes_at_first (λ n. n == greatest_cell cells) cells 0 (subst (λ k. k < length cells) e h) in
       let most = sum_by-le (λ n. n) (greatest_cell cells) cells (below_greatest cells) in
-      let greatest : greatest_cell cells ≡ 0 = sym (equal _ _ at) ∙ ap (λ k. get_or cells k 0) (sym e) ∙ none in
+      let greatest : greatest_cell cells ≡ 0 = sym (eqb-true _ _ at) ∙ ap (λ k. get_or cells k 0) (sym e) ∙ none in
       ap (λ k. get_or (set cells place new) k 0) e ∙ get_or-set_same cells place new 0 (subst (λ k. k < length cells) e h)
       ∙ nothing (length cells) (greatest_cell cells) scale (sum cells) greatest most (near_parts scale (sum cells) near)
   | inr ne ↦ get_or-set_other cells place i new 0 ne ∙ none
@@ -60,12 +59,6 @@ zero_of_repaired scale cells i h near none = elim (dec_eq i place) [
 
     new : ℕ
     new = greatest_cell cells + scale - sum cells
-
-    equal : (a b : ℕ) → (a == b) ≡ true → a ≡ b
-    equal a b e = grind (arith, nat_tests)
-
-    dec_eq : (k n : ℕ) → (k ≡ n) ⊎ (k ≢ n)
-    dec_eq k n = grind arith
 
     nothing : (len greatest scale total : ℕ) → greatest ≡ 0 → total ≤ len * greatest → ((scale - total) + (total - scale)) * 1000 ≤ scale
         → greatest + scale - total ≡ 0
@@ -88,9 +81,6 @@ repaired_at : (at scale : ℕ) (given : List ℕ) (x : Repaired) → repair_at a
 unfolding repaired_cells
 repaired_at at scale given x e = by (sum given == scale) refl (is_near scale (sum given)) refl e
   where
-    equal : (a b : ℕ) → (a == b) ≡ true → a ≡ b
-    equal a b f = grind (arith, nat_tests)
-
     itself : (n : ℕ) → is_near n n ≡ true
     itself n = let small : ((n - n) + (n - n)) * 1000 ≤ n = omega arith in grind (arith, nat_tests)
 
@@ -104,10 +94,10 @@ repaired_at at scale given x e = by (sum given == scale) refl (is_near scale (su
     by true s n m f = let same = ok_same _ x f in subst (IsRepair scale given) same (record {
       len = refl;
       count = ap (λ b. cond (not b) 1 0) (sym s);
-      sums = λ h. equal _ _ s;
+      sums = λ h. eqb-true _ _ s;
       zeros = λ i h z. z;
       kept = λ h. refl;
-      near = ap (is_near scale) (equal _ _ s) ∙ itself scale;
+      near = ap (is_near scale) (eqb-true _ _ s) ∙ itself scale;
       others = λ i ne. refl;
     })
     by false s true m f = let same = ok_same _ x f in subst (IsRepair scale given) same (record {

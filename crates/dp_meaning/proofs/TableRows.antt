@@ -14,10 +14,11 @@ use Rattle.dp_meaning.specs.Statements.{axes_of}
 use Rattle.dp_meaning.specs.Cells.{covers, statements_for, chance_of_cell}
 use Rattle.dp_meaning.specs.Text.{states_in, joint_actions_in}
 use Rattle.dp_meaning.specs.Rows.{is_near, greatest_place, Row, Repaired, row_cells, table_row, table_rows, repair_all}
-use Rattle.dp_meaning.proofs.CellNumbers.{parts_of_row, row_below}
+use Rattle.dp_meaning.proofs.CellNumbers.{parts_of_row}
 use Rattle.dp_meaning.proofs.FaultSteps.{done}
 use Rattle.dp_meaning.proofs.CellValues.{chance_uncovered}
 use Rattle.dp_meaning.proofs.Repairs.{IsRepair, row_of_all, length_of_all, sum_of_row}
+use Rattle.dp_spec.proofs.JointNumberLaws.{row_below}
 
 -- ---- one row
 
@@ -82,7 +83,7 @@ table_is end text table scale len x e = record { size = size; row = row }
         → (y : Repaired) × IsRepair scale (given_row text table scale len a s).cells y
         × ((j : ℕ) → j < len → get_or x.cells ((a * states_in text + s) * len + j) 0 ≡ get_or y.cells j 0)
     row a s ha hs =
-        let within = row_below (joint_actions_in text) (states_in text) a s ha hs in
+        let within = row_below a (joint_actions_in text) (states_in text) s ha hs in
         let d = given_row text table scale len a s in
         let w = row_of_all end len (map row_at (range_with_len 0 count)) x row_len e (a * states_in text + s) d
         (subst (λ n. a * states_in text + s < n) (sym rows_count) within) in

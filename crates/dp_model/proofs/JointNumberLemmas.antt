@@ -1,4 +1,4 @@
--- Laws of joint numbers and their parts.
+-- The steps of a numbering, from the last agent to the first.
 use Rattle.std.specs.Prelude.{◌==◌, slice_set}
 use Rattle.std.proofs.lemmas.Grind.{get_or-set_at}
 use Rattle.std.proofs.lemmas.List.{get_or-set_other}
@@ -11,91 +11,12 @@ use Rattle.std.proofs.lemmas.Nat.Gcd.{dvd_refl, dvd_trans}
 use Rattle.std.proofs.Math.Seq.{drop-cons}
 use Rattle.std.specs.Int.{◌∣◌}
 use Rattle.dp_spec.specs.JointNumbers.{joint_number, product}
-use Rattle.dp_model.specs.Parts.{AreParts, AreSteps, part_of}
+use Rattle.dp_model.specs.Parts.{AreParts, AreSteps}
+use Rattle.dp_spec.proofs.JointNumberLaws.{AreBelow, below_each, product-drop}
 
--- where a product is above 0, both factors are
-pub right_above : (n k : ℕ) → 0 < n * k → 0 < k
-right_above n zero h = absurd (omega arith)
-right_above n (suc k) h = omega arith
-
-pub left_above : (n k : ℕ) → 0 < n * k → 0 < n
-left_above zero k h = absurd (omega arith)
-left_above (suc n) k h = omega arith
-
--- the product from agent i on is agent i's number times the product behind it
-pub product-drop : (ns : List ℕ) (i : ℕ) → i < length ns → product (drop i ns) ≡ get_or ns i 0 * product (drop (suc i) ns)
-product-drop ns i lt = rw (drop-cons ns i 0 lt) refl
-
--- no part of a product above 0 is 0, or more than the product
-pub product-drop_above : (ns : List ℕ) (i : ℕ) → 0 < product ns → 0 < product (drop i ns)
-product-drop_above ns zero some = some
-product-drop_above [] (suc i) some = some
-product-drop_above (n ∷ ns) (suc i) some = product-drop_above ns i (right_above n (product ns) some)
-
-pub product-drop_le : (ns : List ℕ) (i : ℕ) → 0 < product ns → product (drop i ns) ≤ product ns
-product-drop_le ns zero some = omega arith
-product-drop_le [] (suc i) some = omega arith
-product-drop_le (n ∷ ns) (suc i) some =
-    let one : 0 < n = left_above n (product ns) some in
-    let more : product ns ≤ product ns * n = le-mul_of_pos_right (product ns) one in
-    omega (arith, product-drop_le ns i (right_above n (product ns) some))
-
-pub size_above : (ns : List ℕ) (i : ℕ) → 0 < product ns → i < length ns → 0 < get_or ns i 0
-size_above [] i some lt = absurd (omega arith)
-size_above (n ∷ ns) zero some lt = left_above n (product ns) some
-size_above (n ∷ ns) (suc i) some lt = size_above ns i (right_above n (product ns) some) (omega arith)
-
--- the middle digits of x
-pub mod-div : (x n k : ℕ) → 0 < n → 0 < k → x % (n * k) / k ≡ x / k % n
-mod-div x n k some_n some_k =
-    let q : ℕ = x / k in
-    let low : x % k < k = mod_below x k some_k in
-    let middle : x / k % n < n = mod_below (x / k) n some_n in
-    let inner : x / k % n * k + x % k < n * k = omega (arith, mul-add-lt (x / k % n) k (x % k) n middle low) in
-    let split : x ≡ x / k / n * (n * k) + (x / k % n * k + x % k) =
-    sym (div-add-mod x k) ∙ ap (λ y. k * y + x % k) (sym (div-add-mod (x / k) n)) ∙ omega arith in
-    ap (λ y. y % (n * k) / k) split
-    ∙ ap (λ y. y / k) (mod-mul-add (x / k / n) (n * k) (x / k % n * k + x % k) inner)
-    ∙ div-mul-add (x / k % n) k (x % k) low
-
-pub product-drop_dvd : (ns : List ℕ) (i : ℕ) → product (drop i ns) ∣ product ns
-product-drop_dvd ns zero = dvd_refl _
-product-drop_dvd [] (suc i) = dvd_refl _
-product-drop_dvd (n ∷ ns) (suc i) = dvd_trans (product (drop i ns)) (product-drop_dvd ns i) (dvd-mul_left (product ns) n)
-
--- a part is what is left of the number by the agents before, over what the agents behind make up
-pub part-rest : (ns : List ℕ) (x i : ℕ) → x < product ns → i < length ns → part_of ns x i ≡ x % product (drop i ns) / product (drop (suc i) ns)
-part-rest [] x i lt agent = absurd (omega arith)
-part-rest (n ∷ ns) x zero lt agent = ap (λ y. y / product ns) (sym (mod-eq_of_lt lt))
-part-rest (n ∷ ns) x (suc i) lt agent =
-    let some : 0 < n * product ns = omega arith in
-    let below : x % product ns < product ns = mod_below x (product ns) (right_above n (product ns) some) in
-    part-rest ns (x % product ns) i below (omega arith)
-    ∙ ap (λ y. y / product (drop (suc i) ns)) (mod-mod_of_dvd (product (drop i ns)) x (product-drop_dvd ns i))
-
--- a part by one quotient and one remainder
-pub part-is : (ns : List ℕ) (x i : ℕ) → x < product ns → i < length ns → part_of ns x i ≡ x / product (drop (suc i) ns) % get_or ns i 0
-part-is ns x i lt agent =
-    let some : 0 < product ns = omega arith in
-    part-rest ns x i lt agent
-    ∙ ap (λ y. x % y / product (drop (suc i) ns)) (product-drop ns i agent)
-    ∙ mod-div x (get_or ns i 0) (product (drop (suc i) ns)) (size_above ns i some agent) (product-drop_above ns (suc i) some)
-
--- the joint number from agent i on
-pub joint_number-drop : (ns ps : List ℕ) (i : ℕ) → length ps ≡ length ns → i < length ns →
-    joint_number (drop i ns) (drop i ps) ≡ get_or ps i 0 * product (drop (suc i) ns) + joint_number (drop (suc i) ns) (drop (suc i) ps)
-joint_number-drop ns ps i alike agent =
-    let there : i < length ps = omega arith in
-    rw (drop-cons ns i 0 agent, drop-cons ps i 0 there) refl
-
--- a joint number is below the product
-pub joint_number_below : (ns ps : List ℕ) → AreParts ns ps → joint_number ns ps < product ns
-joint_number_below [] ps h = omega arith
-joint_number_below (n ∷ ns) [] h = absurd (let e : 0 ≡ suc (length ns) = h.alike in cc)
-joint_number_below (n ∷ ns) (p ∷ ps) h =
-    let first : p < n = h.below 0 (omega arith) in
-    let rest : AreParts ns ps = record { alike = let e : suc (length ps) ≡ suc (length ns) = h.alike in cc; below = λ i lt. h.below (suc i) (omega arith) } in
-    omega (arith, mul-add-lt p (product ns) (joint_number ns ps) n first (joint_number_below ns ps rest))
+-- one part for each agent, below the agent's number
+pub are_below : (ns ps : List ℕ) → AreParts ns ps → AreBelow ns ps
+are_below ns ps h = below_each ns ps h.alike h.below
 
 -- one agent more, from behind
 pub back-count : (ns : List ℕ) (j agent count : ℕ) → agent ≡ suc j → j < length ns → count ≡ product (drop agent ns) → count * get_or ns j 0 ≡ product (drop j ns)

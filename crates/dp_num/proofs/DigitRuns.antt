@@ -2,28 +2,19 @@
 use Rattle.std.proofs.Common.{◌≡◌, ℕ, ◌+◌, ◌-◌, ◌<◌, ◌≤◌, Bool, true, false, ◌&&◌, leb, ◌⊎◌, inl, inr, List, [], ◌∷◌, ◌++◌, length, get_or, take, sym, ap, subst, refl, ◌∙◌, append_assoc, arith}
 use Rattle.std.specs.Char.{is_ascii_digit}
 use Rattle.std.specs.List.{prefix_len}
-use Rattle.std.proofs.lemmas.Bool.{leb-true}
+use Rattle.std.proofs.lemmas.Bool.{and_parts, leb-true}
 use Rattle.std.proofs.lemmas.List.{take_more}
 use Rattle.std.proofs.lemmas.List.Sums.{prefix_len_passes, prefix_len_stops, prefix_len-le-length}
 use Rattle.dp_num.specs.declared.significand.Significand.{Significand}
 use Rattle.dp_num.specs.Significands.{IsSeen}
 
--- the parts of a test
-pub left : (a b : Bool) → (a && b) ≡ true → a ≡ true
-left true b h = refl
-left false b h = h
-
-pub right : (a b : Bool) → (a && b) ≡ true → b ≡ true
-right true b h = h
-right false b h = absurd cc
-
 -- the byte of a digit is at least 48
 pub digit_low : (b : ℕ) → is_ascii_digit b ≡ true → 48 ≤ b
-digit_low b digit = leb-true 48 b (left (leb 48 b) (leb b 57) digit)
+digit_low b digit = leb-true 48 b (and_parts (leb 48 b) (leb b 57) digit).0
 
 -- and at most 57
 pub digit_high : (b : ℕ) → is_ascii_digit b ≡ true → b ≤ 57
-digit_high b digit = leb-true b 57 (right (leb 48 b) (leb b 57) digit)
+digit_high b digit = leb-true b 57 (and_parts (leb 48 b) (leb b 57) digit).1
 
 -- a bound is reached or not
 cases : (i n : ℕ) → i ≤ n → (n ≡ i) ⊎ (i < n)

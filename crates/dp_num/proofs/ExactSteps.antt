@@ -3,14 +3,14 @@ use Rattle.std.proofs.Common.{◌≡◌, ℕ, zero, suc, ◌+◌, ◌*◌, ◌^�
 use Rattle.std.proofs.lemmas.Grind.{common_steps}
 use Rattle.std.proofs.lemmas.Int.{fits_signed_from_abs, to_z-of_z, to_z_pos, unsigned_abs-mul}
 use Rattle.std.proofs.lemmas.Nat.{mul-mod}
-use Rattle.std.proofs.Math.Nat.{mod-eq_of_lt, mul-le-mul_left, pow-le-pow_left, pow-suc, pow-zero}
+use Rattle.std.proofs.Math.Nat.{le-mul_of_pos_right, mod-eq_of_lt, mul-le-mul_left, mul-pos, pow-le-pow_left, pow-suc, pow-zero}
 use Rattle.std.proofs.Math.Pow.{pow_mono}
 use mir.Syntax.{w128}
 use mir.Val.{SFits}
 use Rattle.dp_spec.specs.declared.scales.Scales.{Scales}
 use Rattle.dp_spec.specs.Arithmetic.{reward_factor}
 use Rattle.dp_spec.specs.Calls.{AreInRange}
-use Rattle.dp_laws.proofs.Ring.{by_ring, v, ◌⊗◌}
+use Rattle.dp_laws.proofs.Ring.{by_ring, v, zmul_assoc, ◌⊗◌}
 use Rattle.dp_num.specs.RewardFactors.{HoldsFactors}
 
 -- with no step left it is the scale of the discount
@@ -32,17 +32,11 @@ one_step_mod c k x a b d n e p q r =
     let step : a * b * d ≡ c.trans * c.obs * c.discount = cc in
     rw (e, step, add-one) (sym (mul-mod (reward_factor c k) (c.trans * c.obs * c.discount) n) ∙ ap (λ (x : ℕ). x % n) (sym (one_step c k)))
 
-le_times : (a K : ℕ) → 0 < K → a ≤ a * K
-le_times a K some = omega (arith, mul-le-mul_left a some)
-
-both_some : (a b : ℕ) → 0 < a → 0 < b → 0 < a * b
-both_some a b p q = let le = le_times a b q in omega arith
-
 -- it is at least 1
 pub some_factor : (c : Scales) → AreInRange c → (k : ℕ) → 0 < reward_factor c k
 some_factor c are zero = let e = no_step c in let some = are.discount.0 in omega arith
 some_factor c are (suc k) =
-    let rest = some_factor c are k in rw (one_step c k) (both_some _ _ rest (both_some _ _ (both_some _ _ are.trans.0 are.obs.0) are.discount.0))
+    let rest = some_factor c are k in rw (one_step c k) (mul-pos rest (mul-pos (mul-pos are.trans.0 are.obs.0) are.discount.0))
 
 -- the first place of the table
 pub first_factor : (c : Scales) → AreInRange c → (x : ℕ) → x ≡ c.discount → x ≡ reward_factor c 0 % 2 ^ 128
@@ -60,13 +54,13 @@ pub late_factor : (c : Scales) → AreInRange c → (rest : ℕ) → 127 ≤ res
 unfolding reward_factor
 late_factor c are rest late room =
     let K = c.trans * c.obs * c.discount in
-    elim (cases K (both_some _ _ (both_some _ _ are.trans.0 are.obs.0) are.discount.0)) [
+    elim (cases K (mul-pos (mul-pos are.trans.0 are.obs.0) are.discount.0)) [
       | inl one ↦ rw one (rw (ones 126, ones rest) refl)
       | inr more ↦
           let power : 2 ^ rest ≤ K ^ rest = pow-le-pow_left more rest in
           let wide : 2 ^ 127 ≤ 2 ^ rest = pow_mono late in
           let some : 0 < c.discount = are.discount.0 in
-          let all : K ^ rest ≤ K ^ rest * c.discount = le_times (K ^ rest) c.discount some in
+          let all : K ^ rest ≤ K ^ rest * c.discount = le-mul_of_pos_right (K ^ rest) some in
           absurd (omega arith)
     ]
   where
@@ -92,10 +86,6 @@ factor_at c are rest place x room at e =
 
 -- ---- products that fit
 
--- products taken together from the right
-pub zmul_assoc : (a b c : ℤ) → (a *ℤ b) *ℤ c ≡ a *ℤ (b *ℤ c)
-zmul_assoc a b c = by_ring (v a ⊗ v b ⊗ v c) (v a ⊗ (v b ⊗ v c)) (omega arith)
-
 -- a factor of a number that is not 0 is no greater than the product
 factor_fits : (x : ℤ) (n : ℕ) → (x ≡ pos 0 → ⊥) → unsigned_abs (x *ℤ pos n) < 2 ^ 127 → n < 2 ^ 127
 factor_fits (pos zero) n some room = absurd (some refl)
@@ -113,7 +103,7 @@ pub carry_fits : (x : ℤ) (p o g q : ℕ) → 0 < o → q ≡ p * g → unsigne
 carry_fits x p o g q some e room =
     let whole : unsigned_abs (x *ℤ pos (p * o * g)) ≡ unsigned_abs x * (p * o * g) = unsigned_abs-mul x (pos (p * o * g)) in
     let part : unsigned_abs (x *ℤ pos q) ≡ unsigned_abs x * q = unsigned_abs-mul x (pos q) in
-    let grown = le_times (unsigned_abs x * (p * g)) o some in
+    let grown = le-mul_of_pos_right (unsigned_abs x * (p * g)) some in
     let swapped = swap_last (unsigned_abs x) p o g in
     let same = ap (λ (k : ℕ). unsigned_abs x * k) e in
     omega arith
@@ -138,7 +128,7 @@ pub part_fits : (x y : ℤ) (n : ℕ) → 0 < n → unsigned_abs (x *ℤ (y *ℤ
 part_fits x y n some room =
     let whole : unsigned_abs (x *ℤ (y *ℤ pos n)) ≡ unsigned_abs x * (unsigned_abs y * n) = unsigned_abs-mul x (y *ℤ pos n) ∙ ap (λ (k : ℕ). unsigned_abs x * k) (unsigned_abs-mul y (pos n)) in
     let part : unsigned_abs (x *ℤ y) ≡ unsigned_abs x * unsigned_abs y = unsigned_abs-mul x y in
-    let grown = le_times (unsigned_abs x * unsigned_abs y) n some in
+    let grown = le-mul_of_pos_right (unsigned_abs x * unsigned_abs y) some in
     let regroup = times_assoc (unsigned_abs x) (unsigned_abs y) n in
     omega arith
   where

@@ -3,14 +3,14 @@ use Rattle.std.proofs.Common.{◌≡◌, ℕ, suc, ◌+◌, ◌<◌, Bool, true,
 use Rattle.std.specs.Prelude.{IsTrue, ◌↔◌}
 use Rattle.std.specs.List.{prefix_len, list_all}
 use Rattle.std.specs.Char.{is_ascii_digit}
-use Rattle.std.proofs.lemmas.Bool.{leb-true, ltb-true, eqb-true, le-leb, lt-ltb, ne_eqb}
+use Rattle.std.proofs.lemmas.Bool.{and_parts, eqb-true, le-leb, leb-true, lt-ltb, ltb-true, ne_eqb, or_cases}
 use Rattle.std.proofs.lemmas.List.{take-append-drop, append-nil}
 use Rattle.std.proofs.Math.Seq.{drop-append_seam}
 use Rattle.std.proofs.lemmas.List.Folds.{length-prefix_len}
 use Rattle.dp_num.specs.Bytes.{is_sign}
 use Rattle.dp_num.specs.DecimalShape.{first, unsigned, digit_count, after_digits, is_power, is_exponent, is_magnitude, is_decimal}
 use Rattle.dp_num.specs.DecimalGrammar.{AreDigits, IsOptionalSign, IsOptionalPoint, IsPower, IsOptionalExponent, HasDecimalShape}
-use Rattle.dp_num.proofs.DigitRuns.{digit_low, left, right}
+use Rattle.dp_num.proofs.DigitRuns.{digit_low}
 use Rattle.dp_num.proofs.Magnitudes.{pointed_shape, plain_shape}
 
 -- ---- from the parts to the test
@@ -20,8 +20,8 @@ front_count : (ds rest : List ℕ) → AreDigits ds → is_ascii_digit (first re
 front_count [] [] all other = refl
 front_count [] (r ∷ rest) all other = rw other refl
 front_count (d ∷ ds) rest all other =
-    let here = left (is_ascii_digit d) (list_all is_ascii_digit ds) all in
-    let more = front_count ds rest (right (is_ascii_digit d) (list_all is_ascii_digit ds) all) other in
+    let here = (and_parts (is_ascii_digit d) (list_all is_ascii_digit ds) all).0 in
+    let more = front_count ds rest (and_parts (is_ascii_digit d) (list_all is_ascii_digit ds) all).1 other in
     rw here (omega (arith, more))
 
 -- so these are all of them
@@ -45,7 +45,7 @@ digit_no_sign b digit =
 -- nor is the first of some digits
 first_no_sign : (ds rest : List ℕ) → AreDigits ds → 0 < length ds → is_sign (first (ds ++ rest)) ≡ false
 first_no_sign [] rest all some = absurd (omega arith)
-first_no_sign (d ∷ ds) rest all some = digit_no_sign d (left (is_ascii_digit d) (list_all is_ascii_digit ds) all)
+first_no_sign (d ∷ ds) rest all some = digit_no_sign d (and_parts (is_ascii_digit d) (list_all is_ascii_digit ds) all).0
 
 -- a power passes its test
 power_true : (text : List ℕ) → IsPower text → is_power (unsigned text) ≡ true
@@ -75,7 +75,7 @@ exponent_no_point (letter ∷ power) (inr l, p) = rw l refl
 digits_append : (a b : List ℕ) → AreDigits a → AreDigits b → AreDigits (a ++ b)
 digits_append [] b p q = q
 digits_append (x ∷ a) b p q =
-    rw (left (is_ascii_digit x) (list_all is_ascii_digit a) p) (digits_append a b (right (is_ascii_digit x) (list_all is_ascii_digit a) p) q)
+    rw (and_parts (is_ascii_digit x) (list_all is_ascii_digit a) p).0 (digits_append a b (and_parts (is_ascii_digit x) (list_all is_ascii_digit a) p).1 q)
 
 -- digits and an exponent pass the test
 plain_true : (ds exponent : List ℕ) → AreDigits ds → 0 < length ds → IsOptionalExponent exponent → is_magnitude (ds ++ exponent) ≡ true
@@ -113,7 +113,7 @@ magnitude_true whole (b ∷ c ∷ rest) fraction exponent w m f some e = absurd 
 -- and begin with no sign
 no_sign : (whole mark fraction exponent : List ℕ) → AreDigits whole → IsOptionalPoint mark → AreDigits fraction → 0 < length whole + length fraction
     → is_sign (first (whole ++ (mark ++ (fraction ++ exponent)))) ≡ false
-no_sign (d ∷ ds) mark fraction exponent w m f some = digit_no_sign d (left (is_ascii_digit d) (list_all is_ascii_digit ds) w)
+no_sign (d ∷ ds) mark fraction exponent w m f some = digit_no_sign d (and_parts (is_ascii_digit d) (list_all is_ascii_digit ds) w).0
 no_sign [] [] fraction exponent w m f some = first_no_sign fraction exponent f (omega (arith, some))
 no_sign [] (b ∷ []) fraction exponent w m f some = rw m refl
 no_sign [] (b ∷ c ∷ rest) fraction exponent w m f some = absurd m
@@ -157,21 +157,16 @@ run_digits (b ∷ rest) = by_digit b rest (is_ascii_digit b) refl (run_digits re
         let count : digit_count (b ∷ rest) ≡ 0 = rw e refl in
         subst (λ n. AreDigits (take n (b ∷ rest))) (sym count) refl
 
--- one of two tests
-either : (a b : Bool) → (a || b) ≡ true → (a ≡ true) ⊎ (b ≡ true)
-either true b h = inl refl
-either false b h = inr h
-
 -- an exponent that passes its test has the parts
 exponent_parts : (text : List ℕ) → is_exponent text ≡ true → IsOptionalExponent text
 exponent_parts [] h = tt
 exponent_parts (l ∷ power) h =
     let some : eqb (length (l ∷ power)) 0 ≡ false = ne_eqb _ 0 (λ e. absurd (omega arith)) in
     let both : ((eqb l 101 || eqb l 69) && is_power (unsigned power)) ≡ true = rw some at h in
-    let which = either (eqb l 101) (eqb l 69) (left (eqb l 101 || eqb l 69) (is_power (unsigned power)) both) in
+    let which = or_cases (eqb l 101) (eqb l 69) (and_parts (eqb l 101 || eqb l 69) (is_power (unsigned power)) both).0 in
     let digits = unsigned power in
-    let test : ((leb 1 (length (unsigned power)) && leb (length (unsigned power)) 3) && list_all is_ascii_digit (unsigned power)) ≡ true = right (eqb l 101 || eqb l 69) (is_power (unsigned power)) both in
-    let count = left (leb 1 (length digits) && leb (length digits) 3) (list_all is_ascii_digit digits) test in
+    let test : ((leb 1 (length (unsigned power)) && leb (length (unsigned power)) 3) && list_all is_ascii_digit (unsigned power)) ≡ true = (and_parts (eqb l 101 || eqb l 69) (is_power (unsigned power)) both).1 in
+    let count = (and_parts (leb 1 (length digits) && leb (length digits) 3) (list_all is_ascii_digit digits) test).0 in
     let s = split_sign power in (
       elim which as (λ x. (l ≡ 101) ⊎ (l ≡ 69)) [ inl e ↦ inl (eqb-true l 101 e) | inr e ↦ inr (eqb-true l 69 e) ],
       record {
@@ -179,9 +174,9 @@ exponent_parts (l ∷ power) h =
         digits = digits;
         text_is = s.text_is;
         sign_is = s.sign_is;
-        digits_are = right (leb 1 (length digits) && leb (length digits) 3) (list_all is_ascii_digit digits) test;
-        some = leb-true 1 (length digits) (left (leb 1 (length digits)) (leb (length digits) 3) count);
-        few = leb-true (length digits) 3 (right (leb 1 (length digits)) (leb (length digits) 3) count);
+        digits_are = (and_parts (leb 1 (length digits) && leb (length digits) 3) (list_all is_ascii_digit digits) test).1;
+        some = leb-true 1 (length digits) (and_parts (leb 1 (length digits)) (leb (length digits) 3) count).0;
+        few = leb-true (length digits) 3 (and_parts (leb 1 (length digits)) (leb (length digits) 3) count).1;
       },
     )
 
@@ -203,7 +198,7 @@ module _ (text number : List ℕ) (s : Signed text) (same : number ≡ unsigned 
   pointed_parts : eqb (first rest) 46 ≡ true → is_magnitude number ≡ true → HasDecimalShape text
   pointed_parts hit h =
       let both : (ltb 0 (digit_count number + digit_count (drop 1 rest)) && is_exponent (after_digits (drop 1 rest))) ≡ true = rw hit at h in
-      let count = ltb-true 0 _ (left (ltb 0 (digit_count number + digit_count (drop 1 rest))) _ both) in
+      let count = ltb-true 0 _ (and_parts (ltb 0 (digit_count number + digit_count (drop 1 rest))) _ both).0 in
       record {
         sign = s.sign;
         whole = take (digit_count number) number;
@@ -218,14 +213,14 @@ module _ (text number : List ℕ) (s : Signed text) (same : number ≡ unsigned 
         mark_is = refl;
         fraction_are = run_digits (drop 1 rest);
         some = omega (arith, count, length-prefix_len is_ascii_digit number, length-prefix_len is_ascii_digit (drop 1 rest));
-        exponent_is = exponent_parts (after_digits (drop 1 rest)) (right (ltb 0 (digit_count number + digit_count (drop 1 rest))) (is_exponent (after_digits (drop 1 rest))) both);
+        exponent_is = exponent_parts (after_digits (drop 1 rest)) (and_parts (ltb 0 (digit_count number + digit_count (drop 1 rest))) (is_exponent (after_digits (drop 1 rest))) both).1;
       }
 
   -- and of one without
   plain_parts : eqb (first rest) 46 ≡ false → is_magnitude number ≡ true → HasDecimalShape text
   plain_parts miss h =
       let both : (ltb 0 (digit_count number) && is_exponent rest) ≡ true = rw miss at h in
-      let count = ltb-true 0 _ (left (ltb 0 (digit_count number)) _ both) in
+      let count = ltb-true 0 _ (and_parts (ltb 0 (digit_count number)) _ both).0 in
       record {
         sign = s.sign;
         whole = take (digit_count number) number;
@@ -238,7 +233,7 @@ module _ (text number : List ℕ) (s : Signed text) (same : number ≡ unsigned 
         mark_is = tt;
         fraction_are = refl;
         some = omega (arith, count, length-prefix_len is_ascii_digit number);
-        exponent_is = exponent_parts rest (right (ltb 0 (digit_count number)) (is_exponent rest) both);
+        exponent_is = exponent_parts rest (and_parts (ltb 0 (digit_count number)) (is_exponent rest) both).1;
       }
 
   -- of each number

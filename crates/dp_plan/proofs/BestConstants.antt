@@ -2,10 +2,9 @@
 use Rattle.std.proofs.Common.{◌≡◌, ◌⊎◌, ⊎_elim, true, false, ℕ, zero, suc, ◌<◌, ℤ, ◌≤ℤ◌, ◌<ℤ◌, refl, sym, ap, ◌∙◌, arith}
 use Rattle.std.proofs.lemmas.Int.{ints, clamps}
 use Rattle.std.specs.Int.Signed.{lt_z, lt_z_yes, lt_z_no}
-use Rattle.dp_laws.proofs.Best.{best_below}
 use Rattle.dp_laws.proofs.ConstantPolicies.{constant_policy_fits, root_bound_at_one}
 use Rattle.dp_laws.proofs.ExactArithmetic.{exact_sound}
-use Rattle.dp_laws.proofs.Order.{equal_of_le}
+use Rattle.dp_laws.proofs.Order.{equal_of_le, last_or_before}
 use Rattle.dp_laws.proofs.ValidCertificates.{claims_hold}
 use Rattle.dp_laws.proofs.QuantityLaws.{exact_quantities, worth_enclosed}
 use Rattle.dp_spec.specs.declared.span.Span.{Span}
@@ -23,6 +22,7 @@ use Rattle.dp_spec.specs.Sums.{greatest, numbers_below}
 use Rattle.dp_plan.specs.BestConstant.{IsBestConstant, IsFirstGreatest, constant_value}
 use Rattle.dp_plan.specs.ConstantCertificate.{constant_certificate}
 use Rattle.dp_plan.proofs.Modes.{within_one_step}
+use Rattle.dp_laws.proofs.GreatestValues.{greatest_below_at_most, le_greatest_below}
 
 -- ---- the first greatest, one number after the other
 
@@ -32,9 +32,6 @@ less_where_true a b e = lt_z_yes (rw e tt)
 
 pub at_most_where_false : (a b : ℤ) → lt_z a b ≡ false → b ≤ℤ a
 at_most_where_false a b e = lt_z_no (rw e tt)
-
-one_more : (k n : ℕ) → k < suc n → (k < n) ⊎ (k ≡ n)
-one_more k n h = grind arith
 
 -- of one number
 pub first_of_one : (f : ℕ → ℤ) → IsFirstGreatest f 1 0
@@ -48,7 +45,7 @@ first_of_one f = record {
 pub next_is_first : (f : ℕ → ℤ) (n first : ℕ) → IsFirstGreatest f n first → f first <ℤ f n → IsFirstGreatest f (suc n) n
 next_is_first f n first h more = record {
   below = omega arith;
-  greatest = λ k p. ⊎_elim (λ lt. let le = h.greatest k lt in omega (arith, ints)) (λ is. rw is (omega (arith, ints))) (one_more k n p);
+  greatest = λ k p. ⊎_elim (λ is. rw is (omega (arith, ints))) (λ lt. let le = h.greatest k lt in omega (arith, ints)) (last_or_before k n p);
   least = λ k p. let le = h.greatest k p in omega (arith, ints);
 }
 
@@ -56,25 +53,16 @@ next_is_first f n first h more = record {
 pub next_is_no_first : (f : ℕ → ℤ) (n first : ℕ) → IsFirstGreatest f n first → f n ≤ℤ f first → IsFirstGreatest f (suc n) first
 next_is_no_first f n first h less = record {
   below = let lt = h.below in omega arith;
-  greatest = λ k p. ⊎_elim (λ lt. h.greatest k lt) (λ is. rw is less) (one_more k n p);
+  greatest = λ k p. ⊎_elim (λ is. rw is less) (λ lt. h.greatest k lt) (last_or_before k n p);
   least = h.least;
 }
 
 -- ---- the greatest value
 
--- a number that is at least each value of a list is at least the greatest
-greatest_at_most : (f : ℕ → ℤ) (x : ℤ) (n : ℕ) → 0 < n → ((k : ℕ) → k < n → f k ≤ℤ x) → greatest f (numbers_below n) ≤ℤ x
-greatest_at_most f x zero some h = absurd (omega arith)
-greatest_at_most f x (suc zero) some h = h 0 (omega arith)
-greatest_at_most f x (suc (suc n)) some h =
-    let rest : greatest f (numbers_below (suc n)) ≤ℤ x = greatest_at_most f x (suc n) (omega arith) (λ k p. h k (omega arith)) in
-    let here : f (suc n) ≤ℤ x = h (suc n) (omega arith) in
-    omega (arith, ints, clamps)
-
 -- the first greatest has the greatest value
 greatest_is_first : (f : ℕ → ℤ) (n first : ℕ) → IsFirstGreatest f n first → greatest f (numbers_below n) ≡ f first
 greatest_is_first f n first h =
-    equal_of_le _ _ (greatest_at_most f (f first) n (let lt = h.below in omega arith) h.greatest) (best_below f n first h.below)
+    equal_of_le _ _ (greatest_below_at_most f (f first) n (let lt = h.below in omega arith) h.greatest) (le_greatest_below f n first h.below)
 
 -- ---- the certificate
 

@@ -16,11 +16,7 @@ use Rattle.dp_spec.specs.TextLines.{Line, fixed, fixed_line, text_of_lines}
 use Rattle.dp_plan.specs.BestConstant.{constant_value}
 use Rattle.dp_plan.specs.ConstantCertificate.{constant_certificate}
 use Rattle.dp_plan.specs.ConstantPolicyText.{agent_text, agents_text, head_text, tree_text}
-
--- one part for each agent
-pub length-parts_of : (ns : List ℕ) (x : ℕ) → length (parts_of ns x) ≡ length ns
-length-parts_of [] x = refl
-length-parts_of (n ∷ ns) x = ap suc (length-parts_of ns _)
+use Rattle.dp_spec.proofs.JointNumberLaws.{length-parts_of}
 
 -- ---- one agent after the other
 

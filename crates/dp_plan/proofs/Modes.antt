@@ -5,6 +5,7 @@ use Rattle.std.proofs.Math.Nat.{pow-zero, pow-suc, mul-le-mul}
 use Rattle.dp_spec.specs.Mode.{IsWithin, greatest_magnitude, is_exact_mode, own_history_count}
 use Rattle.dp_spec.specs.Model.{IsModel, Model, joint_actions, joint_observations, step_scale}
 use Rattle.dp_plan.specs.PlanLaws.{AreSmallScales}
+use Rattle.dp_laws.proofs.ModeCondition.{magnitude_most}
 
 -- the first power
 pub power_one : (n : ℕ) → n ^ 1 ≡ n
@@ -33,11 +34,6 @@ within_one_step m ok =
       game_cells = rw (no_history (joint_actions m) (joint_observations m)) (omega arith);
     }
 
--- a bound on each item bounds the greatest magnitude
-magnitude_at_most : (rs : List ℤ) (most : ℕ) → ((i : ℕ) → unsigned_abs (get_or rs i (pos 0)) ≤ most) → greatest_magnitude rs ≤ most
-magnitude_at_most [] most h = omega arith
-magnitude_at_most (r ∷ rs) most h = omega (arith, h 0, magnitude_at_most rs most (λ i. h (suc i)))
-
 -- products of small numbers
 small_product : (b t o k : ℕ) → b ≤ 256 → t ≤ 10 ^ 4 → o ≤ 10 ^ 4 → k ≤ 10 ^ 8 → b * (t * o * 1) * 1 * k ≤ 2 ^ 126
 small_product b t o k p q r s =
@@ -50,7 +46,7 @@ small_product b t o k p q r s =
 small_limit : (m : Model) → IsModel m → AreSmallScales m.scales → m.scales.start * step_scale m * 1 * max (max (greatest_magnitude m.reward) m.scales.reward) 1 ≤ 2 ^ 126
 unfolding step_scale
 small_limit m ok small =
-    let most : greatest_magnitude m.reward ≤ 10 ^ 8 * m.scales.reward = magnitude_at_most m.reward (10 ^ 8 * m.scales.reward) ok.tables.reward_limit in
+    let most : greatest_magnitude m.reward ≤ 10 ^ 8 * m.scales.reward = magnitude_most m.reward (10 ^ 8 * m.scales.reward) ok.tables.reward_limit in
     let whole = small.reward in
     let most_reward : max (max (greatest_magnitude m.reward) m.scales.reward) 1 ≤ 10 ^ 8 = omega arith in
     rw small.discount (small_product m.scales.start m.scales.trans m.scales.obs _ small.start small.trans small.obs most_reward)

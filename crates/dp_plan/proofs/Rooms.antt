@@ -12,23 +12,7 @@ use Rattle.dp_plan.specs.ExpectedReward.{reward_from_start, reward_in_state, rew
 use Rattle.dp_plan.proofs.ExpectedRewards.{value_is_expected}
 use Rattle.dp_plan.proofs.Modes.{power_one}
 use Rattle.dp_plan.proofs.WeighedSums.{HasRoom, weighed_abs}
-
--- the most that the mode allows for a reward
-unfoldable pub most_reward : Model → ℕ
-most_reward m = max (max (greatest_magnitude m.reward) m.scales.reward) 1
-
--- each item is at most the greatest magnitude
-item_magnitude : (rs : List ℤ) (i : ℕ) → unsigned_abs (get_or rs i (pos 0)) ≤ greatest_magnitude rs
-item_magnitude [] i = omega arith
-item_magnitude (r ∷ rs) zero = omega arith
-item_magnitude (r ∷ rs) (suc i) = omega (arith, item_magnitude rs i)
-
-reward_at_most : (m : Model) (a s t o : ℕ) → unsigned_abs (reward_at m a s t o) ≤ most_reward m
-unfolding most_reward reward_at
-reward_at_most m a s t o = omega (arith, item_magnitude m.reward (((a * m.states + s) * m.states + t) * joint_observations m + o))
-
-times_some : (n k : ℕ) → 0 < k → n ≤ n * k
-times_some n k h = le-mul_of_pos_right n h
+use Rattle.dp_laws.proofs.ModeCondition.{exact_condition, reward_at_most, reward_most}
 
 -- products of the scales and of the most that the mode allows for a reward, the later ones with a factor more
 record HaveRoom (b t o d k : ℕ) : Type 0 where
@@ -39,22 +23,17 @@ record HaveRoom (b t o d k : ℕ) : Type 0 where
 
 have_room : (b t o d k : ℕ) → 0 < b → 0 < t → 0 < d → b * (t * o * d) * 1 * k ≤ 2 ^ 126 → HaveRoom b t o d k
 have_room b t o d k some_b some_t some_d h =
-    let first = times_some (o * k) t some_t in
-    let second = times_some (t * (o * k)) b some_b in
-    let third = times_some (b * (t * (o * k))) d some_d in
+    let first = le-mul_of_pos_right (o * k) some_t in
+    let second = le-mul_of_pos_right (t * (o * k)) some_b in
+    let third = le-mul_of_pos_right (b * (t * (o * k))) some_d in
     let whole : d * (b * (t * (o * k))) ≤ 2 ^ 126 = omega arith in
     record { obs = omega arith; trans = omega arith; start = omega arith; whole = omega arith }
 
--- what exact mode says of one step
-exact_limit : (m : Model) → is_exact_mode m 1 ≡ true → m.scales.start * step_scale m ^ 1 * 1 * most_reward m ≤ 2 ^ 126
-unfolding is_exact_mode most_reward
-exact_limit m e = leb-true _ _ e
-
-rooms : (m : Model) → IsModel m → is_exact_mode m 1 ≡ true → HaveRoom m.scales.start m.scales.trans m.scales.obs m.scales.discount (most_reward m)
+rooms : (m : Model) → IsModel m → is_exact_mode m 1 ≡ true → HaveRoom m.scales.start m.scales.trans m.scales.obs m.scales.discount (reward_most m)
 unfolding step_scale
 rooms m ok e =
-    have_room m.scales.start m.scales.trans m.scales.obs m.scales.discount (most_reward m) ok.scales.start ok.scales.trans ok.scales.discount
-    (subst (λ (n : ℕ). m.scales.start * n * 1 * most_reward m ≤ 2 ^ 126) (power_one (step_scale m)) (exact_limit m e))
+    have_room m.scales.start m.scales.trans m.scales.obs m.scales.discount (reward_most m) ok.scales.start ok.scales.trans ok.scales.discount
+    (subst (λ (n : ℕ). m.scales.start * n * 1 * reward_most m ≤ 2 ^ 126) (power_one (step_scale m)) (exact_condition m 1 (sym e)))
 
 -- a factor that is a first power, and a factor of 1
 times_power : (b s : ℕ) → b * s ^ 1 * 1 ≡ b * s
@@ -69,18 +48,18 @@ pub record UnitHasRoom (c : Scales) : Type 0 where
 unit_products : (b s r k : ℕ) → 0 < b → 0 < r → r ≤ k → b * s * k ≤ 2 ^ 126 → (s ≤ 2 ^ 126) × (r * s ≤ 2 ^ 126) × (b * (r * s) ≤ 2 ^ 126)
 unit_products b s r k some_b some_r le h =
     let fewer : b * s * r ≤ b * s * k = mul-le-mul_left (b * s) le in
-    let first = times_some s r some_r in
-    let second = times_some (r * s) b some_b in
+    let first = le-mul_of_pos_right s some_r in
+    let second = le-mul_of_pos_right (r * s) some_b in
     (omega arith, omega arith, omega arith)
 
 -- the unit fits
 pub unit_has_room : (m : Model) → IsModel m → is_exact_mode m 1 ≡ true → UnitHasRoom m.scales
-unfolding step_scale most_reward
+unfolding step_scale reward_most
 unit_has_room m ok e =
-    let le : m.scales.reward ≤ most_reward m = omega arith in
-    let limit : m.scales.start * step_scale m * most_reward m ≤ 2 ^ 126 =
-    subst (λ (n : ℕ). n * most_reward m ≤ 2 ^ 126) (times_power m.scales.start (step_scale m)) (exact_limit m e) in
-    let all = unit_products m.scales.start (step_scale m) m.scales.reward (most_reward m) ok.scales.start ok.scales.reward le limit in
+    let le : m.scales.reward ≤ reward_most m = omega arith in
+    let limit : m.scales.start * step_scale m * reward_most m ≤ 2 ^ 126 =
+    subst (λ (n : ℕ). n * reward_most m ≤ 2 ^ 126) (times_power m.scales.start (step_scale m)) (exact_condition m 1 (sym e)) in
+    let all = unit_products m.scales.start (step_scale m) m.scales.reward (reward_most m) ok.scales.start ok.scales.reward le limit in
     record { step = all.0; reward = all.1; whole = all.2 }
 
 -- the unit, factor by factor
@@ -91,43 +70,43 @@ unit_is m = ap (λ (n : ℕ). m.scales.start * (m.scales.reward * n)) (sym (powe
 -- ---- the three sums
 module _ (m : Model) (ok : IsModel m) (e : is_exact_mode m 1 ≡ true) (a : ℕ) (act : a < joint_actions m) where
   -- over the joint observations
-  pub arrival_room : (s t : ℕ) → t < m.states → HasRoom (joint_observations m) (most_reward m) (obs_at m a t) (reward_at m a s t)
+  pub arrival_room : (s t : ℕ) → t < m.states → HasRoom (joint_observations m) (reward_most m) (obs_at m a t) (reward_at m a s t)
   arrival_room s t next = record {
     small = λ o p. reward_at_most m a s t o;
     room = rw (ok.rows.obs a t act next) (rooms m ok e).obs;
   }
 
-  arrival_small : (s t : ℕ) → t < m.states → unsigned_abs (reward_on_arrival m a s t) ≤ m.scales.obs * most_reward m
+  arrival_small : (s t : ℕ) → t < m.states → unsigned_abs (reward_on_arrival m a s t) ≤ m.scales.obs * reward_most m
   unfolding reward_on_arrival
   arrival_small s t next =
-      subst (λ (n : ℕ). unsigned_abs (reward_on_arrival m a s t) ≤ n * most_reward m) (ok.rows.obs a t act next)
-      (weighed_abs (joint_observations m) (most_reward m) (obs_at m a t) (reward_at m a s t) (λ o p. reward_at_most m a s t o))
+      subst (λ (n : ℕ). unsigned_abs (reward_on_arrival m a s t) ≤ n * reward_most m) (ok.rows.obs a t act next)
+      (weighed_abs (joint_observations m) (reward_most m) (obs_at m a t) (reward_at m a s t) (λ o p. reward_at_most m a s t o))
 
   -- over the next states
-  pub state_room : (s : ℕ) → s < m.states → HasRoom m.states (m.scales.obs * most_reward m) (trans_at m a s) (reward_on_arrival m a s)
+  pub state_room : (s : ℕ) → s < m.states → HasRoom m.states (m.scales.obs * reward_most m) (trans_at m a s) (reward_on_arrival m a s)
   state_room s here = record {
     small = λ t p. arrival_small s t p;
     room = rw (ok.rows.trans a s act here) (rooms m ok e).trans;
   }
 
-  state_small : (s : ℕ) → s < m.states → unsigned_abs (reward_in_state m a s) ≤ m.scales.trans * (m.scales.obs * most_reward m)
+  state_small : (s : ℕ) → s < m.states → unsigned_abs (reward_in_state m a s) ≤ m.scales.trans * (m.scales.obs * reward_most m)
   unfolding reward_in_state
   state_small s here =
-      subst (λ (n : ℕ). unsigned_abs (reward_in_state m a s) ≤ n * (m.scales.obs * most_reward m)) (ok.rows.trans a s act here)
-      (weighed_abs m.states (m.scales.obs * most_reward m) (trans_at m a s) (reward_on_arrival m a s) (λ t p. arrival_small s t p))
+      subst (λ (n : ℕ). unsigned_abs (reward_in_state m a s) ≤ n * (m.scales.obs * reward_most m)) (ok.rows.trans a s act here)
+      (weighed_abs m.states (m.scales.obs * reward_most m) (trans_at m a s) (reward_on_arrival m a s) (λ t p. arrival_small s t p))
 
   -- over the states
-  pub start_room : HasRoom m.states (m.scales.trans * (m.scales.obs * most_reward m)) (start_at m) (reward_in_state m a)
+  pub start_room : HasRoom m.states (m.scales.trans * (m.scales.obs * reward_most m)) (start_at m) (reward_in_state m a)
   start_room = record {
     small = λ s p. state_small s p;
     room = rw (ok.rows.start) (rooms m ok e).start;
   }
 
-  start_small : unsigned_abs (reward_from_start m a) ≤ m.scales.start * (m.scales.trans * (m.scales.obs * most_reward m))
+  start_small : unsigned_abs (reward_from_start m a) ≤ m.scales.start * (m.scales.trans * (m.scales.obs * reward_most m))
   unfolding reward_from_start
   start_small =
-      subst (λ (n : ℕ). unsigned_abs (reward_from_start m a) ≤ n * (m.scales.trans * (m.scales.obs * most_reward m))) ok.rows.start
-      (weighed_abs m.states (m.scales.trans * (m.scales.obs * most_reward m)) (start_at m) (reward_in_state m a) (λ s p. state_small s p))
+      subst (λ (n : ℕ). unsigned_abs (reward_from_start m a) ≤ n * (m.scales.trans * (m.scales.obs * reward_most m))) ok.rows.start
+      (weighed_abs m.states (m.scales.trans * (m.scales.obs * reward_most m)) (start_at m) (reward_in_state m a) (λ s p. state_small s p))
 
   -- the value
   pub value_fits : FitsSigned w128 (pos m.scales.discount *ℤ reward_from_start m a)

@@ -4,14 +4,13 @@ use Rattle.std.proofs.lemmas.Int.{ints, fits_signed_from_abs, unsigned_abs-mul, 
 use Rattle.std.proofs.Math.Nat.{mul-le-mul_left}
 use Rattle.std.specs.Int.{w128}
 use Rattle.dp_spec.specs.Sums.{int_sum, nat_sum}
+use Rattle.dp_spec.proofs.NaturalSumLaws.{nat_sum_at, nat_sum_part}
+use Rattle.dp_laws.proofs.SizeSums.{abs_add}
 
 -- Numbers of at most `most` against weights: the sum has room in 128 bits.
 pub record HasRoom (n most : ℕ) (w : ℕ → ℕ) (x : ℕ → ℤ) : Type 0 where
   pub small : (i : ℕ) → i < n → unsigned_abs (x i) ≤ most
   pub room : nat_sum n w * most ≤ 2 ^ 126
-
-abs_add : (a b : ℤ) → unsigned_abs (a +ℤ b) ≤ unsigned_abs a + unsigned_abs b
-abs_add a b = omega (arith, ints)
 
 -- a product of a weight and a number of at most `most`
 abs_weighed : (w most : ℕ) (x : ℤ) → unsigned_abs x ≤ most → unsigned_abs (pos w *ℤ x) ≤ w * most
@@ -29,18 +28,6 @@ weighed_abs (suc n) most w x h =
     let here = abs_weighed (w n) most (x n) (h n (omega arith)) in
     omega (arith, abs_add (int_sum n (λ i. pos (w i) *ℤ x i)) (pos (w n) *ℤ x n), more_terms _ _ most (nat_sum n w) (w n) rest here)
 
-last_or_before : (i n : ℕ) → i ≤ suc n → (i ≡ suc n) ⊎ (i ≤ n)
-last_or_before i n h = grind arith
-
--- the first terms of a sum
-first_terms : (n i : ℕ) (f : ℕ → ℕ) → i ≤ n → nat_sum i f ≤ nat_sum n f
-first_terms zero i f h = let e : i ≡ zero = omega arith in rw e (omega arith)
-first_terms (suc n) i f h = elim (last_or_before i n h) [ inl e ↦ rw e (omega arith) | inr le ↦ omega (arith, first_terms n i f le) ]
-
--- one term of a sum
-one_term : (n i : ℕ) (f : ℕ → ℕ) → i < n → f i ≤ nat_sum n f
-one_term n i f h = let more : nat_sum (suc i) f ≤ nat_sum n f = first_terms n (suc i) f (omega arith) in omega arith
-
 fewer_times : (a b most : ℕ) → a ≤ b → a * most ≤ b * most
 fewer_times a b most h = omega (arith, mul-le-mul_left most h)
 
@@ -48,7 +35,7 @@ fewer_times a b most h = omega (arith, mul-le-mul_left most h)
 pub sum_fits : (n most i : ℕ) (w : ℕ → ℕ) (x : ℕ → ℤ) → HasRoom n most w x → i ≤ n → FitsSigned w128 (int_sum i (λ k. pos (w k) *ℤ x k))
 sum_fits n most i w x h le =
     let each = weighed_abs i most w x (λ k p. h.small k (omega arith)) in
-    let part = fewer_times (nat_sum i w) (nat_sum n w) most (first_terms n i w le) in
+    let part = fewer_times (nat_sum i w) (nat_sum n w) most (nat_sum_part i n w le) in
     let room = h.room in
     fits_signed_from_abs w128 _ (omega arith)
 
@@ -56,7 +43,7 @@ sum_fits n most i w x h le =
 pub term_fits : (n most i : ℕ) (w : ℕ → ℕ) (x : ℕ → ℤ) → HasRoom n most w x → i < n → FitsSigned w128 (pos (w i) *ℤ x i)
 term_fits n most i w x h lt =
     let here = abs_weighed (w i) most (x i) (h.small i lt) in
-    let part = fewer_times (w i) (nat_sum n w) most (one_term n i w lt) in
+    let part = fewer_times (w i) (nat_sum n w) most (nat_sum_at n w i lt) in
     let room = h.room in
     fits_signed_from_abs w128 _ (omega arith)
 

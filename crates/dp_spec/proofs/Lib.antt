@@ -1,8 +1,11 @@
+pub mod JointNumberLaws
+pub mod ModelLaws
+pub mod NaturalSumLaws
 mod NumberingRows
-mod SmallModels
-mod SmallRows
-mod TigerRows
 pub mod RoundingLaws
 pub mod ScaleRange
+pub mod SmallModels
+mod SmallRows
 pub mod TextLemmas
 mod TextRows
+mod TigerRows

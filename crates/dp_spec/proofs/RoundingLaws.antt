@@ -1,10 +1,14 @@
 -- A rounded quotient times its divisor lies less than the divisor from the number.
-use Rattle.std.proofs.Common.{◌≡◌, ℕ, ◌*◌, ◌<◌, ℤ, pos, negsuc, ◌+ℤ◌, ◌*ℤ◌, neg_ℤ, ◌≤ℤ◌, ap, arith}
+use Rattle.std.proofs.Common.{◌≡◌, ℕ, ◌*◌, ◌<◌, ℤ, pos, negsuc, ◌+ℤ◌, ◌*ℤ◌, neg_ℤ, ◌≤ℤ◌, unsigned_abs, ap, arith}
 use Rattle.std.proofs.lemmas.Int.{ints}
 use lib.Signed.{◌<ℤ◌}
 use borrow.Author.Differences.{up, down, product_is, neg_is}
 use Rattle.std.proofs.Math.Nat.{div-mul-le_self}
 use Rattle.dp_spec.specs.Rounding.{floor_of, ceiling_of}
+
+-- a negated number has the same magnitude
+pub unsigned_abs-neg : (a : ℤ) → unsigned_abs (neg_ℤ a) ≡ unsigned_abs a
+unsigned_abs-neg a = omega (arith, ints)
 
 -- the floor times the divisor is not above the number
 pub floor_of-le : (a : ℤ) (d : ℕ) → 0 < d → (floor_of a d *ℤ pos d) ≤ℤ a

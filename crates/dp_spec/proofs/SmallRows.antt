@@ -1,5 +1,5 @@
 -- Worked rows of the small models: discount, merging, outward numbers, certificates.
-use Rattle.std.proofs.Common.{◌≡◌, ℕ, pos, [], ◌∷◌, map, refl}
+use Rattle.std.proofs.Common.{◌≡◌, ◌*◌, ◌<◌, ℕ, pos, [], ◌∷◌, map, refl, arith}
 use Rattle.dp_spec.specs.Model.{joint_actions, joint_observations, start_at, trans_at, obs_at, reward_at, step_scale, value_scale}
 use Rattle.dp_spec.specs.PolicyTree.{PolicyTree, node, no_trees, more_trees}
 use Rattle.dp_spec.specs.Value.{joint_root_action, trees_after, policy_value}
@@ -9,7 +9,7 @@ use Rattle.dp_spec.specs.JointHistory.{earned_reward}
 use Rattle.dp_spec.specs.Front.{Front, fixed_joint_action, joint_class, class_weight}
 use Rattle.dp_spec.specs.Bound.{agreeing_actions}
 use Rattle.dp_spec.specs.Steps.{root_front, front_after_choice, advanced_agent}
-use Rattle.dp_spec.specs.Merge.{class_of_agent, class_of_others, place_weight, class_total, merged_front}
+use Rattle.dp_spec.specs.Merge.{AreEquivalent, class_of_agent, class_of_others, place_weight, class_total, merged_front}
 use Rattle.dp_spec.specs.Rounding.{ceiling_of, mul_down, mul_up}
 use Rattle.dp_spec.specs.Arithmetic.{exact, outward, reward_factor}
 use Rattle.dp_spec.specs.Quantities.{weights_after_in, weighted_reward_in, forward_worth_in, weighted_table_in, action_look_ahead_in, class_weight_in}
@@ -55,6 +55,13 @@ total_of_heard = refl
 total_of_never : class_total blind waited 0 1 ≡ 0
 unfolding blind joint_actions joint_observations start_at trans_at obs_at weights_after fixed_joint_action class_of_agent class_total root_front front_after_choice advanced_agent
 total_of_never = refl
+
+only_zero : (k : ℕ) → k < 1 → k ≡ 0
+only_zero k h = omega arith
+
+heard_and_never_are_equivalent : AreEquivalent blind waited 0 0 1
+unfolding blind joint_actions joint_observations start_at trans_at obs_at weights_after fixed_joint_action class_of_agent class_of_others place_weight class_total root_front front_after_choice advanced_agent
+heard_and_never_are_equivalent = record { same = λ x s first second. rw (only_zero x first, only_zero s second) refl }
 
 -- listening tigers: the merged class has the weights 14450 and 2550 of its two parts
 abbrev heard_together : Front

@@ -1,5 +1,5 @@
--- Worked rows of the tiger model at horizons 1 and 2.
-use Rattle.std.proofs.Common.{◌≡◌, pos, negsuc, List, [], ◌∷◌, refl}
+-- Worked rows of the tiger model at horizons 1, 2 and 3.
+use Rattle.std.proofs.Common.{◌≡◌, ◌*◌, ◌<◌, pos, negsuc, List, [], ◌∷◌, refl, arith}
 use Rattle.dp_spec.specs.Model.{joint_actions, joint_observations, start_at, trans_at, obs_at, reward_at, step_scale, value_scale}
 use Rattle.dp_spec.specs.PolicyTree.{PolicyTree, node, no_trees, more_trees}
 use Rattle.dp_spec.specs.Value.{joint_root_action, trees_after, policy_value}
@@ -9,7 +9,7 @@ use Rattle.dp_spec.specs.JointHistory.{earned_reward}
 use Rattle.dp_spec.specs.Front.{Front, fixed_joint_action, joint_class, class_weight}
 use Rattle.dp_spec.specs.Bound.{agreeing_actions, bound_of}
 use Rattle.dp_spec.specs.Steps.{root_front, chosen_front, front_after_choice, advanced_agent}
-use Rattle.dp_spec.specs.Merge.{class_of_agent, class_of_others, place_weight, class_total}
+use Rattle.dp_spec.specs.Merge.{AreEquivalent, class_of_agent, class_of_others, place_weight, class_total}
 use Rattle.dp_spec.specs.Mode.{is_exact_mode, unit_of}
 use Rattle.dp_spec.proofs.SmallModels.{tiger}
 
@@ -110,3 +110,33 @@ place_of_left = refl
 place_of_right : place_weight tiger listened 0 1 0 0 ≡ 2550
 unfolding tiger joint_actions joint_observations start_at trans_at obs_at reward_at step_scale weights_after fixed_joint_action class_of_agent class_of_others place_weight root_front front_after_choice advanced_agent
 place_of_right = refl
+
+left_and_right_are_not_equivalent : AreEquivalent tiger listened 0 0 1 → ⊥
+unfolding tiger joint_actions joint_observations start_at trans_at obs_at reward_at step_scale weights_after fixed_joint_action class_of_agent class_of_others place_weight class_total root_front front_after_choice advanced_agent
+left_and_right_are_not_equivalent h = let products : 14450 * 20000 ≡ 2550 * 20000 = h.same 0 0 (omega arith) (omega arith) in absurd (omega arith)
+
+-- ---- after both agents listened twice, of three steps
+abbrev listened_twice : Front
+listened_twice = front_after_choice tiger (front_after_choice tiger (front_after_choice tiger (front_after_choice tiger listened 0 0 0) 0 1 0) 1 0 0) 1 1 0
+
+earned_by_listening_twice : earned_reward tiger (fixed_joint_action tiger listened_twice) 3 2 ≡ negsuc 63999999999999
+unfolding tiger joint_actions joint_observations start_at trans_at obs_at reward_at step_scale weights_after weighted_reward fixed_joint_action root_front front_after_choice advanced_agent
+earned_by_listening_twice = refl
+
+-- both agents heard the left door twice
+weight_of_left_twice : class_weight tiger listened_twice 0 0 ≡ 208802500
+unfolding tiger joint_actions joint_observations start_at trans_at obs_at reward_at step_scale weights_after fixed_joint_action joint_class class_weight root_front front_after_choice advanced_agent
+weight_of_left_twice = refl
+
+weight_of_left_twice_wrongly : class_weight tiger listened_twice 0 1 ≡ 202500
+unfolding tiger joint_actions joint_observations start_at trans_at obs_at reward_at step_scale weights_after fixed_joint_action joint_class class_weight root_front front_after_choice advanced_agent
+weight_of_left_twice_wrongly = refl
+
+-- the first agent heard the left door and then the right one
+weight_of_left_then_right : class_weight tiger listened_twice 4 0 ≡ 36847500
+unfolding tiger joint_actions joint_observations start_at trans_at obs_at reward_at step_scale weights_after fixed_joint_action joint_class class_weight root_front front_after_choice advanced_agent
+weight_of_left_then_right = refl
+
+weight_of_left_then_right_wrongly : class_weight tiger listened_twice 4 1 ≡ 1147500
+unfolding tiger joint_actions joint_observations start_at trans_at obs_at reward_at step_scale weights_after fixed_joint_action joint_class class_weight root_front front_after_choice advanced_agent
+weight_of_left_then_right_wrongly = refl

@@ -5,3 +5,8 @@ pub mod LimitLemmas
 pub mod ScaleLemmas
 pub mod SizeLemmas
 pub mod TableRowsLemmas
+pub mod BlockLemmas
+pub mod WritingLemmas
+pub mod FlatCells
+pub mod ChanceLemmas
+pub mod ChanceTables

@@ -2,14 +2,19 @@
 //! repair of its rows.
 #![tactic(auto)]
 
+mod blocks;
+mod chance_table;
 mod covering;
 mod limits;
+mod lists;
 mod repair;
 mod rows;
 mod scales;
 mod sizes;
 mod statements;
+mod writing;
 
+pub use chance_table::chances;
 pub use limits::scales_within_limits;
 pub use rows::{repair_observations, repair_transitions};
 pub use sizes::{joint_actions, joint_observations, states};

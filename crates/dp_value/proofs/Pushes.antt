@@ -5,8 +5,9 @@ use Rattle.dp_spec.specs.Model.{Model, joint_actions, joint_observations, obs_at
 use Rattle.dp_spec.specs.Arithmetic.{Arithmetic}
 use Rattle.dp_spec.specs.Calls.{Calls, size}
 use Rattle.dp_spec.specs.Quantities.{span_sum, weights_after_in}
-use Rattle.dp_laws.proofs.SizeSums.{nat_sum_part, span_sum_size}
+use Rattle.dp_laws.proofs.SizeSums.{span_sum_size}
 use Rattle.dp_value.specs.Pushing.{IsPushable}
+use Rattle.dp_spec.proofs.NaturalSumLaws.{nat_sum_part}
 
 -- the part of a next weight that comes from state s
 abbrev pub pushed_part : Arithmetic → Model → (ℕ → Span) → ℕ → ℕ → ℕ → ℕ → Span

@@ -2,8 +2,9 @@ use Rattle.std.proofs.Common.{ℤ, pos, ◌*ℤ◌, ap, ◌∙◌}
 use Rattle.std.proofs.lemmas.Int.{to_z-of_z}
 use mir.Syntax.{w128}
 use mir.Val.{SFits}
-use Rattle.dp_num.proofs.ExactSteps.{gain_fits, part_fits, zmul_assoc}
+use Rattle.dp_num.proofs.ExactSteps.{gain_fits, part_fits}
 use Rattle.dp_num.proofs.exact.gained.Goals as goal
+use Rattle.dp_laws.proofs.Ring.{zmul_assoc}
 
 pub times-requires : goal.times-requires
 times-requires c =

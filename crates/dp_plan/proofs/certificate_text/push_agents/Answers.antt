@@ -1,8 +1,9 @@
 use Rattle.std.proofs.Common.{◌≡◌, ◌<◌, ◌+◌, ◌++◌, ap, sym, ◌∙◌, List, ℕ, length, drop, arith}
 use Rattle.dp_spec.specs.JointNumbers.{parts_of}
 use Rattle.dp_plan.specs.ConstantPolicyText.{agent_text, agents_text}
-use Rattle.dp_plan.proofs.ConstantTexts.{length-parts_of, next_agent, no_agent_left}
+use Rattle.dp_plan.proofs.ConstantTexts.{next_agent, no_agent_left}
 use Rattle.dp_plan.proofs.certificate_text.push_agents.Goals as goal
+use Rattle.dp_spec.proofs.JointNumberLaws.{length-parts_of}
 
 pub loop-agent-preserved : goal.loop-agent-preserved
 loop-agent-preserved c =

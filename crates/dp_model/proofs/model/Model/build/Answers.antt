@@ -1,6 +1,6 @@
 use Rattle.dp_spec.specs.Model.{joint_actions, joint_observations}
 use Rattle.dp_model.specs.Tables.{model_of}
-use Rattle.dp_model.proofs.ModelLemmas.{some_joint_observation}
+use Rattle.dp_spec.proofs.ModelLaws.{some_joint_observation}
 use Rattle.dp_model.proofs.model.Model.build.Goals as goal
 
 pub new-requires-clause-some : goal.new-requires-clause-some

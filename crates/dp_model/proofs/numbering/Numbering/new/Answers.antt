@@ -1,7 +1,8 @@
 use Rattle.std.proofs.Common.{◌≡◌, ◌*◌, ◌-◌, ◌<◌, ◌≤◌, suc, drop, get_or, length, arith}
 use Rattle.dp_spec.specs.JointNumbers.{product}
-use Rattle.dp_model.proofs.JointNumberLemmas.{back-count, back-steps, product-drop_le}
+use Rattle.dp_model.proofs.JointNumberLemmas.{back-count, back-steps}
 use Rattle.dp_model.proofs.numbering.Numbering.new.Goals as goal
+use Rattle.dp_spec.proofs.JointNumberLaws.{product-drop_le}
 
 pub overflow_mul-count : goal.overflow_mul-count
 overflow_mul-count c =

@@ -1,6 +1,6 @@
 use Rattle.std.proofs.Common.{◌≡◌, ◌<◌, suc, drop, get_or, length, sym, ap, ◌∙◌, arith}
 use Rattle.dp_spec.specs.JointNumbers.{product}
-use Rattle.dp_model.proofs.JointNumberLemmas.{part-is}
+use Rattle.dp_spec.proofs.JointNumberLaws.{part-is}
 use Rattle.dp_model.proofs.numbering.Numbering.part.Goals as goal
 
 pub returns : goal.returns

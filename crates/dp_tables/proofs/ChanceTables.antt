@@ -1,0 +1,239 @@
+-- The chances of a table as its statements are written one after the other.
+use Rattle.std.proofs.Common.{◌≡◌, ◌⊎◌, ℕ, zero, suc, ◌+◌, ◌*◌, ◌%◌, ◌<◌, ◌≤◌, Bool, true, false, cond, List, [], ◌∷◌, ◌++◌, length, get_or, map, take, drop, refl, sym, ap, subst, ◌∙◌, arith}
+use Rattle.std.specs.Prelude.{filter, replicate}
+use Rattle.std.specs.List.{range_with_len}
+use Rattle.std.proofs.lemmas.List.{append-nil, take_more, take_all, length-replicate}
+use Rattle.std.proofs.lemmas.List.Elements.{filter-append}
+use Rattle.std.proofs.lemmas.List.FromFn.{fill_by_all}
+use Rattle.std.proofs.lemmas.Nat.{mul-le}
+use Rattle.dp_spec.specs.JointNumbers.{product, parts_of}
+use Rattle.dp_meaning.specs.declared.given_list.GivenList.{GivenList}
+use Rattle.dp_meaning.specs.declared.statement.Table.{Table}
+use Rattle.dp_meaning.specs.declared.statement.Table.TheVariants.{Trans, Obs, Reward}
+use Rattle.dp_meaning.specs.declared.statement.Value.{Value}
+use Rattle.dp_meaning.specs.declared.statement.Value.TheVariants.{Uniform, Identity, Numbers}
+use Rattle.dp_meaning.specs.declared.statement.Statement.{Statement}
+use Rattle.dp_meaning.specs.declared.text.Text.{Text}
+use Rattle.dp_meaning.specs.NameLists.{size_of}
+use Rattle.dp_meaning.specs.Fields.{Axis}
+use Rattle.dp_meaning.specs.Statements.{axes_of, axis_size, is_trans, is_reward_table}
+use Rattle.dp_meaning.specs.Cells.{Cell, covers, is_same_table, statements_for, given_chance, chance_of_cell}
+use Rattle.dp_meaning.specs.Text.{states_in, joint_actions_in}
+use Rattle.dp_meaning.specs.Meaning.{IsSaid}
+use Rattle.dp_meaning.proofs.CellValues.{chance_uncovered, chance_of_last, chance_of_others}
+use Rattle.dp_meaning.proofs.Each.{Each, all_from_each}
+use Rattle.dp_meaning.proofs.ReadFields.{IsStatementOver, Fills, said_statements}
+use Rattle.dp_meaning.proofs.ReadStatements.{AreNumbersOf}
+use Rattle.dp_meaning.proofs.SaidTexts.{said_is, some_states, some_joint_actions, some_joint_observations}
+use Rattle.dp_tables.specs.Blocks.{chance_block, IsChanceValue}
+use Rattle.dp_tables.specs.Tables.{row_length}
+use Rattle.dp_tables.specs.Writing.{AreWithin, AreWritten, is_covered, list_sizes, list_parts}
+use Rattle.dp_tables.proofs.ChanceLemmas.{IsTableOver, block_fits, value_at}
+use Rattle.dp_tables.proofs.FlatCells.{product_of_lists, parts_within, width_of_parts, covered_by_lists}
+
+-- ---- the table of a text
+
+one_list : (list : GivenList) → axis_size (list ∷ []) ≡ size_of list
+one_list list = omega arith
+
+pub some_row : (text : Text) (table : Table) → IsSaid text → 1 ≤ row_length text table
+some_row text Trans said = some_states text said
+some_row text Obs said = some_joint_observations text said
+some_row text Reward said = some_joint_observations text said
+
+sizes_are : (text : Text) (table : Table) → is_reward_table table ≡ false
+    → map axis_size (axes_of text.header table) ≡ joint_actions_in text ∷ states_in text ∷ row_length text table ∷ []
+sizes_are text Trans e = ap (λ n. joint_actions_in text ∷ n ∷ n ∷ []) (one_list text.header.states)
+sizes_are text Obs e = ap (λ n. joint_actions_in text ∷ n ∷ row_length text Obs ∷ []) (one_list text.header.states)
+sizes_are text Reward e = absurd (cc)
+
+pub table_over : (text : Text) (table : Table) → IsSaid text → is_reward_table table ≡ false
+    → IsTableOver table (axes_of text.header table) (joint_actions_in text) (states_in text) (row_length text table)
+table_over text table said e = record {
+  sizes = sizes_are text table e;
+  square = square table;
+  some = subst (λ ns. 0 < product ns) (sym (sizes_are text table e))
+      (positive (joint_actions_in text) (states_in text) (row_length text table)
+      (some_joint_actions text said) (some_states text said) (some_row text table said));
+}
+  where
+    square : (table : Table) → is_trans table ≡ true → states_in text ≡ row_length text table
+    square Trans t = refl
+    square Obs t = absurd (cc)
+    square Reward t = absurd (cc)
+
+    positive : (a s n : ℕ) → 1 ≤ a → 1 ≤ s → 1 ≤ n → 0 < product (a ∷ s ∷ n ∷ [])
+    positive a s n ha hs hn =
+        let rows = mul-le 1 1 s (n * 1) hs (omega arith) in
+        let all = mul-le 1 1 a (s * (n * 1)) ha (omega arith) in omega arith
+
+-- with the length of its rows as it is computed
+pub table_over_len : (text : Text) (table : Table) (len : ℕ) → IsSaid text → is_reward_table table ≡ false → len ≡ row_length text table
+    → IsTableOver table (axes_of text.header table) (joint_actions_in text) (states_in text) len
+table_over_len text table len said e is =
+    subst (IsTableOver table (axes_of text.header table) (joint_actions_in text) (states_in text)) (sym is) (table_over text table said e)
+
+-- ---- the statements of the table
+
+-- a statement of this table of chances
+pub record IsChanceStatement (table : Table) (axes : List Axis) (s : Statement) : Type 0 where
+  pub over : IsStatementOver axes s
+  pub fills : Fills table (drop (length s.fields) axes) s.value
+  pub numbers : IsChanceValue s.value
+
+same_table : (a b : Table) → is_same_table a b ≡ true → b ≡ a
+same_table Trans Trans e = refl
+same_table Trans Obs e = absurd (cc)
+same_table Trans Reward e = absurd (cc)
+same_table Obs Trans e = absurd (cc)
+same_table Obs Obs e = refl
+same_table Obs Reward e = absurd (cc)
+same_table Reward Trans e = absurd (cc)
+same_table Reward Obs e = absurd (cc)
+same_table Reward Reward e = refl
+
+chance_numbers : (table : Table) (v : Value) → is_reward_table table ≡ false → AreNumbersOf table v → IsChanceValue v
+chance_numbers table Uniform e are = tt
+chance_numbers table Identity e are = tt
+chance_numbers Trans (Numbers ns) e are = all_from_each _ ns are
+chance_numbers Obs (Numbers ns) e are = all_from_each _ ns are
+chance_numbers Reward (Numbers ns) e are = absurd (cc)
+
+pub chance_statement : (text : Text) (table : Table) (items : List Statement) (i : ℕ) (s : Statement) → IsSaid text
+    → is_reward_table table ≡ false → items ≡ text.statements → i < length items → s ≡ get_or items i s
+    → is_same_table table s.table ≡ true → IsChanceStatement table (axes_of text.header table) s
+chance_statement text table items i s said chances are h is same =
+    let within : i < length text.statements = subst (λ ss. i < length ss) are h in
+    let there : s ≡ get_or text.statements i s = is ∙ ap (λ ss. get_or ss i s) are in
+    let t = same_table table s.table same in
+    let over = subst (λ l. IsStatementOver (axes_of text.header l.table) l) (sym there)
+    (all_from_each _ text.statements (said_statements text said) i s within) in
+    let numbers = subst (λ l. AreNumbersOf l.table l.value) (sym there)
+    (all_from_each _ text.statements (said_is text said).statements i s within) in
+    let here : IsStatementOver (axes_of text.header table) s = subst (λ b. IsStatementOver (axes_of text.header b) s) t over in
+    record {
+      over = here;
+      fills = subst (λ b. Fills b (drop (length s.fields) (axes_of text.header table)) s.value) t here.value;
+      numbers = chance_numbers table s.value chances (subst (λ b. AreNumbersOf b s.value) t numbers);
+    }
+
+-- one more statement, which is one of the table's or none
+pub taken : (table : Table) (items : List Statement) (i : ℕ) (s : Statement) → i < length items → s ≡ get_or items i s
+    → is_same_table table s.table ≡ true
+    → statements_for table (take (i + 1) items) ≡ statements_for table (take i items) ++ s ∷ []
+taken table items i s h is same =
+    ap (statements_for table) (take_more items i s h ∙ ap (λ l. take i items ++ l ∷ []) (sym is))
+    ∙ filter-append (λ l. is_same_table table l.table) (take i items) (s ∷ [])
+    ∙ ap (λ b. statements_for table (take i items) ++ cond b (s ∷ []) []) same
+
+pub skipped : (table : Table) (items : List Statement) (i : ℕ) (s : Statement) → i < length items → s ≡ get_or items i s
+    → is_same_table table s.table ≡ false
+    → statements_for table (take (i + 1) items) ≡ statements_for table (take i items)
+skipped table items i s h is other =
+    ap (statements_for table) (take_more items i s h ∙ ap (λ l. take i items ++ l ∷ []) (sym is))
+    ∙ filter-append (λ l. is_same_table table l.table) (take i items) (s ∷ [])
+    ∙ ap (λ b. statements_for table (take i items) ++ cond b (s ∷ []) []) other ∙ append-nil (statements_for table (take i items))
+
+-- ---- the cells
+
+-- the cells by these statements
+pub record AreChancesBy (scale : ℕ) (axes : List Axis) (statements : List Statement) (cells : List ℕ) : Type 0 where
+  pub count : length cells ≡ product (list_sizes axes)
+  pub cell : (k : ℕ) → k < product (list_sizes axes) → get_or cells k 0 ≡ chance_of_cell scale axes statements (parts_of (map axis_size axes) k)
+
+pub no_chances : (scale : ℕ) (axes : List Axis) (cells : List ℕ) (n : ℕ) → cells ≡ replicate n 0 → n ≡ product (list_sizes axes)
+    → AreChancesBy scale axes [] cells
+no_chances scale axes cells n e long = record {
+  count = ap length e ∙ length-replicate n 0 ∙ long;
+  cell = λ k h. zeros k ∙ sym (chance_uncovered scale axes [] (parts_of (map axis_size axes) k) refl);
+}
+  where
+    zero_at : (n k : ℕ) → get_or {A = ℕ} (replicate n 0) k 0 ≡ 0
+    zero_at zero k = refl
+    zero_at (suc n) zero = refl
+    zero_at (suc n) (suc k) = zero_at n k
+
+    zeros : (k : ℕ) → get_or cells k 0 ≡ 0
+    zeros k = ap (λ ns. get_or ns k 0) e ∙ zero_at n k
+
+pub more_chances : (scale actions states len : ℕ) (table : Table) (axes : List Axis) (before : List Statement) (s : Statement) (cells new : List ℕ)
+    → IsTableOver table axes actions states len → IsChanceStatement table axes s → AreChancesBy scale axes before cells → length new ≡ length cells
+    → AreWritten (list_sizes axes) (list_parts s.fields) (chance_block scale len s.value) cells new
+    → AreChancesBy scale axes (before ++ s ∷ []) new
+more_chances scale actions states len table axes before s cells new over is so_far long written = record {
+  count = long ∙ so_far.count;
+  cell = cell;
+}
+  where
+    cell : (k : ℕ) → k < product (list_sizes axes)
+        → get_or new k 0 ≡ chance_of_cell scale axes (before ++ s ∷ []) (parts_of (map axis_size axes) k)
+    cell k h =
+        written k 0 (subst (λ n. k < n) (sym so_far.count) h)
+        ∙ ap (λ b. cond b (get_or (chance_block scale len s.value) (k % length (chance_block scale len s.value)) 0) (get_or cells k 0))
+        (covered_by_lists axes s.fields k is.over.fields h)
+        ∙ by (covers axes s.fields (parts_of (map axis_size axes) k)) refl
+      where
+        by : (b : Bool) → covers axes s.fields (parts_of (map axis_size axes) k) ≡ b
+            → cond b (get_or (chance_block scale len s.value) (k % length (chance_block scale len s.value)) 0) (get_or cells k 0)
+            ≡ chance_of_cell scale axes (before ++ s ∷ []) (parts_of (map axis_size axes) k)
+        by true e =
+            value_at scale actions states len k (length s.fields) table axes s.value over is.fills
+            (subst (λ n. k < n) (product_of_lists axes) h)
+            ∙ sym (chance_of_last scale axes before s [] (parts_of (map axis_size axes) k) e refl)
+        by false e =
+            so_far.cell k h
+            ∙ sym (chance_of_others scale axes before s [] (parts_of (map axis_size axes) k) e
+            ∙ ap (λ ss. chance_of_cell scale axes ss (parts_of (map axis_size axes) k)) (append-nil before))
+
+-- what is known where a statement of the table is written
+pub record IsWritable (scale len : ℕ) (sizes : List ℕ) (s : Statement) : Type 0 where
+  pub some : 0 < product sizes
+  pub parts : AreWithin sizes (list_parts s.fields)
+  pub block : (length (chance_block scale len s.value) ≡ 1)
+      ⊎ (length (chance_block scale len s.value) ≡ product (drop (length (list_parts s.fields)) sizes))
+
+pub writable : (scale actions states len : ℕ) (table : Table) (axes : List Axis) (s : Statement) (sizes : List ℕ)
+    → IsTableOver table axes actions states len → IsChanceStatement table axes s → sizes ≡ list_sizes axes → IsWritable scale len sizes s
+writable scale actions states len table axes s sizes over is e = subst (λ ns. IsWritable scale len ns s) (sym e) (record {
+  some = subst (λ n. 0 < n) (sym (product_of_lists axes)) over.some;
+  parts = parts_within axes s.fields is.over.fields;
+  block = subst (λ n. (length (chance_block scale len s.value) ≡ 1) ⊎ (length (chance_block scale len s.value) ≡ n))
+      (sym (width_of_parts axes s.fields is.over.fields))
+      (block_fits scale actions states len (length s.fields) table axes s.value over is.fills);
+})
+
+-- a statement of the table is written ..
+pub chances_taken : (scale actions states len : ℕ) (table : Table) (axes : List Axis) (items : List Statement) (i : ℕ) (s : Statement)
+    (cells new sizes old : List ℕ)
+    → IsTableOver table axes actions states len → IsChanceStatement table axes s → i < length items → s ≡ get_or items i s
+    → is_same_table table s.table ≡ true → AreChancesBy scale axes (statements_for table (take i items)) cells
+    → sizes ≡ list_sizes axes → old ≡ cells → length new ≡ length old
+    → AreWritten sizes (list_parts s.fields) (chance_block scale len s.value) old new
+    → AreChancesBy scale axes (statements_for table (take (i + 1) items)) new
+chances_taken scale actions states len table axes items i s cells new sizes old over is h at same so_far e f long written =
+    subst (λ ss. AreChancesBy scale axes ss new) (sym (taken table items i s h at same))
+    (more_chances scale actions states len table axes (statements_for table (take i items)) s cells new over is so_far (long ∙ ap length f)
+    (subst (λ ns. AreWritten ns (list_parts s.fields) (chance_block scale len s.value) cells new) e
+    (subst (λ ns. AreWritten sizes (list_parts s.fields) (chance_block scale len s.value) ns new) f written)))
+
+-- .. and one of another table is passed over
+pub chances_skipped : (scale : ℕ) (table : Table) (axes : List Axis) (items : List Statement) (i : ℕ) (s : Statement) (cells : List ℕ)
+    → i < length items → s ≡ get_or items i s → is_same_table table s.table ≡ false
+    → AreChancesBy scale axes (statements_for table (take i items)) cells
+    → AreChancesBy scale axes (statements_for table (take (i + 1) items)) cells
+chances_skipped scale table axes items i s cells h at other so_far =
+    subst (λ ss. AreChancesBy scale axes ss cells) (sym (skipped table items i s h at other)) so_far
+
+pub cells_count : (table : Table) (axes : List Axis) (actions states len : ℕ) → IsTableOver table axes actions states len
+    → product (list_sizes axes) ≡ actions * states * len
+cells_count table axes actions states len over = product_of_lists axes ∙ ap product over.sizes ∙ omega arith
+
+-- all of the table's statements
+pub all_chances : (scale actions states len : ℕ) (table : Table) (axes : List Axis) (statements : List Statement) (cells : List ℕ)
+    → IsTableOver table axes actions states len → AreChancesBy scale axes statements cells
+    → cells ≡ map (λ k. chance_of_cell scale axes statements (parts_of (actions ∷ states ∷ len ∷ []) k)) (range_with_len 0 (actions * states * len))
+all_chances scale actions states len table axes statements cells over are =
+    fill_by_all (λ k. chance_of_cell scale axes statements (parts_of (actions ∷ states ∷ len ∷ []) k)) cells (actions * states * len) 0
+    (are.count ∙ cells_count table axes actions states len over)
+    (λ k h. are.cell k (subst (λ n. k < n) (sym (cells_count table axes actions states len over)) h)
+    ∙ ap (λ ns. chance_of_cell scale axes statements (parts_of ns k)) over.sizes)
