@@ -84,7 +84,8 @@ table_model_sizes text start trans obs is fits =
 
 -- ---- scales
 
-scales_are : (text : Text) → IsText text → IsSmall text → AreScales (scales_of text)
+-- the scales of a text within the limits
+pub scales_are : (text : Text) → IsText text → IsSmall text → AreScales (scales_of text)
 unfolding scales_of
 scales_are text is fits =
     let discount = chance_parts text.header.discount is.header.discount in

@@ -4,8 +4,12 @@
 
 mod blocks;
 mod chance_table;
+mod covering;
+mod limits;
 mod lists;
 mod limits;
+mod repair;
+mod rows;
 mod scales;
 mod sizes;
 mod statements;
@@ -13,4 +17,5 @@ mod writing;
 
 pub use chance_table::chances;
 pub use limits::scales_within_limits;
+pub use rows::{repair_observations, repair_transitions};
 pub use sizes::{joint_actions, joint_observations, states};
