@@ -11,4 +11,3 @@ pub mod FlatCells
 pub mod ChanceLemmas
 pub mod CellTables
 pub mod ChanceTables
-pub mod SizeLemmas

@@ -8,7 +8,8 @@ use Rattle.dp_meaning.specs.declared.text.Text.{Text}
 use Rattle.dp_meaning.specs.Cells.{statements_for}
 use Rattle.dp_meaning.specs.Text.{states_in, joint_actions_in, joint_observations_in}
 use Rattle.dp_meaning.specs.Scales.{start_scale, table_scale, scales_of}
-use Rattle.dp_meaning.specs.Limits.{at_most, first_passed, passed_limit}
+use Rattle.dp_model.specs.Limits.{at_most, first_passed}
+use Rattle.dp_meaning.specs.Limits.{passed_limit}
 use Rattle.dp_tables.specs.declared.sizes.JointSizes.{JointSizes}
 use Rattle.dp_tables.specs.Limits.{size_limits, cell_limits, scale_limits}
 use Rattle.dp_tables.specs.Sizes.{AreSizesOf}

@@ -5,7 +5,8 @@ use Rattle.dp_model.specs.declared.limit.TooLarge.{TooLarge}
 use Rattle.dp_meaning.specs.declared.text.Text.{Text}
 use Rattle.dp_meaning.specs.NameLists.{size_of}
 use Rattle.dp_meaning.specs.Text.{states_in}
-use Rattle.dp_meaning.specs.Limits.{at_most, product_past}
+use Rattle.dp_model.specs.Limits.{at_most}
+use Rattle.dp_meaning.specs.Limits.{product_past}
 
 -- the limits on the sizes
 abbrev pub size_limits : Text → List (Option TooLarge)

@@ -7,7 +7,6 @@ mod chance_table;
 mod covering;
 mod limits;
 mod lists;
-mod limits;
 mod repair;
 mod rows;
 mod scales;

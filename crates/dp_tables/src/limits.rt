@@ -2,7 +2,8 @@
 ghost use Rattle.std.specs.Prelude.{◌≡◌, ◌≤◌, ◌^◌, IfOk, [], ◌∷◌, length};
 ghost use Rattle.std.specs.Result.{result_err};
 ghost use Rattle.dp_meaning.specs.Cells.{statements_for};
-ghost use Rattle.dp_meaning.specs.Limits.{at_most, first_passed, passed_limit};
+ghost use Rattle.dp_model.specs.Limits.{at_most, first_passed};
+ghost use Rattle.dp_meaning.specs.Limits.{passed_limit};
 ghost use Rattle.dp_meaning.specs.Meaning.{IsSaid};
 ghost use Rattle.dp_meaning.specs.Scales as spec;
 ghost use Rattle.dp_meaning.specs.Scales.{scales_of};
