@@ -5,3 +5,4 @@ pub mod FlatCells
 pub mod ChanceLemmas
 pub mod CellTables
 pub mod ChanceTables
+pub mod RewardTables

@@ -5,10 +5,12 @@
 mod blocks;
 mod chance_table;
 mod lists;
+mod reward_table;
 mod scales;
 mod sizes;
 mod statements;
 mod writing;
 
 pub use chance_table::chances;
+pub use reward_table::rewards;
 pub use sizes::{joint_actions, joint_observations, states};
