@@ -11,3 +11,4 @@ pub mod FlatCells
 pub mod ChanceLemmas
 pub mod CellTables
 pub mod ChanceTables
+pub mod RewardTables
