@@ -3,3 +3,4 @@ pub mod ItemLemmas
 pub mod LineLemmas
 pub mod ItemSpanLemmas
 pub mod DocumentLemmas
+pub mod TextLemmas

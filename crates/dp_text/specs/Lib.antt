@@ -3,3 +3,4 @@ pub mod Tokens
 pub mod Lines
 pub mod ItemSpans
 pub mod Documents
+pub mod TextSteps
