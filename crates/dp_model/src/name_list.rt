@@ -45,6 +45,13 @@ impl NameList {
         let _ = &self.names;
     }
 
+    /// How many names it has.
+    pub fn len(&self) -> u32
+        ensures { result ≡ length self.now }
+    {
+        self.names.len() as u32
+    }
+
     /// Appends a name, and answers whether it is new: a name that the list has stays as it is.
     /// After want of memory nothing is changed.
     pub fn add(&mut self, alloc: Global, name: &str) -> Result<bool, Memory>
