@@ -1,4 +1,4 @@
-use Rattle.std.proofs.Common.{Err, refl, drop, ap, sym, ◌∙◌, ◌+◌, length, arith}
+use Rattle.std.proofs.Common.{refl, drop, ap, sym, ◌∙◌, arith}
 use Rattle.dp_meaning.specs.Header.{header_of, no_entries}
 use Rattle.dp_text.specs.HeaderSteps.{header_and}
 use Rattle.dp_text.proofs.HeaderLemmas.{entry_one, entry_wrong, statement_one, no_item, header_last, reads_header_along}
