@@ -17,3 +17,4 @@ pub mod ValueLemmas
 pub mod LineLemmas
 pub mod ItemSpanLemmas
 pub mod DocumentLemmas
+pub mod TextLemmas

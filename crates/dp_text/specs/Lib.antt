@@ -9,4 +9,5 @@ pub mod NameListSteps
 pub mod EntrySteps
 pub mod ItemSpans
 pub mod Documents
+pub mod TextSteps
 pub mod HeaderSteps
