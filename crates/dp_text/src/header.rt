@@ -16,10 +16,7 @@ use dp_meaning::{Entries, Entry, Fault, Header, ItemKind, Table, Why};
 use std::alloc::Global;
 
 /// The header, and how many items of the text it takes.
-pub(crate) fn read_header(
-    alloc: Global,
-    document: &Document,
-) -> Result<(Header, usize), TextFault>
+pub(crate) fn read_header(alloc: Global, document: &Document) -> Result<(Header, usize), TextFault>
     ensures { ReadsHeader document.now.items (spec.header_of document.now.end spec.no_entries document.now.items) result }
 {
     let mut entries = no_entries();

@@ -19,11 +19,7 @@ const MOST: u32 = 65536;
 
 /// A list as it is given: one count, or one or more names. A missing token belongs at `next`.
 #[tactic(auto, unfolding(dp_meaning::specs::NameLists::name_list))]
-pub(crate) fn name_list(
-    alloc: Global,
-    next: u32,
-    pieces: &Pieces,
-) -> Result<GivenList, TextFault>
+pub(crate) fn name_list(alloc: Global, next: u32, pieces: &Pieces) -> Result<GivenList, TextFault>
     ensures { Reads (spec.name_list next pieces.now) result }
 {
     match pieces.split_first() {
