@@ -28,7 +28,7 @@ module _ (next : ℕ) where
 
   first_line : (n : ℕ) (line : List Piece) (lines : List (List Piece))
       → name_lists next (suc n) (line ∷ lines) ≡ (name_list next line >>= λ first. name_lists next n lines >>= λ others. Ok
-          (first ∷ others))
+      (first ∷ others))
   unfolding name_lists
   first_line n line lines = refl
 
@@ -48,9 +48,9 @@ module _ (next : ℕ) where
   line_one all lists agents i lines line list some is read h =
       let steps : from_agent agents i lines ≡ (from_agent agents (i + 1) lines >>= λ others. Ok (list ∷ others)) =
       at_agent agents i lines line some is ∙ ap (λ (x : Result GivenList Fault). x >>= λ first. from_agent agents (i + 1)
-          lines >>= λ others. Ok (first ∷ others)) read in
+      lines >>= λ others. Ok (first ∷ others)) read in
       continues_one all lists list (from_agent agents (i + 1) lines)
-          (subst (λ (x : Result (List GivenList) Fault). Continues all lists x) steps h)
+      (subst (λ (x : Result (List GivenList) Fault). Continues all lists x) steps h)
 
   wrong_behind : (lists : List GivenList) (meant : Result GivenList Fault) (more : GivenList → Result (List GivenList) Fault)
       (wrong : TextFault)
@@ -61,7 +61,7 @@ module _ (next : ℕ) where
   pub line_wrong : (all : Result (List GivenList) Fault) (lists : List GivenList) (agents i : ℕ) (lines : List (List Piece))
       (line : List Piece) (wrong : TextFault)
       → i < agents → Some line ≡ slice_get lines i → Reads (name_list next line) (Err wrong)
-          → Continues all lists (from_agent agents i lines)
+      → Continues all lists (from_agent agents i lines)
       → Reads all (Err wrong)
   line_wrong all lists agents i lines line wrong some is read h =
       let steps = h.is ∙ ap (behind lists) (at_agent agents i lines line some is) in
@@ -76,7 +76,7 @@ module _ (next : ℕ) where
       → i < agents → None ≡ slice_get lines i → Continues all lists (from_agent agents i lines) → all ≡ fault Expected next
   line_missing all lists agents i lines some is h =
       let steps : from_agent agents i lines ≡ fault Expected next = rw (left agents i some, drop_past i lines is)
-          (missing (agents - (i + 1))) in
+      (missing (agents - (i + 1))) in
       h.is ∙ ap (behind lists) steps
 
   none_left : (agents i : ℕ) → agents ≤ i → agents - i ≡ 0
@@ -105,7 +105,7 @@ module _ (next : ℕ) where
       → agents ≤ i → Some line ≡ slice_get lines i → ends line ≡ Ok tt → Continues all lists (from_agent agents i lines) → all ≡ Ok lists
   empty_line all lists agents i lines line none is at_end h =
       let steps : from_agent agents i lines ≡ Ok [] = one_beyond agents i lines line none is ∙ ended_ok {A = List GivenList} [] line
-          at_end in
+      at_end in
       continues_none all lists (subst (λ (x : Result (List GivenList) Fault). Continues all lists x) steps h)
 
   pub line_beyond : (all : Result (List GivenList) Fault) (lists : List GivenList) (agents i : ℕ) (lines : List (List Piece))
@@ -113,5 +113,5 @@ module _ (next : ℕ) where
       → agents ≤ i → Some line ≡ slice_get lines i → ends line ≡ Err e → Continues all lists (from_agent agents i lines) → all ≡ Err e
   line_beyond all lists agents i lines line e none is goes_on h =
       let steps : from_agent agents i lines ≡ Err e = one_beyond agents i lines line none is ∙ ended_fault {A = List GivenList} [] line e
-          goes_on in
+      goes_on in
       h.is ∙ ap (behind lists) steps

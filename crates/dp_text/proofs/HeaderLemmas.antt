@@ -69,7 +69,7 @@ module _ (end : ℕ) (entries : Entries) where
     pub statement_one : (table : Table) → StatementOf table ≡ kind_of item → all ≡ header_and (item_at item) entries (drop place items)
     statement_one table kind =
         at_place ∙ (first_item item (drop (suc place) items) (StatementOf table) (sym kind) ∙ ap (header_and (item_at item) entries)
-            (sym (drop_at place items item (sym here))))
+        (sym (drop_at place items item (sym here))))
 
     pub no_item : NoItem ≡ kind_of item → all ≡ fault Expected (item_at item)
     no_item kind = at_place ∙ first_item item (drop (suc place) items) NoItem (sym kind)

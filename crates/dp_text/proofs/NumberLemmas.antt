@@ -27,7 +27,7 @@ module _ (f : Decimal → Bool) (next : ℕ) where
   -- the first of some Numbers
   first_of : (left : ℕ) (piece : Piece) (pieces : List Piece) → 0 < left
       → numbers f next left (piece ∷ pieces) ≡ (number f piece >>= λ first. numbers f next (left - 1) pieces >>= λ others. Ok
-          (first ∷ others))
+      (first ∷ others))
   unfolding numbers
   first_of zero piece pieces h = absurd (omega arith)
   first_of (suc n) piece pieces h = rw (left_one n) refl

@@ -8,4 +8,4 @@ abbrev pub invariant-loop-agent : goal.invariant-loop-agent
 invariant-loop-agent l =
     let lines = agent_lines l.item in
     Continues (spec.name_lists l.item.next l.agents lines) l.lists.items
-        (spec.name_lists l.item.next (l.agents - l.agent) (drop l.agent lines))
+    (spec.name_lists l.item.next (l.agents - l.agent) (drop l.agent lines))

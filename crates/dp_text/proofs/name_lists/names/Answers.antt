@@ -19,7 +19,7 @@ returns-in-Err c =
     let pieces = c.args.pieces.now in
     let place = c.loop-place.place in
     name_wrong (names_after [] pieces) c.loop-place.names c.piece_at-piece.result (drop (place + 1) pieces) (drop place pieces)
-        c.in-Err.fault c.piece_at-piece.ensures c.in-Err.ensures c.loop-place.invariant.is
+    c.in-Err.fault c.piece_at-piece.ensures c.in-Err.ensures c.loop-place.invariant.is
 
 pub returns : goal.returns
 returns c = name_last (names_after [] c.args.pieces.now) c.loop-place.names c.loop-place.place c.args.pieces.now
