@@ -32,7 +32,8 @@ fn lone_chance(piece: &Piece, behind: &Pieces) -> Result<Decimal, Fault>
     Ok(chance)
 }
 
-/// Whether the numbers of the rewards are costs. A missing token belongs at `next`.
+/// Whether the numbers of the rewards are costs: `cost` or `reward`. A missing token belongs at
+/// `next`.
 pub(crate) fn is_cost(next: u32, pieces: &Pieces) -> Result<bool, Fault>
     ensures { result ≡ spec.is_cost next pieces.now }
 {

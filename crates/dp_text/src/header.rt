@@ -15,11 +15,11 @@ use crate::words::says;
 use dp_meaning::{Entries, Entry, Fault, Header, ItemKind, Table, Why};
 use std::alloc::Global;
 
-/// The header, and how many items of the text it takes.
-pub(crate) fn read_header(
-    alloc: Global,
-    document: &Document,
-) -> Result<(Header, usize), TextFault>
+/// The header, and how many items of the text it takes: those before the first statement.
+///
+/// `Expected` names the first item that is neither an entry nor a statement. `Header` names an
+/// entry that comes twice or too early, or the item before which one is missing.
+pub(crate) fn read_header(alloc: Global, document: &Document) -> Result<(Header, usize), TextFault>
     ensures { ReadsHeader document.now.items (spec.header_of document.now.end spec.no_entries document.now.items) result }
 {
     let mut entries = no_entries();

@@ -15,6 +15,7 @@ use dp_meaning::{Fault, GivenList, Why};
 use dp_model::{Items, NameList};
 use std::alloc::Global;
 
+// The most things that a list has that is given as a count.
 const MOST: u32 = 65536;
 
 /// A list as it is given: one count, or one or more names. A missing token belongs at `next`.
