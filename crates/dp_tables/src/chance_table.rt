@@ -16,7 +16,7 @@ ghost use Rattle.dp_tables.specs.Writing.{AreWithin, AreWritten};
 use crate::blocks::chance_block;
 use crate::lists::{list_parts, list_sizes};
 use crate::sizes::{joint_actions, joint_observations, states};
-use crate::writing::write;
+use crate::writing::write_block;
 use dp_meaning::{Statement, Table, Text};
 use dp_num::Memory;
 use std::alloc::Global;
@@ -65,7 +65,7 @@ fn write_chances(alloc: Global, cells: &mut [u64], sizes: &[u32], scale: u64, le
 {
     let block = chance_block(alloc, scale, len, &statement.value)?;
     let parts = list_parts(alloc, statement.fields.as_slice())?;
-    write(cells, sizes, &parts, &block);
+    write_block(cells, sizes, &parts, &block);
     Ok(())
 }
 

@@ -13,7 +13,7 @@ ghost use Rattle.dp_tables.specs.Writing.{AreWithin, AreWritten};
 use crate::blocks::reward_block;
 use crate::lists::{list_parts, list_sizes};
 use crate::sizes::{joint_actions, joint_observations, states};
-use crate::writing::write;
+use crate::writing::write_block;
 use dp_meaning::{Statement, Table, Text};
 use dp_num::Memory;
 use std::alloc::Global;
@@ -54,7 +54,7 @@ fn write_rewards(alloc: Global, cells: &mut [i64], sizes: &[u32], cost: bool, sc
 {
     let block = reward_block(alloc, cost, scale, &statement.value)?;
     let parts = list_parts(alloc, statement.fields.as_slice())?;
-    write(cells, sizes, &parts, &block);
+    write_block(cells, sizes, &parts, &block);
     Ok(())
 }
 
