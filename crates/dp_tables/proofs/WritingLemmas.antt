@@ -1,18 +1,18 @@
 -- What is written to the cells of a table.
-use Rattle.std.proofs.Common.{◌≡◌, ◌⊎◌, inl, inr, ℕ, zero, suc, ◌+◌, ◌-◌, ◌*◌, ◌/◌, ◌%◌, ◌<◌, ◌≤◌, Bool, true, false, cond, nat_le, nat_lt, ◌&&◌, List, [], ◌∷◌, ◌++◌, length, get_or, take, drop, refl, sym, ap, subst, ◌∙◌, arith, length-append}
+use Rattle.std.proofs.Common.{◌≡◌, ◌⊎◌, inl, inr, ℕ, suc, ◌+◌, ◌-◌, ◌*◌, ◌/◌, ◌%◌, ◌<◌, ◌≤◌, Bool, true, false, cond, nat_le, nat_lt, ◌&&◌, List, [], ◌∷◌, ◌++◌, length, get_or, take, drop, refl, sym, ap, subst, ◌∙◌, arith}
 use Rattle.std.specs.Int.{◌∣◌}
 use Rattle.std.proofs.lemmas.Bool.Decides.{nat_tests}
 use Rattle.std.proofs.lemmas.List.{get_or-take, get_or-drop, get_or_append_left, get_or-append_right, length-take-le, length-drop}
 use Rattle.std.proofs.lemmas.Slice.{first_rest}
 use Rattle.std.proofs.lemmas.Nat.{div-mul-add, mod_below}
-use Rattle.std.proofs.Math.Nat.{div-add-mod, div-lt_iff_lt-mul, mod-mod_of_dvd, mul-le-mul_right, mul_comm, one-dvd}
+use Rattle.std.proofs.Math.Nat.{div-add-mod, mod-mod_of_dvd, mul-le-mul_right, mul_comm, one-dvd}
 use borrow.Rule.Slice.PartMut.{put_mid}
 use Rattle.dp_meaning.specs.declared.statement.Part.{Part}
 use Rattle.dp_meaning.specs.declared.statement.Part.TheVariants.{Any}
 use Rattle.dp_meaning.specs.Cells.{allows, allow}
 use Rattle.dp_spec.specs.JointNumbers.{product, parts_of}
 use Rattle.dp_spec.proofs.JointNumberLaws.{product-drop_dvd, positive_left, positive_right, part_below}
-use Rattle.dp_tables.specs.Writing.{AreWithin, AreWritten, IsWithin, is_covered}
+use Rattle.dp_tables.specs.Writing.{AreWithin, AreWritten, is_covered}
 
 -- the stretches of this length from the first up to, but without, the i-th are written
 abbrev pub AreWrittenUpTo : {T : Type 0} → ℕ → ℕ → ℕ → List ℕ → List Part → List T → List T → List T → Type 0

@@ -1,5 +1,4 @@
-use Rattle.std.proofs.Common.{◌≡◌, [], ◌∷◌, ◌++◌, sym, ap, subst, ◌∙◌}
-use Rattle.dp_meaning.specs.declared.statement.Part.TheVariants.{Any}
+use Rattle.std.proofs.Common.{[], ◌∷◌, ◌++◌, sym, ap, subst, ◌∙◌}
 use Rattle.dp_tables.specs.Writing.{AreWithin, is_covered}
 use Rattle.dp_tables.proofs.WritingLemmas.{covered_without, within_without}
 use Rattle.dp_tables.proofs.writing.+without_last_any.Goals as goal
