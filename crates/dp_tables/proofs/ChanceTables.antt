@@ -1,10 +1,8 @@
 -- The chances of a table as its statements are written one after the other.
-use Rattle.std.proofs.Common.{◌≡◌, ◌⊎◌, ℕ, zero, suc, ◌+◌, ◌*◌, ◌%◌, ◌<◌, ◌≤◌, Bool, true, false, cond, List, [], ◌∷◌, ◌++◌, length, get_or, map, take, drop, refl, sym, ap, subst, ◌∙◌, arith}
-use Rattle.std.specs.Prelude.{filter, replicate}
+use Rattle.std.proofs.Common.{◌≡◌, ◌⊎◌, ℕ, ◌+◌, ◌*◌, ◌<◌, ◌≤◌, true, false, List, [], ◌∷◌, ◌++◌, length, get_or, map, take, drop, refl, sym, ap, subst, ◌∙◌, arith}
+use Rattle.std.specs.Prelude.{replicate}
 use Rattle.std.specs.List.{range_with_len}
-use Rattle.std.proofs.lemmas.List.{append-nil, take_more, take_all, length-replicate}
-use Rattle.std.proofs.lemmas.List.Elements.{filter-append}
-use Rattle.std.proofs.lemmas.List.FromFn.{fill_by_all}
+use Rattle.std.proofs.lemmas.List.{append-nil}
 use Rattle.std.proofs.lemmas.Nat.{mul-le}
 use Rattle.dp_spec.specs.JointNumbers.{product, parts_of}
 use Rattle.dp_meaning.specs.declared.given_list.GivenList.{GivenList}
@@ -17,20 +15,20 @@ use Rattle.dp_meaning.specs.declared.text.Text.{Text}
 use Rattle.dp_meaning.specs.NameLists.{size_of}
 use Rattle.dp_meaning.specs.Fields.{Axis}
 use Rattle.dp_meaning.specs.Statements.{axes_of, axis_size, is_trans, is_reward_table}
-use Rattle.dp_meaning.specs.Cells.{Cell, covers, is_same_table, statements_for, given_chance, chance_of_cell}
+use Rattle.dp_meaning.specs.Cells.{is_same_table, statements_for, given_chance, chance_of_cell}
 use Rattle.dp_meaning.specs.Text.{states_in, joint_actions_in}
 use Rattle.dp_meaning.specs.Meaning.{IsSaid}
 use Rattle.dp_meaning.proofs.CellValues.{chance_uncovered, chance_of_last, chance_of_others}
-use Rattle.dp_meaning.proofs.Each.{Each, all_from_each}
+use Rattle.dp_meaning.proofs.Each.{all_from_each}
 use Rattle.dp_meaning.proofs.ReadFields.{IsStatementOver, Fills, said_statements}
 use Rattle.dp_meaning.proofs.ReadStatements.{AreNumbersOf}
 use Rattle.dp_meaning.proofs.SaidTexts.{said_is, some_states, some_joint_actions, some_joint_observations}
 use Rattle.dp_tables.specs.Blocks.{chance_block, IsChanceValue}
 use Rattle.dp_tables.specs.Tables.{row_length}
-use Rattle.dp_tables.specs.Writing.{AreWithin, AreWritten, is_covered, list_sizes, list_parts}
+use Rattle.dp_tables.specs.Writing.{AreWithin, AreWritten, list_sizes, list_parts}
 use Rattle.dp_tables.proofs.ChanceLemmas.{IsTableOver, block_fits, value_at}
 use Rattle.dp_tables.proofs.CellTables.{AreCells, same_table, taken, skipped, no_cells, more_cells, all_cells}
-use Rattle.dp_tables.proofs.FlatCells.{product_of_lists, parts_within, width_of_parts, covered_by_lists}
+use Rattle.dp_tables.proofs.FlatCells.{product_of_lists, parts_within, width_of_parts}
 
 -- ---- the table of a text
 

@@ -1,17 +1,18 @@
 -- What is written to the cells of a table.
-use Rattle.std.proofs.Common.{◌≡◌, ◌⊎◌, inl, inr, ℕ, zero, suc, ◌+◌, ◌-◌, ◌*◌, ◌/◌, ◌%◌, ◌<◌, ◌≤◌, Bool, true, false, cond, nat_le, nat_lt, ◌&&◌, List, [], ◌∷◌, ◌++◌, length, get_or, take, drop, refl, sym, ap, subst, ◌∙◌, arith, length-append}
+use Rattle.std.proofs.Common.{◌≡◌, ◌⊎◌, inl, inr, ℕ, suc, ◌+◌, ◌-◌, ◌*◌, ◌/◌, ◌%◌, ◌<◌, ◌≤◌, Bool, true, false, cond, nat_le, nat_lt, ◌&&◌, List, [], ◌∷◌, ◌++◌, length, get_or, take, drop, refl, sym, ap, subst, ◌∙◌, arith}
 use Rattle.std.specs.Int.{◌∣◌}
 use Rattle.std.proofs.lemmas.Bool.Decides.{nat_tests}
 use Rattle.std.proofs.lemmas.List.{get_or-take, get_or-drop, get_or_append_left, get_or-append_right, length-take-le, length-drop}
 use Rattle.std.proofs.lemmas.Slice.{first_rest}
 use Rattle.std.proofs.lemmas.Nat.{div-mul-add, mod_below}
-use Rattle.std.proofs.Math.Nat.{div-add-mod, div-lt_iff_lt-mul, mod-mod_of_dvd, mul-le-mul_right, mul_comm, one-dvd}
+use Rattle.std.proofs.Math.Nat.{div-add-mod, mod-mod_of_dvd, mul-le-mul_right, mul_comm, one-dvd}
 use borrow.Rule.Slice.PartMut.{put_mid}
 use Rattle.dp_meaning.specs.declared.statement.Part.{Part}
-use Rattle.dp_meaning.specs.Cells.{allows}
-use Rattle.dp_spec.specs.JointNumbers.{product}
+use Rattle.dp_meaning.specs.declared.statement.Part.TheVariants.{Any}
+use Rattle.dp_meaning.specs.Cells.{allows, allow}
+use Rattle.dp_spec.specs.JointNumbers.{product, parts_of}
 use Rattle.dp_spec.proofs.JointNumberLaws.{product-drop_dvd, positive_left, positive_right, part_below}
-use Rattle.dp_tables.specs.Writing.{AreWithin, AreWritten, IsWithin, is_covered}
+use Rattle.dp_tables.specs.Writing.{AreWithin, AreWritten, is_covered}
 
 -- the stretches of this length from the first up to, but without, the i-th are written
 abbrev pub AreWrittenUpTo : {T : Type 0} → ℕ → ℕ → ℕ → List ℕ → List Part → List T → List T → List T → Type 0
@@ -229,3 +230,20 @@ written_whole sizes parts size inner part others step first end block before aft
     subst (λ ns. AreWritten ns parts block before after) (sym is.sizes_are)
     (subst (λ ps. AreWritten (size ∷ inner) ps block before after) (sym is.parts_are)
     (all_written size inner part others step first end block before after e (long ∙ ap product is.sizes_are) within up))
+
+-- ---- last parts that allow all
+
+allow_more : (front : List Part) (ns : List ℕ) → allow (front ++ Any ∷ []) ns ≡ allow front ns
+allow_more [] [] = refl
+allow_more [] (n ∷ ns) = refl
+allow_more (part ∷ front) [] = refl
+allow_more (part ∷ front) (n ∷ ns) = ap (λ b. allows part n && b) (allow_more front ns)
+
+pub covered_without : (sizes : List ℕ) (front : List Part) (k : ℕ) → is_covered sizes front k ≡ is_covered sizes (front ++ Any ∷ []) k
+covered_without sizes front k = sym (allow_more front (parts_of sizes k))
+
+pub within_without : (sizes : List ℕ) (front : List Part) → AreWithin sizes (front ++ Any ∷ []) → AreWithin sizes front
+within_without [] [] are = tt
+within_without (size ∷ sizes) [] are = tt
+within_without [] (part ∷ front) are = absurd are
+within_without (size ∷ sizes) (part ∷ front) are = (are.0, within_without sizes front are.1)

@@ -1,7 +1,7 @@
 -- The tables of a text: their sizes.
 use Rattle.std.specs.Prelude.{ℕ}
 use Rattle.dp_meaning.specs.declared.statement.Table.{Table}
-use Rattle.dp_meaning.specs.declared.statement.Table.TheVariants.{Trans, Obs, Reward}
+use Rattle.dp_meaning.specs.declared.statement.Table.TheVariants.{Trans}
 use Rattle.dp_meaning.specs.declared.text.Text.{Text}
 use Rattle.dp_meaning.specs.Text.{states_in, joint_observations_in}
 

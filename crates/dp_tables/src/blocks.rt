@@ -12,7 +12,12 @@ use dp_num::{Decimal, Memory};
 use std::alloc::Global;
 
 /// The chances of a value, in a table whose rows have so many cells.
-pub(crate) fn chance_block(alloc: Global, scale: u64, len: u32, value: &Value) -> Result<Vec<u64>, Memory>
+pub(crate) fn chance_block(
+    alloc: Global,
+    scale: u64,
+    len: u32,
+    value: &Value,
+) -> Result<Vec<u64>, Memory>
     requires len { 0 < len }
     requires limit { len ≤ 256 }
     requires chances { IsChanceValue value.now }
@@ -76,7 +81,12 @@ fn chance_over(scale: u64, chance: Decimal) -> u64
 }
 
 /// The rewards of a value over the scale. Only Numbers give rewards.
-pub(crate) fn reward_block(alloc: Global, cost: bool, scale: u64, value: &Value) -> Result<Vec<i64>, Memory>
+pub(crate) fn reward_block(
+    alloc: Global,
+    cost: bool,
+    scale: u64,
+    value: &Value,
+) -> Result<Vec<i64>, Memory>
     requires scale { scale ≤ 10 ^ 9 }
     requires rewards { IsRewardValue value.now }
     ensures { IfOk result (λ block. block.items ≡ blocks.reward_block cost scale value.now) }
@@ -88,7 +98,12 @@ pub(crate) fn reward_block(alloc: Global, cost: bool, scale: u64, value: &Value)
 }
 
 /// Rewards over the scale.
-fn rewards_over(alloc: Global, cost: bool, scale: u64, rewards: &[Decimal]) -> Result<Vec<i64>, Memory>
+fn rewards_over(
+    alloc: Global,
+    cost: bool,
+    scale: u64,
+    rewards: &[Decimal],
+) -> Result<Vec<i64>, Memory>
     requires scale { scale ≤ 10 ^ 9 }
     requires rewards { All (λ d. is_reward d ≡ true) rewards.now }
     ensures { IfOk result (λ block. block.items ≡ map (spec.reward_over cost scale) rewards.now) }

@@ -16,7 +16,7 @@ ghost use Rattle.dp_tables.specs.Writing.{AreWithin, AreWritten};
 use crate::blocks::chance_block;
 use crate::lists::{list_parts, list_sizes};
 use crate::sizes::{joint_actions, joint_observations, states};
-use crate::writing::write;
+use crate::writing::write_block;
 use dp_meaning::{Statement, Table, Text};
 use dp_num::Memory;
 use std::alloc::Global;
@@ -27,13 +27,11 @@ pub fn chances(alloc: Global, text: &Text, table: Table, scale: u64) -> Result<V
     requires said { IsSaid text.now }
     requires within { passed_limit text.now ≡ None }
     requires table { is_reward_table table ≡ false }
-    ensures {
-      let len = row_length text.now table in
-      let statements = statements_for table text.now.statements in
-      let sizes = joint_actions_in text.now ∷ states_in text.now ∷ len ∷ [] in
-      let count = joint_actions_in text.now * states_in text.now * len in
-      IfOk result (λ cells. cells.items ≡ map (λ k. chance_of_cell scale (axes_of text.now.header table) statements (parts_of sizes k)) (range_with_len 0 count))
-    }
+    ensures { let len = row_length text.now table in
+        let statements = statements_for table text.now.statements in
+        let sizes = joint_actions_in text.now ∷ states_in text.now ∷ len ∷ [] in
+        let count = joint_actions_in text.now * states_in text.now * len in
+        IfOk result (λ cells. cells.items ≡ map (λ k. chance_of_cell scale (axes_of text.now.header table) statements (parts_of sizes k)) (range_with_len 0 count)) }
 {
     let len = row_len(text, table);
     let sizes = list_sizes(alloc, &text.header, table)?;
@@ -47,25 +45,28 @@ pub fn chances(alloc: Global, text: &Text, table: Table, scale: u64) -> Result<V
 }
 
 /// Writes what a statement gives to the chances that it covers.
-fn write_chances(alloc: Global, cells: &mut [u64], sizes: &[u32], scale: u64, len: u32, statement: &Statement) -> Result<(), Memory>
+fn write_chances(
+    alloc: Global,
+    cells: &mut [u64],
+    sizes: &[u32],
+    scale: u64,
+    len: u32,
+    statement: &Statement,
+) -> Result<(), Memory>
     requires some_len { 0 < len }
     requires len_limit { len ≤ 256 }
     requires chances { IsChanceValue statement.now.value }
     requires cells { length cells.old ≡ product sizes.now }
     requires some { 0 < product sizes.now }
     requires parts { AreWithin sizes.now (spec.list_parts statement.now.fields) }
-    requires block {
-      let block = blocks.chance_block scale len statement.now.value in
-      (length block ≡ 1) ⊎ (length block ≡ product (drop (length (spec.list_parts statement.now.fields)) sizes.now))
-    }
-    ensures {
-      let block = blocks.chance_block scale len statement.now.value in
-      OnOk result (AreWritten sizes.now (spec.list_parts statement.now.fields) block cells.old cells.new)
-    }
+    requires block { let block = blocks.chance_block scale len statement.now.value in
+        (length block ≡ 1) ⊎ (length block ≡ product (drop (length (spec.list_parts statement.now.fields)) sizes.now)) }
+    ensures { let block = blocks.chance_block scale len statement.now.value in
+        OnOk result (AreWritten sizes.now (spec.list_parts statement.now.fields) block cells.old cells.new) }
 {
     let block = chance_block(alloc, scale, len, &statement.value)?;
     let parts = list_parts(alloc, statement.fields.as_slice())?;
-    write(cells, sizes, &parts, &block);
+    write_block(cells, sizes, &parts, &block);
     Ok(())
 }
 

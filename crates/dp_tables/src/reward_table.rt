@@ -13,7 +13,7 @@ ghost use Rattle.dp_tables.specs.Writing.{AreWithin, AreWritten};
 use crate::blocks::reward_block;
 use crate::lists::{list_parts, list_sizes};
 use crate::sizes::{joint_actions, joint_observations, states};
-use crate::writing::write;
+use crate::writing::write_block;
 use dp_meaning::{Statement, Table, Text};
 use dp_num::Memory;
 use std::alloc::Global;
@@ -30,31 +30,41 @@ pub fn rewards(alloc: Global, text: &Text, scale: u64) -> Result<Vec<i64>, Memor
     let mut cells = vec![in alloc; 0; reward_cells(text)]?;
     for statement in text.statements.as_slice() {
         if Table::Reward.is_same(statement.table) {
-            write_rewards(alloc, &mut cells, &sizes, text.header.cost, scale, statement)?;
+            write_rewards(
+                alloc,
+                &mut cells,
+                &sizes,
+                text.header.cost,
+                scale,
+                statement,
+            )?;
         }
     }
     Ok(cells)
 }
 
 /// Writes what a statement gives to the rewards that it covers.
-fn write_rewards(alloc: Global, cells: &mut [i64], sizes: &[u32], cost: bool, scale: u64, statement: &Statement) -> Result<(), Memory>
+fn write_rewards(
+    alloc: Global,
+    cells: &mut [i64],
+    sizes: &[u32],
+    cost: bool,
+    scale: u64,
+    statement: &Statement,
+) -> Result<(), Memory>
     requires scale { scale ≤ 10 ^ 9 }
     requires rewards { IsRewardValue statement.now.value }
     requires cells { length cells.old ≡ product sizes.now }
     requires some { 0 < product sizes.now }
     requires parts { AreWithin sizes.now (spec.list_parts statement.now.fields) }
-    requires block {
-      let block = blocks.reward_block cost scale statement.now.value in
-      length block ≡ product (drop (length (spec.list_parts statement.now.fields)) sizes.now)
-    }
-    ensures {
-      let block = blocks.reward_block cost scale statement.now.value in
-      OnOk result (AreWritten sizes.now (spec.list_parts statement.now.fields) block cells.old cells.new)
-    }
+    requires block { let block = blocks.reward_block cost scale statement.now.value in
+        length block ≡ product (drop (length (spec.list_parts statement.now.fields)) sizes.now) }
+    ensures { let block = blocks.reward_block cost scale statement.now.value in
+        OnOk result (AreWritten sizes.now (spec.list_parts statement.now.fields) block cells.old cells.new) }
 {
     let block = reward_block(alloc, cost, scale, &statement.value)?;
     let parts = list_parts(alloc, statement.fields.as_slice())?;
-    write(cells, sizes, &parts, &block);
+    write_block(cells, sizes, &parts, &block);
     Ok(())
 }
 

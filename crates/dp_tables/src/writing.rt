@@ -1,7 +1,7 @@
 //! Writing the values of a statement into the cells that it covers.
-ghost use Rattle.std.specs.Prelude.{◌≡◌, ◌⊎◌, ℕ, ◌*◌, ◌%◌, ◌+◌, ◌<◌, ◌≤◌, length, drop, get_or, nat_le, nat_lt, ◌&&◌};
+ghost use Rattle.std.specs.Prelude.{◌≡◌, ◌⊎◌, ℕ, List, ◌*◌, ◌%◌, ◌+◌, ◌<◌, ◌≤◌, length, drop, get_or, nat_le, nat_lt, ◌&&◌};
 ghost use Rattle.dp_spec.specs.JointNumbers.{product};
-ghost use Rattle.dp_tables.specs.Writing.{AreWithin, AreWritten, IsWithin};
+ghost use Rattle.dp_tables.specs.Writing.{AreWithin, AreWritten, IsWithin, is_covered};
 ghost use Rattle.dp_meaning.specs.Cells.{allows};
 
 use dp_meaning::Part;
@@ -9,7 +9,34 @@ use dp_meaning::Part;
 /// Writes a block of values to the cells that the parts allow. The number of a cell has one digit for each of `sizes`,
 /// the first most significant, and the parts stand for the first of these; a cell gets the value of the block that the
 /// other digits number. A block of one value is that value for all of them.
-pub(crate) fn write<T: Copy>(cells: &mut [T], sizes: &[u32], parts: &[Part], block: &[T])
+pub(crate) fn write_block<T: Copy>(cells: &mut [T], sizes: &[u32], parts: &[Part], block: &[T])
+    requires cells { length cells.old ≡ product sizes.now }
+    requires some { 0 < product sizes.now }
+    requires parts { AreWithin sizes.now parts.now }
+    requires block { (length block.now ≡ 1) ⊎ (length block.now ≡ product (drop (length parts.now) sizes.now)) }
+    ensures { AreWritten sizes.now parts.now block.now cells.old cells.new }
+{
+    if block.len() == 1 {
+        // One value fills whole stretches where the last parts allow all.
+        write(cells, sizes, without_last_any(parts), block);
+    } else {
+        write(cells, sizes, parts, block);
+    }
+}
+
+/// The parts up to the last that names one number.
+fn without_last_any(parts: &[Part]) -> &[Part]
+    ensures same { (sizes : List ℕ) (k : ℕ) → is_covered sizes result.now k ≡ is_covered sizes parts.now k }
+    ensures within { (sizes : List ℕ) → AreWithin sizes parts.now → AreWithin sizes result.now }
+{
+    match parts.split_last() {
+        Some((Part::Any, front)) => without_last_any(front),
+        _ => parts,
+    }
+}
+
+/// As `write_block`, stretch by stretch.
+fn write<T: Copy>(cells: &mut [T], sizes: &[u32], parts: &[Part], block: &[T])
     requires cells { length cells.old ≡ product sizes.now }
     requires some { 0 < product sizes.now }
     requires parts { AreWithin sizes.now parts.now }

@@ -1,4 +1,4 @@
-use Rattle.std.proofs.Common.{◌≡◌, ◌^◌, ◌≤◌, ap, ◌∙◌, arith}
+use Rattle.std.proofs.Common.{◌^◌, ◌≤◌, ap, ◌∙◌, arith}
 use Rattle.dp_num.proofs.SignificandLaws.{some_tens}
 use Rattle.dp_meaning.proofs.ReadScales.{chance_parts}
 use Rattle.dp_tables.proofs.ScaleLemmas.{tens_within}

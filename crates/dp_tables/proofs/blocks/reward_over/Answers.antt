@@ -1,5 +1,5 @@
-use Rattle.std.proofs.Common.{◌≡◌, ◌*◌, ◌/◌, ◌^◌, ◌≤◌, sym, ap, subst, ◌∙◌, arith}
-use Rattle.std.specs.Prelude.{ℤ, pos, neg_ℤ, ◌*ℤ◌, unsigned_abs}
+use Rattle.std.proofs.Common.{◌*◌, ◌/◌, ◌^◌, ◌≤◌, sym, ap, subst, ◌∙◌, arith}
+use Rattle.std.specs.Prelude.{neg_ℤ, unsigned_abs}
 use Rattle.dp_meaning.specs.Cells.{reward_over}
 use Rattle.dp_num.proofs.SignificandLaws.{some_tens}
 use Rattle.dp_meaning.proofs.ReadScales.{reward_parts}

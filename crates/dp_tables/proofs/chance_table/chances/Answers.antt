@@ -1,14 +1,9 @@
-use Rattle.std.proofs.Common.{◌≡◌, ◌+◌, ◌*◌, ◌<◌, ◌≤◌, refl, sym, ap, subst, ◌∙◌, arith, take}
+use Rattle.std.proofs.Common.{◌+◌, sym, ap, subst, ◌∙◌, arith, take}
 use Rattle.std.proofs.lemmas.List.{take_all, with_items_is}
-use Rattle.dp_meaning.specs.declared.statement.Table.{Table}
-use Rattle.dp_meaning.specs.declared.text.Text.{Text}
-use Rattle.dp_meaning.specs.Meaning.{IsSaid}
-use Rattle.dp_meaning.specs.Statements.{axes_of, is_reward_table}
+use Rattle.dp_meaning.specs.Statements.{axes_of}
 use Rattle.dp_meaning.specs.Cells.{statements_for}
 use Rattle.dp_meaning.specs.Text.{states_in, joint_actions_in}
 use Rattle.dp_tables.specs.Tables.{row_length}
-use Rattle.dp_tables.specs.Writing.{list_sizes}
-use Rattle.dp_tables.proofs.ChanceLemmas.{IsTableOver}
 use Rattle.dp_tables.proofs.ChanceTables.{IsChanceStatement, IsWritable, AreChancesBy, some_row, table_over, table_over_len, chance_statement, writable, no_chances, cells_count, chances_taken, chances_skipped, all_chances}
 use Rattle.dp_tables.proofs.chance_table.chances.Goals as goal
 use Rattle.dp_tables.proofs.chance_table.chances.Goals.{then-is_same+in_ok-write_chances, else-is_same}

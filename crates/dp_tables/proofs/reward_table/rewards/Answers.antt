@@ -1,4 +1,4 @@
-use Rattle.std.proofs.Common.{◌≡◌, ◌+◌, ◌<◌, ◌≤◌, sym, ap, subst, ◌∙◌, take}
+use Rattle.std.proofs.Common.{◌+◌, sym, ap, subst, ◌∙◌, take}
 use Rattle.std.proofs.lemmas.List.{take_all, with_items_is}
 use Rattle.dp_meaning.specs.declared.statement.Table.TheVariants.{Reward}
 use Rattle.dp_meaning.specs.Cells.{statements_for}

@@ -1,6 +1,5 @@
-use Rattle.std.proofs.Common.{◌≡◌, ◌+◌, ◌/◌, ◌<◌, ◌≤◌, length, get_or, subst, sym, arith, ap, ◌∙◌, ◌*◌}
+use Rattle.std.proofs.Common.{◌≡◌, ◌/◌, ◌<◌, length, get_or, subst, arith, ◌∙◌}
 use Rattle.dp_meaning.specs.declared.statement.Part.TheVariants.{Any}
-use Rattle.dp_spec.specs.JointNumbers.{product}
 use borrow.Rule.Slice.PartMut.{same_len_mid}
 use Rattle.dp_tables.proofs.WritingLemmas.{AreWrittenUpTo, some_size, step_of, step_is, block_divides, next_written, written_whole, behind_first, positive_step, long_step}
 use Rattle.dp_tables.proofs.writing.+write.Goals as goal

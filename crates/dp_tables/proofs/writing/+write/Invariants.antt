@@ -1,4 +1,4 @@
-use Rattle.std.proofs.Common.{length, ◌≡◌, take, drop, ◌-◌}
+use Rattle.std.proofs.Common.{length, ◌≡◌}
 use Rattle.dp_tables.proofs.WritingLemmas.{AreWrittenUpTo, behind_first}
 use Rattle.dp_tables.proofs.writing.+write.Given as goal
 
