@@ -1,4 +1,7 @@
-use crate::files::{ONE_STATE, SOLO_CHANCES, SOLO_LISTS, SOLO_REWARDS, TIGER, TINY, solo_with, text_of};
+use crate::files::{
+    ONE_STATE, SOLO_CHANCES, SOLO_LISTS, SOLO_REWARDS, TIGER, TINY, solo_with, text_of,
+};
+use crate::refusals::{FAULTS, LIMITS};
 use dp_cli::{Status, run};
 use dp_io::{MemShelf, MemSink};
 use dp_num::Memory;
@@ -132,7 +135,12 @@ O: 0 : 0 : 0.9999999999999999\n",
     );
     for row in [
         row(&TIGER, "0", Status::Usage, "refused usage\n"),
-        row(&TIGER, "11", Status::TooLarge, "refused large own-histories 4094\n"),
+        row(
+            &TIGER,
+            "11",
+            Status::TooLarge,
+            "refused large own-histories 4094\n",
+        ),
         row(&TIGER, "17", Status::TooLarge, "refused large horizon 17\n"),
         row(&TIGER, "10", Status::Unbuilt, "refused unbuilt horizon\n"),
         row(&TINY, "2", Status::Unbuilt, "refused unbuilt horizon\n"),
@@ -156,6 +164,27 @@ fn faults_of_models(rt: HostRuntime) -> Result<(), Fail> {
     ] {
         let row = row(file, "1", Status::BadModel, put);
         assert!(rt; is_kept(rt.alloc(), &row)?, "{:?}", row.put);
+    }
+    Ok(())
+}
+
+// A text for each place that a fault may have.
+#[test]
+fn faults_and_their_places(rt: HostRuntime) -> Result<(), Fail> {
+    for (text, put) in FAULTS {
+        let file = [text];
+        let row = row(&file, "1", Status::BadModel, put);
+        assert!(rt; is_kept(rt.alloc(), &row)?, "{put:?}");
+    }
+    Ok(())
+}
+
+#[test]
+fn limits_on_models(rt: HostRuntime) -> Result<(), Fail> {
+    for (text, put) in LIMITS {
+        let file = [text];
+        let row = row(&file, "1", Status::TooLarge, put);
+        assert!(rt; is_kept(rt.alloc(), &row)?, "{put:?}");
     }
     Ok(())
 }

@@ -11,7 +11,8 @@ pub fn text_of(alloc: Global, pieces: &[&str]) -> Result<String, Memory> {
 }
 
 // Of 200 parts of 1, action b is worth 200 and action a 150.
-pub const TINY: [&str; 1] = ["agents: 1\n\
+pub const TINY: [&str; 1] = [
+    "agents: 1\n\
 discount: 1\n\
 values: reward\n\
 states: u v\n\
@@ -39,10 +40,12 @@ R: a : v : v : z : -2\n\
 R: b : u : u : z : 1\n\
 R: b : u : v : z : 1\n\
 R: b : v : u : z : 1\n\
-R: b : v : v : z : 1\n"];
+R: b : v : v : z : 1\n",
+];
 
 // The decentralised tiger benchmark.
-pub const TIGER: [&str; 1] = ["agents: 2\n\
+pub const TIGER: [&str; 1] = [
+    "agents: 2\n\
 discount: 1\n\
 values: reward\n\
 states: tiger-left tiger-right\n\
@@ -85,7 +88,8 @@ R: open-right listen: tiger-right : * : * : -101\n\
 R: listen open-right: tiger-left : * : * : 9\n\
 R: listen open-left: tiger-right : * : * : 9\n\
 R: open-right listen: tiger-left : * : * : 9\n\
-R: open-left listen: tiger-right : * : * : 9\n"];
+R: open-left listen: tiger-right : * : * : 9\n",
+];
 
 // One state and one agent with two actions, which are worth 1 and 3.
 pub const SOLO_HEAD: &str = "agents: 1\ndiscount: 1\nvalues: reward\n";

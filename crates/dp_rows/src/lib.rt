@@ -8,3 +8,5 @@ mod calls;
 mod files;
 #[cfg(test)]
 mod models;
+#[cfg(test)]
+mod refusals;

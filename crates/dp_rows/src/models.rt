@@ -109,7 +109,10 @@ fn statements_that_are_replaced(rt: HostRuntime) -> Result<(), Fail> {
         ([cells, "T: * : uniform\n", "O: * : uniform\n"], 5, 5),
     ] {
         let text = text_of(rt.alloc(), &chances)?;
-        let read = read(rt.alloc(), &solo_with("states: 2\nstart: uniform\n", text.as_str()))?;
+        let read = read(
+            rt.alloc(),
+            &solo_with("states: 2\nstart: uniform\n", text.as_str()),
+        )?;
         let model = &read.model;
         assert_eq!(rt; model.scales().trans, 10);
         assert!(rt; model.states() == 2);
