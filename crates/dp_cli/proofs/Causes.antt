@@ -142,7 +142,7 @@ pub failed_read_fault : {job : Option Job} {texts : List (List ℕ)} {old new : 
 failed_read_fault answers h = count_read_fault answers (last_counts h)
 
 -- the status of a call whose put did not fail
-kept_status : (reply : Result (Unit {0}) SinkFailed) (status result : Status) → result ≡ status_after reply status → result ≢ statuses.WriteFault → result ≡ status
+pub kept_status : (reply : Result (Unit {0}) SinkFailed) (status result : Status) → result ≡ status_after reply status → result ≢ statuses.WriteFault → result ≡ status
 kept_status (Ok done) status result ended h = ended
 kept_status (Err fault) status result ended h = absurd (h ended)
 

@@ -1,5 +1,6 @@
 mod Answering
 mod Causes
 mod Certifying
+mod Faulty
 mod Planning
 mod Told

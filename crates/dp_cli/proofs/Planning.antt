@@ -7,7 +7,8 @@ use Rattle.dp_spec.specs.Model.{Model}
 use Rattle.dp_model.specs.declared.limit.TooLarge.{TooLarge}
 use Rattle.dp_model.specs.Limits.{first_passed}
 use Rattle.dp_model.specs.Horizons.{horizon_limits}
-use Rattle.dp_meaning.specs.Meaning.{Meaning, Means, FaultAt, Passes, meaning}
+use Rattle.dp_meaning.specs.declared.why.Why.{Why}
+use Rattle.dp_meaning.specs.Meaning.{Meaning, Place, Means, FaultAt, Passes, meaning}
 use Rattle.dp_reader.specs.declared.ReadModel.{ReadModel}
 use Rattle.dp_reader.specs.declared.ModelFault.{ModelFault}
 use Rattle.dp_reader.specs.declared.ModelFault.TheVariants as model_faults
@@ -78,6 +79,32 @@ plan_status horizon (FaultAt place why) answer status h other e = other.bad_mode
 plan_status horizon (Passes passed) answer status h other e = other.too_large (sym (status_of h) ∙ e)
 plan_status horizon (Means read) answer status h other e =
     within_status read.model.model horizon (first_passed (horizon_limits read.model.model horizon)) answer status h other e
+
+-- ---- a fault of the model
+
+not_bad : (m : Model) (horizon : ℕ) (passed : Option TooLarge) (answer : Answer) → IsPlanWithin m horizon passed answer
+    → answer.status ≢ statuses.BadModel
+not_bad m horizon (Some passed) answer h = λ e. cc
+not_bad m horizon None answer h = built (nat_lt 1 horizon) (is_exact_mode m horizon) h
+  where
+    built : (is_long is_exact : Bool) → IsBuiltPlan m is_long is_exact answer → answer.status ≢ statuses.BadModel
+    built true is_exact h = λ e. cc
+    built false false h = λ e. cc
+    built false true h = λ e. let done = h.status in cc
+
+-- a plan is answered by a fault of the model exactly where the model has one
+pub bad_model_has_fault : (horizon : ℕ) (meant : Meaning) (answer : Answer) → IsPlanReply horizon meant answer → answer.status ≡ statuses.BadModel
+    → (place : Place) × (why : Why) × (meant ≡ FaultAt place why)
+bad_model_has_fault horizon (FaultAt place why) answer h e = (place, (why, refl))
+bad_model_has_fault horizon (Passes passed) answer h e = cc
+bad_model_has_fault horizon (Means read) answer h e =
+    absurd (not_bad read.model.model horizon (first_passed (horizon_limits read.model.model horizon)) answer h e)
+
+pub fault_is_bad_model : (horizon : ℕ) (meant : Meaning) (place : Place) (why : Why) (answer : Answer) → IsPlanReply horizon meant answer
+    → meant ≡ FaultAt place why → answer.status ≡ statuses.BadModel
+fault_is_bad_model horizon (FaultAt there reason) place why answer h e = ap (λ (a : Answer). a.status) h
+fault_is_bad_model horizon (Passes passed) place why answer h e = cc
+fault_is_bad_model horizon (Means read) place why answer h e = cc
 
 -- ---- a plan that is done
 

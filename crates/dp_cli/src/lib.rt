@@ -4,7 +4,7 @@
 
 ghost use Rattle.std.specs.Prelude.{◌≡◌, ◌≢◌, ◌+◌, ◌<◌, ◌^◌, ◌↔◌, None, length, map, string_bytes, IfSome};
 ghost use Rattle.dp_words.specs.Words.{job_of};
-ghost use Rattle.dp_cli.specs.Causes.{LogsFirstOf, LastFailed};
+ghost use Rattle.dp_cli.specs.Causes.{HasFaultyModel, LogsFirstOf, LastFailed};
 ghost use Rattle.dp_cli.specs.Certified.{IsCertified};
 ghost use Rattle.dp_cli.specs.Job.{files_of};
 ghost use Rattle.dp_cli.specs.Run.{Runs, RunsAsTold};
@@ -51,6 +51,8 @@ pub fn run<S: Shelf, W: Sink>(alloc: Global, words: &[String], shelf: &mut S, ou
     ensures one_put { (W.view out.new).puts ≡ (W.view out.old).puts + 1 }
     ensures usage { result ≢ Status.WriteFault → result ≢ Status.NoMemory →
         ((result ≡ Status.Usage) ↔ (job_of (map string_bytes words.now) ≡ None)) }
+    ensures bad_model { result ≢ Status.WriteFault → result ≢ Status.NoMemory → IfSome (S.view shelf.old).told (λ contents.
+        (result ≡ Status.BadModel) ↔ HasFaultyModel contents (length (S.view shelf.old).log) (job_of (map string_bytes words.now))) }
     ensures read_fault { result ≢ Status.WriteFault →
         ((result ≡ Status.ReadFault) ↔ LastFailed (S.view shelf.old).log (S.view shelf.new).log) }
     ensures write_fault { (result ≡ Status.WriteFault) ↔ ((W.view out.old).faults < (W.view out.new).faults) }

@@ -1,6 +1,7 @@
 use Rattle.dp_cli.proofs.Answering.{runs_by}
 use Rattle.dp_cli.proofs.Causes.{contents_unchanged, logs_files, read_fault_runs, usage_runs}
 use Rattle.dp_cli.proofs.Certifying.{certified_as_told}
+use Rattle.dp_cli.proofs.Faulty.{bad_model_as_told}
 use Rattle.dp_cli.proofs.Told.{runs_as_told}
 use Rattle.dp_cli.proofs.run.Goals as goal
 
@@ -24,3 +25,7 @@ returns-clause-certified g c = certified_as_told _ _ _ _ _ _ (runs_as_told _ _ _
 
 pub returns-clause-usage : goal.returns-clause-usage
 returns-clause-usage g c = usage_runs (runs_by c.do_words-outcome.result c.do_words-outcome.ensures c.put_outcome.ensures)
+
+pub returns-clause-bad_model : goal.returns-clause-bad_model
+returns-clause-bad_model g c = λ no_fault found.
+    bad_model_as_told _ _ _ _ _ _ (runs_as_told _ _ _ _ _ _ (runs_by c.do_words-outcome.result c.do_words-outcome.ensures c.put_outcome.ensures)) no_fault found
