@@ -68,7 +68,8 @@ no_cells T none axes value cells n e long empty = record {
     none_at (suc n) (suc k) = none_at n k
 
 -- one more statement: the cells that it covers have what it gives them, and the others what they had
-pub more_cells : (T : Type 0) (none : T) (axes : List Axis) (before given after : Cell → T) (fields : List (List Part)) (block cells new : List T)
+pub more_cells : (T : Type 0) (none : T) (axes : List Axis) (before given after : Cell → T) (fields : List (List Part))
+    (block cells new : List T)
     → AreFieldsOf axes fields → AreCells T none axes before cells → length new ≡ length cells
     → AreWritten (list_sizes axes) (list_parts fields) block cells new
     → ((k : ℕ) → k < product (map axis_size axes) → get_or block (k % length block) none ≡ given (parts_of (map axis_size axes) k))

@@ -60,7 +60,8 @@ block_fits scale actions states len f table axes Identity is fills =
 
 -- ---- the value of a cell
 
-of_uniform : (scale actions states len k : ℕ) → get_or (scale / len ∷ []) (k % 1) 0 ≡ given_chance scale (actions ∷ states ∷ len ∷ []) 0 [] Uniform
+of_uniform : (scale actions states len k : ℕ) → get_or (scale / len ∷ []) (k % 1) 0 ≡ given_chance scale
+    (actions ∷ states ∷ len ∷ []) 0 [] Uniform
 of_uniform scale actions states len k = let e : k % 1 ≡ 0 = omega arith in ap (λ n. get_or (scale / len ∷ []) n 0) e
 
 -- the digits of a cell of a square

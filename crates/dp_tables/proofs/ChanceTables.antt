@@ -116,8 +116,10 @@ pub no_chances : (scale : ℕ) (axes : List Axis) (cells : List ℕ) (n : ℕ) �
 no_chances scale axes cells n e long =
     no_cells ℕ 0 axes (chance_of_cell scale axes []) cells n e long (λ cell. chance_uncovered scale axes [] cell refl)
 
-more_chances : (scale actions states len : ℕ) (table : Table) (axes : List Axis) (before : List Statement) (s : Statement) (cells new : List ℕ)
-    → IsTableOver table axes actions states len → IsChanceStatement table axes s → AreChancesBy scale axes before cells → length new ≡ length cells
+more_chances : (scale actions states len : ℕ) (table : Table) (axes : List Axis) (before : List Statement) (s : Statement)
+    (cells new : List ℕ)
+    → IsTableOver table axes actions states len → IsChanceStatement table axes s → AreChancesBy scale axes before cells → length new
+    ≡ length cells
     → AreWritten (list_sizes axes) (list_parts s.fields) (chance_block scale len s.value) cells new
     → AreChancesBy scale axes (before ++ s ∷ []) new
 more_chances scale actions states len table axes before s cells new over is so_far long written =
@@ -174,6 +176,8 @@ cells_count table axes actions states len over = product_of_lists axes ∙ ap pr
 -- all of the table's statements
 pub all_chances : (scale actions states len : ℕ) (table : Table) (axes : List Axis) (statements : List Statement) (cells : List ℕ)
     → IsTableOver table axes actions states len → AreChancesBy scale axes statements cells
-    → cells ≡ map (λ k. chance_of_cell scale axes statements (parts_of (actions ∷ states ∷ len ∷ []) k)) (range_with_len 0 (actions * states * len))
+    → cells ≡ map (λ k. chance_of_cell scale axes statements (parts_of (actions ∷ states ∷ len ∷ []) k))
+    (range_with_len 0 (actions * states * len))
 all_chances scale actions states len table axes statements cells over are =
-    all_cells ℕ 0 axes (chance_of_cell scale axes statements) cells (actions ∷ states ∷ len ∷ []) (actions * states * len) are over.sizes (omega arith)
+    all_cells ℕ 0 axes (chance_of_cell scale axes statements) cells (actions ∷ states ∷ len ∷ [])
+    (actions * states * len) are over.sizes (omega arith)

@@ -36,14 +36,16 @@ within_axis : (axis : Axis) (parts : List Part) (sizes : List ℕ) (others : Lis
 within_axis [] [] sizes others are rest = rest
 within_axis [] (part ∷ parts) sizes others are rest = absurd are
 within_axis (list ∷ lists) [] sizes others are rest = absurd are
-within_axis (list ∷ lists) (part ∷ parts) sizes others are rest = (within_one list part are.0, within_axis lists parts sizes others are.1 rest)
+within_axis (list ∷ lists) (part ∷ parts) sizes others are rest =
+    (within_one list part are.0, within_axis lists parts sizes others are.1 rest)
 
 no_parts : (sizes : List ℕ) → AreWithin sizes []
 no_parts [] = tt
 no_parts (size ∷ sizes) = tt
 
 -- the parts of the fields are parts of the lists
-pub parts_within : (axes : List Axis) (fields : List (List Part)) → AreFieldsOf axes fields → AreWithin (list_sizes axes) (list_parts fields)
+pub parts_within : (axes : List Axis) (fields : List (List Part)) → AreFieldsOf axes fields → AreWithin (list_sizes axes)
+    (list_parts fields)
 parts_within axes [] are = no_parts (list_sizes axes)
 parts_within [] (parts ∷ fields) are = absurd are
 parts_within (axis ∷ axes) (parts ∷ fields) are =
@@ -81,7 +83,8 @@ allow_append [] others [] ms e = refl
 allow_append [] others (n ∷ ns) ms e = absurd (omega arith)
 allow_append (part ∷ parts) others [] ms e = absurd (omega arith)
 allow_append (part ∷ parts) others (n ∷ ns) ms e =
-    ap (λ b. allows part n && b) (allow_append parts others ns ms (omega arith)) ∙ and_in_turn (allows part n) (allow parts ns) (allow others ms)
+    ap (λ b. allows part n && b) (allow_append parts others ns ms (omega arith)) ∙ and_in_turn (allows part n) (allow parts ns)
+    (allow others ms)
 
 -- the fields cover the cells that their parts allow
 pub covered_by_lists : (axes : List Axis) (fields : List (List Part)) (k : ℕ) → AreFieldsOf axes fields → k < product (list_sizes axes)

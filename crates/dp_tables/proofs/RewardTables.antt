@@ -99,7 +99,8 @@ rewards_fit cost scale f axes Uniform fills = absurd (cc)
 rewards_fit cost scale f axes Identity fills = absurd (cc)
 rewards_fit cost scale f axes (Numbers ns) fills = length-map ns (reward_over cost scale) ∙ fills
 
-reward_value_at : (cost : Bool) (scale k f : ℕ) (axes : List Axis) (v : Value) → Fills Reward (drop f axes) v → k < product (map axis_size axes)
+reward_value_at : (cost : Bool) (scale k f : ℕ) (axes : List Axis) (v : Value) → Fills Reward (drop f axes) v → k < product
+    (map axis_size axes)
     → get_or (reward_block cost scale v) (k % length (reward_block cost scale v)) (pos 0)
     ≡ given_reward cost scale (map axis_size axes) f (parts_of (map axis_size axes) k) v
 reward_value_at cost scale k f axes Uniform fills h = absurd (cc)
@@ -143,14 +144,16 @@ more_rewards text scale before s cells new is so_far long written =
     let axes = reward_axes text in
     let cost = text.header.cost in
     more_cells ℤ (pos 0) axes (reward_of_cell cost scale axes before)
-    (λ cell. given_reward cost scale (map axis_size axes) (length s.fields) cell s.value) (reward_of_cell cost scale axes (before ++ s ∷ []))
+    (λ cell. given_reward cost scale (map axis_size axes) (length s.fields) cell s.value)
+    (reward_of_cell cost scale axes (before ++ s ∷ []))
     s.fields (reward_block cost scale s.value) cells new is.over.fields so_far long written
     (λ k h. reward_value_at cost scale k (length s.fields) axes s.value is.fills h)
     (λ cell e. reward_of_last cost scale axes before s [] cell e refl)
     (λ cell e. reward_of_others cost scale axes before s [] cell e ∙ ap (λ ss. reward_of_cell cost scale axes ss cell) (append-nil before))
 
 -- a statement of the rewards is written ..
-pub rewards_taken : (text : Text) (scale : ℕ) (items : List Statement) (i : ℕ) (s : Statement) (cells new : List ℤ) (sizes : List ℕ) (old : List ℤ)
+pub rewards_taken : (text : Text) (scale : ℕ) (items : List Statement) (i : ℕ) (s : Statement) (cells new : List ℤ) (sizes : List ℕ)
+    (old : List ℤ)
     → IsRewardStatement (reward_axes text) s → i < length items → s ≡ get_or items i s → is_same_table Reward s.table ≡ true
     → AreRewardsBy text scale (statements_for Reward (take i items)) cells → sizes ≡ list_sizes (reward_axes text) → old ≡ cells
     → length new ≡ length old → AreWritten sizes (list_parts s.fields) (reward_block text.header.cost scale s.value) old new

@@ -70,18 +70,21 @@ none_written step first sizes parts block before k d h =
   where
     by : (q : ℕ) → (q < first) ⊎ ((q ≡ first) ⊎ (first < q)) → (nat_le first q && nat_lt q first) ≡ false
     by q (inl h) = grind (arith, nat_tests)
-    by q (inr h) = let e : nat_lt q first ≡ false = lt_false q first (omega arith) in ap (λ b. nat_le first q && b) e ∙ and_false (nat_le first q)
+    by q (inr h) = let e : nat_lt q first ≡ false = lt_false q first (omega arith) in ap (λ b. nat_le first q && b) e ∙ and_false
+        (nat_le first q)
 
 pub one_more : {T : Type 0} (step first i : ℕ) (sizes : List ℕ) (parts : List Part) (block before now new : List T)
     → 0 < step → first ≤ i → length now ≡ length before → i * step + step ≤ length before → length new ≡ step → length block ∣ step
     → AreWrittenUpTo step first i sizes parts block before now
-    → ((k : ℕ) (d : T) → k < step → get_or new k d ≡ cond (is_covered sizes parts k) (get_or block (k % length block) d) (get_or now (i * step + k) d))
+    → ((k : ℕ) (d : T) → k < step → get_or new k d ≡ cond (is_covered sizes parts k) (get_or block (k % length block) d)
+    (get_or now (i * step + k) d))
     → AreWrittenUpTo step first (i + 1) sizes parts block before (put_mid (i * step) step now new)
 one_more {T} step first i sizes parts block before now new some from same fits long whole up written k d h =
     by (order (k / step) i)
   where
     value : Bool → T
-    value b = cond ((nat_le first (k / step) && b) && is_covered sizes parts (k % step)) (get_or block (k % length block) d) (get_or before k d)
+    value b = cond ((nat_le first (k / step) && b) && is_covered sizes parts (k % step)) (get_or block (k % length block) d)
+        (get_or before k d)
 
     split : step * (k / step) + k % step ≡ k
     split = div-add-mod k step
@@ -100,11 +103,13 @@ one_more {T} step first i sizes parts block before now new some from same fits l
         let times = ap (λ q. step * q) e in
         let at : i * step + k % step ≡ k = omega arith in
         let inner : get_or now k d ≡ get_or before k d = up k d h ∙ ap value (lt_false (k / step) i (omega arith))
-        ∙ ap (λ b. cond (b && is_covered sizes parts (k % step)) (get_or block (k % length block) d) (get_or before k d)) (and_false (nat_le first (k / step))) in
+        ∙ ap (λ b. cond (b && is_covered sizes parts (k % step)) (get_or block (k % length block) d) (get_or before k d))
+        (and_false (nat_le first (k / step))) in
         ap (λ n. get_or (put_mid (i * step) step now new) n d) (sym at)
         ∙ put_within (i * step) step now new (k % step) d (omega arith) (omega arith)
         ∙ written (k % step) d low
-        ∙ ap (λ n. cond (is_covered sizes parts (k % step)) (get_or block n d) (get_or now (i * step + k % step) d)) (mod-mod_of_dvd (length block) k whole)
+        ∙ ap (λ n. cond (is_covered sizes parts (k % step)) (get_or block n d) (get_or now (i * step + k % step) d))
+        (mod-mod_of_dvd (length block) k whole)
         ∙ ap (λ n. cond (is_covered sizes parts (k % step)) (get_or block (k % length block) d) (get_or now n d)) at
         ∙ ap (λ x. cond (is_covered sizes parts (k % step)) (get_or block (k % length block) d) x) inner
         ∙ ap (λ b. cond (b && is_covered sizes parts (k % step)) (get_or block (k % length block) d) (get_or before k d)) (sym both)
@@ -120,7 +125,8 @@ one_more {T} step first i sizes parts block before now new some from same fits l
 -- ---- all stretches
 
 -- the stretches that the first part allows are the first to the last
-pub all_written : {T : Type 0} (size : ℕ) (sizes : List ℕ) (part : Part) (parts : List Part) (step first end : ℕ) (block before after : List T)
+pub all_written : {T : Type 0} (size : ℕ) (sizes : List ℕ) (part : Part) (parts : List Part) (step first end : ℕ)
+    (block before after : List T)
     → step ≡ product sizes → length before ≡ size * product sizes
     → ((q : ℕ) → q < size → allows part q ≡ (nat_le first q && nat_lt q end))
     → AreWrittenUpTo step first end sizes parts block before after
@@ -128,7 +134,8 @@ pub all_written : {T : Type 0} (size : ℕ) (sizes : List ℕ) (part : Part) (pa
 all_written size sizes part parts step first end block before after e long within up k d h =
     let below : k / product sizes < size = part_below size (product sizes) k (omega arith) in
     up k d h
-    ∙ ap (λ s. cond ((nat_le first (k / s) && nat_lt (k / s) end) && is_covered sizes parts (k % s)) (get_or block (k % length block) d) (get_or before k d)) e
+    ∙ ap (λ s. cond ((nat_le first (k / s) && nat_lt (k / s) end) && is_covered sizes parts (k % s))
+    (get_or block (k % length block) d) (get_or before k d)) e
     ∙ ap (λ b. cond (b && is_covered sizes parts (k % product sizes)) (get_or block (k % length block) d) (get_or before k d))
     (sym (within (k / product sizes) below))
 
@@ -168,7 +175,8 @@ step_is sizes size inner count e long some = quotient size (product inner) count
         let turned : c ≡ p * n + 0 = f ∙ mul_comm n p ∙ omega arith in
         ap (λ x. x / n) turned ∙ div-mul-add p n 0 above
 
-pub positive_step : (sizes : List ℕ) (size : ℕ) (inner : List ℕ) (step : ℕ) → sizes ≡ size ∷ inner → 0 < product sizes → step ≡ product inner
+pub positive_step : (sizes : List ℕ) (size : ℕ) (inner : List ℕ) (step : ℕ) → sizes ≡ size ∷ inner → 0 < product sizes → step
+    ≡ product inner
     → 0 < step
 positive_step sizes size inner step e some f =
     subst (λ n. 0 < n) (sym f) (positive_right size (product inner) 0 (subst (λ ns. 0 < product ns) e some))
@@ -179,7 +187,8 @@ long_step sizes size inner step e long f = long ∙ ap product e ∙ ap (λ n. s
 
 -- the size of a block, which is 1 or that of the cells that the parts leave, divides a stretch
 pub block_divides : (sizes : List ℕ) (parts : List Part) (size : ℕ) (inner : List ℕ) (part : Part) (others : List Part) (long step : ℕ)
-    → IsStep sizes parts size inner part others → (long ≡ 1) ⊎ (long ≡ product (drop (length parts) sizes)) → step ≡ product inner → long ∣ step
+    → IsStep sizes parts size inner part others → (long ≡ 1) ⊎ (long ≡ product (drop (length parts) sizes)) → step ≡ product inner
+    → long ∣ step
 block_divides sizes parts size inner part others long step is (inl one) e = subst (λ n. n ∣ step) (sym one) (one-dvd step)
 block_divides sizes parts size inner part others long step is (inr all) e =
     subst (λ n. long ∣ n) (sym e) (subst (λ n. n ∣ product inner) (sym same) (product-drop_dvd inner (length others)))
@@ -217,7 +226,8 @@ next_written {T} size inner others block before now new step first i some long b
         (let rest = length-drop (i * step) now in let t = times in omega arith)
 
     held : (k : ℕ) (d : T) → k < step → get_or (take ((i + 1) * step - i * step) (drop (i * step) now)) k d ≡ get_or now (i * step + k) d
-    held k d h = ap (λ m. get_or (take m (drop (i * step) now)) k d) width ∙ get_or-take step (drop (i * step) now) k d h ∙ get_or-drop (i * step) now k d
+    held k d h = ap (λ m. get_or (take m (drop (i * step) now)) k d) width ∙ get_or-take step (drop (i * step) now) k d h
+        ∙ get_or-drop (i * step) now k d
 
 -- all are written
 pub written_whole : {T : Type 0} (sizes : List ℕ) (parts : List Part) (size : ℕ) (inner : List ℕ) (part : Part) (others : List Part)

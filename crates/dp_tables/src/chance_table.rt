@@ -31,7 +31,8 @@ pub fn chances(alloc: Global, text: &Text, table: Table, scale: u64) -> Result<V
         let statements = statements_for table text.now.statements in
         let sizes = joint_actions_in text.now ∷ states_in text.now ∷ len ∷ [] in
         let count = joint_actions_in text.now * states_in text.now * len in
-        IfOk result (λ cells. cells.items ≡ map (λ k. chance_of_cell scale (axes_of text.now.header table) statements (parts_of sizes k)) (range_with_len 0 count)) }
+        IfOk result (λ cells. cells.items
+        ≡ map (λ k. chance_of_cell scale (axes_of text.now.header table) statements (parts_of sizes k)) (range_with_len 0 count)) }
 {
     let len = row_len(text, table);
     let sizes = list_sizes(alloc, &text.header, table)?;

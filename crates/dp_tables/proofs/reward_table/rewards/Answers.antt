@@ -39,7 +39,8 @@ pub returns : goal.returns
 returns c =
     all_rewards c.args.text.now c.args.scale c.loop-statement.cells.items c.requires.scale
     (subst (λ ss. AreRewardsBy c.args.text.now c.args.scale (statements_for Reward ss) c.loop-statement.cells.items)
-    (take_all c.loop-statement.statement-index c.as_slice-statement-items.result.now c.loop-statement-test.false ∙ c.as_slice-statement-items.ensures)
+    (take_all c.loop-statement.statement-index c.as_slice-statement-items.result.now c.loop-statement-test.false ∙
+    c.as_slice-statement-items.ensures)
     c.loop-statement.invariant)
 
 pub loop-statement-preserved : goal.loop-statement-preserved
@@ -49,7 +50,8 @@ loop-statement-preserved c = elim c.if-is_same.branch [
       (statements_for Reward (take (c.loop-statement.statement-index + 1) c.as_slice-statement-items.result.now)) ns)
       (sym (ap (λ v. v.items) w.cells-is ∙ with_items_is c.loop-statement.cells w.write_rewards.new.cells
       (w.write_rewards.auto.cells ∙ w.deref_mut.ensures.len)))
-      (rewards_taken c.args.text.now c.args.scale c.as_slice-statement-items.result.now c.loop-statement.statement-index c.statement-item.result
+      (rewards_taken c.args.text.now c.args.scale c.as_slice-statement-items.result.now c.loop-statement.statement-index
+      c.statement-item.result
       c.loop-statement.cells.items w.write_rewards.new.cells w.deref.result.now w.deref_mut.result.now
       (reward_statement c.args.text.now c.as_slice-statement-items.result.now c.loop-statement.statement-index c.statement-item.result
       c.requires.said c.as_slice-statement-items.ensures c.loop-statement-test.true c.statement-item.is (sym w.if-is_same.ensures))
@@ -59,6 +61,7 @@ loop-statement-preserved c = elim c.if-is_same.branch [
       subst (λ v. AreRewardsBy c.args.text.now c.args.scale
       (statements_for Reward (take (c.loop-statement.statement-index + 1) c.as_slice-statement-items.result.now)) v.items)
       (sym w.cells-is)
-      (rewards_skipped c.args.text.now c.args.scale c.as_slice-statement-items.result.now c.loop-statement.statement-index c.statement-item.result
+      (rewards_skipped c.args.text.now c.args.scale c.as_slice-statement-items.result.now c.loop-statement.statement-index
+      c.statement-item.result
       c.loop-statement.cells.items c.loop-statement-test.true c.statement-item.is (sym w.if-is_same.ensures) c.loop-statement.invariant)
 ]

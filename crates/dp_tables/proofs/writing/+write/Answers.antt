@@ -13,7 +13,8 @@ loop-i-preserved g t c =
     let below : c.loop-i.i < get_or c.args.sizes.now 0 0 = omega (arith, c.loop-i-test.true, end) in
     record {
       len = same_len_mid _ _ c.loop-i.cells c.write.new.cells c.write.auto.cells ∙ c.loop-i.invariant.len;
-      written = next_written (get_or c.args.sizes.now 0 0) (behind_first c.args.sizes.now) (behind_first c.args.parts.now) c.args.block.now c.args.cells.now c.loop-i.cells c.write.new.cells
+      written = next_written (get_or c.args.sizes.now 0 0) (behind_first c.args.sizes.now) (behind_first c.args.parts.now)
+          c.args.block.now c.args.cells.now c.loop-i.cells c.write.new.cells
           (length c.args.cells.now / get_or c.args.sizes.now 0 0)
           c.stretches-first.result.0 c.loop-i.i
           (positive_step _ _ _ _ is.sizes_are c.requires.some e)
@@ -27,8 +28,11 @@ returns g t c =
     let is = step_of c.args.sizes.now c.args.parts.now Any
     (some_size c.args.sizes.now c.args.parts.now c.requires.parts c.in-len1-up.len_at_least) c.in-len1-up.len_at_least in
     let e = step_is c.args.sizes.now _ _ (length c.args.cells.now) is.sizes_are c.requires.cells c.requires.some in
-    let last : c.loop-i.i ≡ c.stretches-first.result.1 = omega (arith, c.loop-i-test.false, c.loop-i.auto.i-end, c.stretches-first.ensures.first) in
-    written_whole c.args.sizes.now c.args.parts.now _ _ _ _ _ c.stretches-first.result.0 c.stretches-first.result.1 c.args.block.now c.args.cells.now c.loop-i.cells
+    let last : c.loop-i.i ≡ c.stretches-first.result.1 = omega
+    (arith, c.loop-i-test.false, c.loop-i.auto.i-end, c.stretches-first.ensures.first) in
+    written_whole c.args.sizes.now c.args.parts.now _ _ _ _ _ c.stretches-first.result.0 c.stretches-first.result.1 c.args.block.now
+    c.args.cells.now c.loop-i.cells
     is e c.requires.cells c.stretches-first.ensures.within
-    (subst (λ i. AreWrittenUpTo (length c.args.cells.now / get_or c.args.sizes.now 0 0) c.stretches-first.result.0 i (behind_first c.args.sizes.now) (behind_first c.args.parts.now) c.args.block.now c.args.cells.now c.loop-i.cells)
+    (subst (λ i. AreWrittenUpTo (length c.args.cells.now / get_or c.args.sizes.now 0 0) c.stretches-first.result.0 i
+    (behind_first c.args.sizes.now) (behind_first c.args.parts.now) c.args.block.now c.args.cells.now c.loop-i.cells)
     last c.loop-i.invariant.written)
