@@ -28,7 +28,7 @@ fetch_is_no_fault role (faults.TooLong count) e = cc
 fetch_is_no_fault role faults.Memory e = cc
 
 module _ (contents : Contents) (model : List ℕ) (horizon nodes look : ℕ) (merge : Bool) (order : OrderWord) where
-  plan_job : Option Job
+  abbrev plan_job : Option Job
   plan_job = Some (Plan model horizon nodes look merge order)
 
   -- what is answered where the file of the model is given

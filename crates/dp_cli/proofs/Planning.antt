@@ -95,7 +95,7 @@ not_bad m horizon None answer h = built (nat_lt 1 horizon) (is_exact_mode m hori
 -- a plan is answered by a fault of the model exactly where the model has one
 pub bad_model_has_fault : (horizon : ℕ) (meant : Meaning) (answer : Answer) → IsPlanReply horizon meant answer → answer.status ≡ statuses.BadModel
     → (place : Place) × (why : Why) × (meant ≡ FaultAt place why)
-bad_model_has_fault horizon (FaultAt place why) answer h e = (place, (why, refl))
+bad_model_has_fault horizon (FaultAt place why) answer h e = (place, why, refl)
 bad_model_has_fault horizon (Passes passed) answer h e = cc
 bad_model_has_fault horizon (Means read) answer h e =
     absurd (not_bad read.model.model horizon (first_passed (horizon_limits read.model.model horizon)) answer h e)
