@@ -15,7 +15,9 @@ mod numbers;
 mod parts;
 mod pieces;
 mod statements;
+mod text;
 mod values;
 mod words;
 
 pub use fault::TextFault;
+pub use text::read_text;
