@@ -22,7 +22,8 @@ pub starts : {A : Type 0} (all : Result (List A) Fault) → Continues all [] all
 starts all = record { is = behind_none all }
 
 -- one more item is read
-behind_one : {A : Type 0} (items : List A) (x : A) (rest : Result (List A) Fault) → behind items (rest >>= λ others. Ok (x ∷ others)) ≡ behind (items ++ x ∷ []) rest
+behind_one : {A : Type 0} (items : List A) (x : A) (rest : Result (List A) Fault)
+    → behind items (rest >>= λ others. Ok (x ∷ others)) ≡ behind (items ++ x ∷ []) rest
 behind_one items x (Ok more) = ap Ok (sym (append_assoc items (x ∷ []) more))
 behind_one items x (Err e) = refl
 

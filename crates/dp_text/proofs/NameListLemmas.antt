@@ -1,12 +1,12 @@
 -- Lists of names, read name by name, and lists of them, read line by line.
-use Rattle.std.proofs.Common.{◌≡◌, ℕ, zero, suc, ◌+◌, ◌-◌, ◌<◌, ◌≤◌, Bool, true, false, not, List, [], ◌∷◌, ◌++◌, length, drop, Some, None, Result, Ok, Err, refl, ap, ◌∙◌, sym, length-append, arith}
+use Rattle.std.proofs.Common.{◌≡◌, ℕ, zero, suc, ◌+◌, ◌≤◌, Bool, true, false, not, List, [], ◌∷◌, ◌++◌, length, drop, Some, Result, Ok, Err, refl, ap, ◌∙◌, sym, length-append}
 use Rattle.std.specs.Prelude.{slice_get, if◌then◌else◌}
 use Rattle.std.proofs.Math.ListN.{drop_of_length-le}
 use Rattle.dp_num.specs.Names.{is_name}
 use Rattle.dp_model.specs.Names.{has_name}
 use Rattle.dp_meaning.specs.declared.why.Fault.{Fault}
 use Rattle.dp_meaning.specs.declared.why.Why.TheVariants.{Expected, DoubleName}
-use Rattle.dp_meaning.specs.Faults.{◌>>=◌, fault}
+use Rattle.dp_meaning.specs.Faults.{◌>>=◌}
 use Rattle.dp_meaning.specs.Items.{Piece}
 use Rattle.dp_meaning.specs.NameLists.{names_after}
 use Rattle.dp_text.specs.NameListSteps.{with_new_name}
@@ -46,7 +46,8 @@ name_first : (names : List (List ℕ)) (piece : Piece) (pieces : List Piece)
     → names_after names (piece ∷ pieces) ≡ (with_new_name names piece >>= λ more. names_after more pieces)
 unfolding names_after with_new_name
 name_first names piece pieces =
-    chosen (not (is_name piece.text)) (has_name names piece.text) (record { at = piece.at; why = Expected }) (record { at = piece.at; why = DoubleName }) (names ++ piece.text ∷ [])
+    chosen (not (is_name piece.text)) (has_name names piece.text) (record { at = piece.at; why = Expected })
+    (record { at = piece.at; why = DoubleName }) (names ++ piece.text ∷ [])
     (λ more. names_after more pieces)
 
 pub name_one : (all : Result (List (List ℕ)) Fault) (names : List (List ℕ)) (piece : Piece) (pieces rest : List Piece) (now : List (List ℕ))
@@ -58,7 +59,8 @@ pub name_wrong : (all : Result (List (List ℕ)) Fault) (names : List (List ℕ)
 name_wrong all names piece pieces rest wrong is one h =
     let first = with_new_name names piece in
     let steps : all ≡ (first >>= λ more. names_after more pieces) = h ∙ (ap (names_after names) is ∙ name_first names piece pieces) in
-    reads_along all (first >>= λ more. names_after more pieces) (Err wrong) steps (reads_on first (λ more. names_after more pieces) wrong one)
+    reads_along all (first >>= λ more. names_after more pieces) (Err wrong) steps
+    (reads_on first (λ more. names_after more pieces) wrong one)
 
 pub name_last : (all : Result (List (List ℕ)) Fault) (names : List (List ℕ)) (place : ℕ) (pieces : List Piece)
     → length pieces ≤ place → all ≡ names_after names (drop place pieces) → all ≡ Ok names
@@ -66,8 +68,10 @@ unfolding names_after
 name_last all names place pieces past h = h ∙ rw (drop_of_length-le pieces past) refl
 
 -- a list grows by one name at a time
-pub one_more : (names : List (List ℕ)) (piece : Piece) (now : List (List ℕ)) → with_new_name names piece ≡ Ok now → length now ≡ length names + 1
+pub one_more : (names : List (List ℕ)) (piece : Piece) (now : List (List ℕ)) → with_new_name names piece ≡ Ok now
+    → length now ≡ length names + 1
 unfolding with_new_name
 one_more names piece now h =
-    let is : now ≡ names ++ piece.text ∷ [] = chosen_is (not (is_name piece.text)) (has_name names piece.text) (record { at = piece.at; why = Expected }) (record { at = piece.at; why = DoubleName }) (names ++ piece.text ∷ []) now (sym h) in
+    let is : now ≡ names ++ piece.text ∷ [] = chosen_is (not (is_name piece.text)) (has_name names piece.text)
+    (record { at = piece.at; why = Expected }) (record { at = piece.at; why = DoubleName }) (names ++ piece.text ∷ []) now (sym h) in
     rw (is, length-append) refl

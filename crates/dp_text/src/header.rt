@@ -1,8 +1,11 @@
 //! The header of a text.
-ghost use Rattle.std.specs.Prelude.{◌≡◌};
+ghost use Rattle.std.specs.Prelude.{◌≡◌, List, drop};
 ghost use Rattle.dp_meaning.specs.Header as spec;
+ghost use Rattle.dp_meaning.specs.Items as spec_items;
+ghost use Rattle.dp_text.specs.HeaderSteps.{ReadsHeader, header_and};
 ghost use Rattle.dp_text.specs.Reading.{Reads};
 
+use crate::document::Document;
 use crate::entries::{discount_of, is_cost, start_of};
 use crate::fault::{TextFault, fault};
 use crate::item::Item;
@@ -11,6 +14,51 @@ use crate::pieces::Piece;
 use crate::words::says;
 use dp_meaning::{Entries, Entry, Fault, Header, ItemKind, Table, Why};
 use std::alloc::Global;
+
+/// The header, and how many items of the text it takes.
+pub(crate) fn read_header(alloc: Global, document: &Document) -> Result<(Header, usize), TextFault>
+    ensures { ReadsHeader document.now.items (spec.header_of document.now.end spec.no_entries document.now.items) result }
+{
+    let mut entries = no_entries();
+    for place in 0..document.len() {
+        let item = document.item(place);
+        match kind_of(&item) {
+            ItemKind::HeaderEntry(entry) => {
+                entries = match with_entry(alloc, entry, &item, entries) {
+                    Ok(more) => more,
+                    Err(fault) => return Err(fault),
+                };
+            }
+            ItemKind::StatementOf(_) => return header_behind(item.at(), entries, place),
+            ItemKind::NoItem => return Err(TextFault::At(fault(Why::Expected, item.at()))),
+        }
+    }
+    header_behind(document.end(), entries, document.len())
+}
+
+fn no_entries() -> Entries
+    ensures { result ≡ spec.no_entries }
+{
+    Entries {
+        agents: None,
+        discount: None,
+        cost: None,
+        states: None,
+        start: None,
+        actions: None,
+        observations: None,
+    }
+}
+
+/// The header of all entries, which took so many items.
+fn header_behind(at: u32, entries: Entries, taken: usize) -> Result<(Header, usize), TextFault>
+    ensures { (items : List spec_items.Item) → ReadsHeader items (header_and at entries (drop taken items)) result }
+{
+    match header_with(at, entries) {
+        Ok(header) => Ok((header, taken)),
+        Err(fault) => Err(TextFault::At(fault)),
+    }
+}
 
 /// What an item is, by its first token.
 #[tactic(auto, unfolding(dp_meaning::specs::Header::kind_of))]
