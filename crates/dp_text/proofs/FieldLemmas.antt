@@ -7,7 +7,7 @@ use Rattle.dp_meaning.specs.declared.statement.Part.{Part}
 use Rattle.dp_meaning.specs.Faults.{◌>>=◌, fault}
 use Rattle.dp_meaning.specs.Items.{Piece}
 use Rattle.dp_meaning.specs.Fields.{Axis, Field, Fields, fields_of, field_parts, all_parts}
-use Rattle.dp_text.specs.FirstFields.{with_field}
+use Rattle.dp_text.specs.FirstFields.{HasNoField, IsFirstField, with_field}
 use Rattle.dp_text.specs.Reading.{Reads}
 use Rattle.dp_text.specs.declared.fault.TextFault.{TextFault}
 use Rattle.dp_text.specs.declared.fault.TextFault.TheVariants.{At, Memory}
@@ -34,10 +34,6 @@ none_read axes line = record {
   rest = refl;
 }
 
--- the first field of what is left
-abbrev pub IsFirst : Field → List Piece → Type 0
-IsFirst field line = fields_of line ≡ with_field field (fields_of (drop (length field.pieces + 1) line))
-
 -- less is left
 left_behind : (line left : List Piece) (n : ℕ) → n ≤ length left → length left ≤ length line
     → left ≡ drop (length line - length left) line → drop n left ≡ drop (length line - length (drop n left)) line
@@ -46,14 +42,14 @@ left_behind line left n within shorter behind =
     ap (drop n) behind ∙ drop-drop n (length line - length left) line ∙ ap (λ k. drop k line) len
 
 module _ {axes : List Axis} {line : List Piece} {parts : List (List Part)} {left : List Piece} (h : FieldsRead axes line parts left) where
-  at_field : (field : Field) (axis : Axis) → IsFirst field left → length parts < length axes → axis ≡ get_or axes (length parts) []
+  at_field : (field : Field) (axis : Axis) → IsFirstField field left → length parts < length axes → axis ≡ get_or axes (length parts) []
       → Continues (all_of axes line) parts
       (field_parts axis field >>= λ first. all_of (drop (length parts + 1) axes) (drop (length field.pieces + 1) left) >>= λ others. Ok (first ∷ others))
   unfolding all_parts
   at_field field axis f within a =
       let here = drop_item axes (length parts) [] within in rw (ap (λ fs. fs.fields) f, here, ← a) at h.is
 
-  pub field_read : (field : Field) (axis : Axis) (of_field : List Part) → IsFirst field left → length field.pieces < length left
+  pub field_read : (field : Field) (axis : Axis) (of_field : List Part) → IsFirstField field left → length field.pieces < length left
       → length parts < length axes → axis ≡ get_or axes (length parts) [] → field_parts axis field ≡ Ok of_field
       → FieldsRead axes line (parts ++ of_field ∷ []) (drop (length field.pieces + 1) left)
   field_read field axis of_field f some within a read = record {
@@ -66,21 +62,21 @@ module _ {axes : List Axis} {line : List Piece} {parts : List (List Part)} {left
   }
 
   -- a field is wrong
-  pub field_fault : (field : Field) (axis : Axis) (e : TextFault) → IsFirst field left → length parts < length axes
+  pub field_fault : (field : Field) (axis : Axis) (e : TextFault) → IsFirstField field left → length parts < length axes
       → axis ≡ get_or axes (length parts) [] → Reads (field_parts axis field) (Err e) → Reads (all_of axes line) (Err e)
   field_fault field axis (At e) f within a read =
       let stops : Continues (all_of axes line) parts (Err e) = rw read at (at_field field axis f within a) in stops.is
   field_fault field axis Memory f within a read = tt
 
   -- there is a field too many
-  pub too_many : (field : Field) → IsFirst field left → length parts ≡ length axes → all_of axes line ≡ fault Expected field.colon
+  pub too_many : (field : Field) → IsFirstField field left → length parts ≡ length axes → all_of axes line ≡ fault Expected field.colon
   unfolding all_parts
   too_many field f e =
       let none = drop_all (length parts) axes (omega arith) in
       let stops : Continues (all_of axes line) parts (fault Expected field.colon) = rw (ap (λ fs. fs.fields) f, none) at h.is in stops.is
 
   -- no Colon is left
-  pub fields_end : fields_of left ≡ record { fields = []; rest = left }
+  pub fields_end : HasNoField left
       → (all_of axes line ≡ Ok parts) × (length parts ≤ length axes) × (length line - length left ≤ length line) × ((fields_of line).rest ≡ drop (length line - length left) line)
   unfolding all_parts
   fields_end f = (

@@ -1,8 +1,7 @@
 //! The fields of a statement's first line: what stands between its Colons.
-ghost use Rattle.std.specs.Prelude.{◌≡◌, ◌+◌, ◌<◌, [], IfSome, MatchOption, drop, length};
+ghost use Rattle.std.specs.Prelude.{◌≡◌, ◌<◌, IfSome, MatchOption, length};
 ghost use Rattle.std.specs.List.{prefix_len};
-ghost use Rattle.dp_meaning.specs.Fields as spec;
-ghost use Rattle.dp_text.specs.FirstFields.{is_colon_in, is_no_colon, with_field};
+ghost use Rattle.dp_text.specs.FirstFields.{HasNoField, IsFirstField, is_colon_in, is_no_colon};
 
 use crate::pieces::Pieces;
 use dp_lexer::Kind;
@@ -66,7 +65,7 @@ fn first_field_len(line: &Pieces) -> usize
 
 /// The first field of a line. The others stand behind its Colon.
 pub(crate) fn first_field<'a>(line: &Pieces<'a>) -> Option<Field<'a>>
-    ensures is { MatchOption result (spec.fields_of line.now ≡ record { fields = []; rest = line.now }) (λ field. spec.fields_of line.now ≡ with_field field (spec.fields_of (drop (length field.pieces + 1) line.now))) }
+    ensures is { MatchOption result (HasNoField line.now) (λ field. IsFirstField field line.now) }
     ensures within { IfSome result (λ field. length field.pieces < length line.now) }
 {
     let place = first_field_len(line);

@@ -1,5 +1,5 @@
 //! What the fields of a statement say of the lists along the axes of its table.
-ghost use Rattle.std.specs.Prelude.{◌≡◌, ◌≤◌, ◌<◌, Ok, IfOk, drop, length, map};
+ghost use Rattle.std.specs.Prelude.{◌≡◌, Ok, map};
 ghost use Rattle.dp_meaning.specs.Fields as spec;
 ghost use Rattle.dp_meaning.specs.Items.{is_star};
 ghost use Rattle.dp_meaning.specs.Statements.{axes_of};
