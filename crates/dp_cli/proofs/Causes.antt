@@ -198,6 +198,7 @@ no_job_usage Answers.wants_memory some = absurd (some refl)
 pub usage_runs : {job : Option Job} {shelf shelf' : ShelfView} {sink sink' : SinkView} {result : Status} → Runs job shelf shelf' sink sink' result
     → result ≢ statuses.WriteFault → result ≢ statuses.NoMemory → (result ≡ statuses.Usage) ↔ (job ≡ None)
 usage_runs {job} {shelf} {shelf'} {sink} {sink'} {result} h no_fault found =
-    let kept = kept_status h.puts.reply _ _ h.puts.ended no_fault in
-    (λ e. usage_no_job h.answers (sym kept ∙ e),
-    λ none. kept ∙ no_job_usage (subst (λ (j : Option Job). Answers j [] shelf shelf' h.answer) none h.answers) (λ e. found (kept ∙ e)))
+    let kept = kept_status h.puts.reply _ _ h.puts.ended no_fault in (
+      λ e. usage_no_job h.answers (sym kept ∙ e),
+      λ none. kept ∙ no_job_usage (subst (λ (j : Option Job). Answers j [] shelf shelf' h.answer) none h.answers) (λ e. found (kept ∙ e)),
+    )

@@ -8,8 +8,8 @@ mod covering;
 mod limits;
 mod lists;
 mod repair;
-mod rows;
 mod reward_table;
+mod rows;
 mod scales;
 mod sizes;
 mod statements;
@@ -17,6 +17,6 @@ mod writing;
 
 pub use chance_table::chances;
 pub use limits::scales_within_limits;
-pub use rows::{repair_observations, repair_transitions};
 pub use reward_table::rewards;
+pub use rows::{repair_observations, repair_transitions};
 pub use sizes::{joint_actions, joint_observations, states};

@@ -18,7 +18,7 @@ stretches {X} xs a b c a_b b_c =
     let there : a + (b - a) ≡ b = omega arith in
     let rest : drop (b - a) (drop a xs) ≡ drop b xs = drop-drop (b - a) a xs ∙ ap (λ k. drop k xs) there in
     sym (ap (λ k. take k (drop a xs)) whole ∙ take-add (b - a) (c - b) (drop a xs)
-        ∙ ap (λ (l : List X). take (b - a) (drop a xs) ++ take (c - b) l) rest)
+    ∙ ap (λ (l : List X). take (b - a) (drop a xs) ++ take (c - b) l) rest)
 
 pub empty_stretch : {X : Type 0} (xs : List X) (a : ℕ) → slice_range xs a a ≡ []
 empty_stretch xs a = let none : a - a ≡ 0 = omega arith in rw none refl

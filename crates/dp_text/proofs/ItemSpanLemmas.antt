@@ -66,7 +66,7 @@ module _ (end : ℕ) (pieces : List Piece) (lines : List LineSpan) where
         next_limit = limit;
         each = λ k d l. absurd (omega arith);
         items = ap (λ (l : List LineSpan). items_of end (map (line_of pieces) l)) gone
-          ∙ ap (λ (l : List LineSpan). gathered l []) (sym (empty_stretch lines (length lines)));
+            ∙ ap (λ (l : List LineSpan). gathered l []) (sym (empty_stretch lines (length lines)));
       }
 
   pub one_back : (at before past next : ℕ) (spans : List ItemSpan) → 0 < at → AreItemsFrom at before past next spans
@@ -94,10 +94,10 @@ module _ (end : ℕ) (pieces : List Piece) (lines : List LineSpan) where
           let in_order = so_far.in_order in
           let place : (at + 1) + (before - (at + 1)) ≡ before = omega arith in
           let rest : drop (before - (at + 1)) (drop (at + 1) lines) ≡ drop before lines =
-            drop-drop (before - (at + 1)) (at + 1) lines ∙ ap (λ k. drop k lines) place in
+          drop-drop (before - (at + 1)) (at + 1) lines ∙ ap (λ k. drop k lines) place in
           subst (AreOneRun line.past (slice_range lines (at + 1) before))
-            (ap (λ (l : List LineSpan). start l (length pieces)) rest ∙ sym so_far.past_is)
-            (run_take (before - (at + 1)) line.past (drop (at + 1) lines) (length pieces) run_here.1)
+          (ap (λ (l : List LineSpan). start l (length pieces)) rest ∙ sym so_far.past_is)
+          (run_take (before - (at + 1)) line.past (drop (at + 1) lines) (length pieces) run_here.1)
 
       past_within : past ≤ length pieces
       past_within =
@@ -133,9 +133,9 @@ module _ (end : ℕ) (pieces : List Piece) (lines : List LineSpan) where
             next_limit = limit;
             each = All-push (IsItemSpan pieces lines) spans span so_far.each (is_item b);
             items = in_front true b
-              ∙ ap (λ n. gathered [] (item_of pieces line (slice_range lines (at + 1) before) n ∷ map (item_in pieces lines) (reverse spans))) (sym so_far.next_is)
-              ∙ ap (λ (l : List LineSpan). gathered l (map (item_in pieces lines) (span ∷ reverse spans))) (sym (empty_stretch lines at))
-              ∙ ap (λ (l : List ItemSpan). gathered (slice_range lines at at) (map (item_in pieces lines) l)) (sym last);
+                ∙ ap (λ n. gathered [] (item_of pieces line (slice_range lines (at + 1) before) n ∷ map (item_in pieces lines) (reverse spans))) (sym so_far.next_is)
+                ∙ ap (λ (l : List LineSpan). gathered l (map (item_in pieces lines) (span ∷ reverse spans))) (sym (empty_stretch lines at))
+                ∙ ap (λ (l : List ItemSpan). gathered (slice_range lines at at) (map (item_in pieces lines) l)) (sym last);
           }
 
       pub goes_on : begins_item (slice_range pieces line.first line.past) ≡ false → AreItemsFrom at before past next spans
@@ -143,7 +143,7 @@ module _ (end : ℕ) (pieces : List Piece) (lines : List LineSpan) where
           let in_order = so_far.in_order in
           let more : before - at ≡ suc (before - (at + 1)) = omega arith in
           let front : slice_range lines at before ≡ line ∷ slice_range lines (at + 1) before =
-            ap (take (before - at)) cut ∙ ap (λ k. take k (line ∷ drop (at + 1) lines)) more in
+          ap (take (before - at)) cut ∙ ap (λ k. take k (line ∷ drop (at + 1) lines)) more in
           record {
             in_order = omega arith;
             within = so_far.within;
@@ -160,6 +160,6 @@ module _ (end : ℕ) (pieces : List Piece) (lines : List LineSpan) where
     before = (let within = so_far.within in omega arith);
     each = subst (All (IsItemSpan pieces lines)) (sym items_are) (all_reverse (IsItemSpan pieces lines) made so_far.each);
     items = so_far.items
-      ∙ ap (λ k. gathered (take k lines) (map (item_in pieces lines) (reverse made))) (let e : before - 0 ≡ spans.before = omega arith in e)
-      ∙ ap (λ (l : List ItemSpan). gathered (take spans.before lines) (map (item_in pieces lines) l)) (sym items_are);
+        ∙ ap (λ k. gathered (take k lines) (map (item_in pieces lines) (reverse made))) (let e : before - 0 ≡ spans.before = omega arith in e)
+        ∙ ap (λ (l : List ItemSpan). gathered (take spans.before lines) (map (item_in pieces lines) l)) (sym items_are);
   }

@@ -106,7 +106,7 @@ module _ (end : ℕ) (pieces : List Piece) where
       → filter has_pieces (line_of kept span ∷ others) ≡ map (line_of kept) (unless_empty span) ++ filter has_pieces others
   shown span others h =
       let long : length (slice_range kept span.first span.past) ≡ span.past - span.first =
-        omega (arith, length-take (span.past - span.first) (drop span.first kept), length-drop span.first kept) in
+      omega (arith, length-take (span.past - span.first) (drop span.first kept), length-drop span.first kept) in
       ap (λ b. cond b (line_of kept span ∷ filter has_pieces others) (filter has_pieces others)) (same_test span.first span.past _ long)
       ∙ chosen (nat_lt span.first span.past)
     where
@@ -122,7 +122,7 @@ module _ (end : ℕ) (pieces : List Piece) where
   closes spans span at others so_far is =
       let now : List Piece = slice_range kept span.first span.past in
       let first : onto (slice_range kept span.first span.past) (lines_of end (drop at pieces)) ≡ line_of kept span ∷ others =
-        ap (onto now) is ∙ ap (λ (l : List Piece). record { pieces = l; ends = span.ends } ∷ others) (append-nil now) in
+      ap (onto now) is ∙ ap (λ (l : List Piece). record { pieces = l; ends = span.ends } ∷ others) (append-nil now) in
       ap (λ (l : List Line). l ++ filter has_pieces others) (map-append (line_of kept) spans (unless_empty span))
       ∙ append_assoc (map (line_of kept) spans) (map (line_of kept) (unless_empty span)) (filter has_pieces others)
       ∙ ap (λ (l : List Line). map (line_of kept) spans ++ l) (sym (shown span others so_far.within))
@@ -137,7 +137,7 @@ module _ (end : ℕ) (pieces : List Piece) where
       let cut = first_of_rest pieces at p here in
       let others : List Line = lines_of end (drop (at + 1) pieces) in
       let line : lines_of end (drop at pieces) ≡ record { pieces = []; ends = span.ends } ∷ lines_of end (drop (at + 1) pieces) =
-        ap (lines_of end) cut ∙ ap (λ k. with_piece k p others) kind ∙ ap (λ e. record { pieces = []; ends = e } ∷ others) (sym ends) in
+      ap (lines_of end) cut ∙ ap (λ k. with_piece k p others) kind ∙ ap (λ e. record { pieces = []; ends = e } ∷ others) (sym ends) in
       record {
         in_order = omega arith;
         behind = (let behind = so_far.behind in omega arith);
@@ -145,8 +145,8 @@ module _ (end : ℕ) (pieces : List Piece) where
         left = so_far.left ∙ ap kept_pieces cut ∙ drops p (drop (at + 1) pieces) kind;
         one_run = run_push 0 spans span so_far.one_run so_far.in_order (omega arith);
         so_far = ap (λ (l : List Piece). map (line_of kept) (spans ++ unless_empty span) ++ filter has_pieces (onto l others)) (empty_stretch kept span.past)
-          ∙ ap (λ (l : List Line). map (line_of kept) (spans ++ unless_empty span) ++ filter has_pieces l) (onto_none others)
-          ∙ closes spans span at others so_far line;
+            ∙ ap (λ (l : List Line). map (line_of kept) (spans ++ unless_empty span) ++ filter has_pieces l) (onto_none others)
+            ∙ closes spans span at others so_far line;
       }
 
   pub goes_on : (spans : List LineSpan) (first past at : ℕ) (p : Piece) → AreLinesSoFar spans first past at
@@ -160,10 +160,10 @@ module _ (end : ℕ) (pieces : List Piece) where
       let one : (past + 1) - past ≡ 1 = omega arith in
       let last : slice_range kept past (past + 1) ≡ p ∷ [] = ap (λ k. take k (drop past kept)) one ∙ ap (take 1) left in
       let more : slice_range kept first (past + 1) ≡ slice_range kept first past ++ p ∷ [] =
-        sym (stretches kept first past (past + 1) in_order (omega arith)) ∙ ap (λ (l : List Piece). slice_range kept first past ++ l) last in
+      sym (stretches kept first past (past + 1) in_order (omega arith)) ∙ ap (λ (l : List Piece). slice_range kept first past ++ l) last in
       let line : onto (slice_range kept first (past + 1)) others ≡ onto (slice_range kept first past) (lines_of end (drop at pieces)) =
-        ap (λ (l : List Piece). onto l others) more ∙ sym (onto_more (slice_range kept first past) p others)
-        ∙ ap (onto (slice_range kept first past)) (sym (ap (lines_of end) cut ∙ other_piece p.kind p others other)) in
+      ap (λ (l : List Piece). onto l others) more ∙ sym (onto_more (slice_range kept first past) p others)
+      ∙ ap (onto (slice_range kept first past)) (sym (ap (lines_of end) cut ∙ other_piece p.kind p others other)) in
       record {
         in_order = omega arith;
         behind = (let behind = so_far.behind in omega arith);
@@ -179,7 +179,7 @@ module _ (end : ℕ) (pieces : List Piece) where
   at_end spans span at so_far none ends limit =
       let cut = none_left pieces at none in
       let line : lines_of end (drop at pieces) ≡ record { pieces = []; ends = span.ends } ∷ [] =
-        ap (lines_of end) cut ∙ ap (λ e. record { pieces = []; ends = e } ∷ []) (sym ends) in
+      ap (lines_of end) cut ∙ ap (λ e. record { pieces = []; ends = e } ∷ []) (sym ends) in
       let size = ap length (so_far.left ∙ ap kept_pieces cut) in
       let within = so_far.within in
       let past : span.past ≡ length kept = omega (arith, length-drop span.past kept) in

@@ -20,9 +20,9 @@ fit bytes low (t ∷ ts) h each in_order above =
     let begins = above 0 t (omega arith) in
     let some = here.some in
     let rest = fit bytes t.end ts here.within
-        (λ k d l. each (suc k) d (omega arith))
-        (λ i j d i_j l. in_order (suc i) (suc j) d (omega arith) (omega arith))
-        (λ k d l. in_order 0 (suc k) d (omega arith) (omega arith)) in
+    (λ k d l. each (suc k) d (omega arith))
+    (λ i j d i_j l. in_order (suc i) (suc j) d (omega arith) (omega arith))
+    (λ k d l. in_order 0 (suc k) d (omega arith) (omega arith)) in
     omega arith
 
 -- a text has no more pieces than bytes

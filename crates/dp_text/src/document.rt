@@ -6,8 +6,8 @@ ghost use Rattle.dp_meaning.specs.Meaning.{unless_lines};
 ghost use Rattle.dp_text.specs.Documents.{with_end};
 
 use crate::item::Item;
-use crate::item_span::{items_of, ItemSpans};
-use crate::line::{lines_of, without_line_ends, LineSpan};
+use crate::item_span::{ItemSpans, items_of};
+use crate::line::{LineSpan, lines_of, without_line_ends};
 use crate::pieces::Pieces;
 use dp_lexer::Token;
 use dp_meaning::{Fault, Why};

@@ -33,16 +33,16 @@ loop-piece-preserved c =
       | in-LineEnd+in_ok-add_unless_empty w ↦
           let span : LineSpan = record { first = c.loop-piece.first; past = c.loop-piece.past; ends = w.at.result } in
           rw (w.lines-is, w.in_ok-add_unless_empty.ensures, w.first-is, w.past-is)
-            (ends_line c.args.end c.args.pieces.now c.loop-piece.lines.items span c.loop-piece.at c.in-Some.piece c.loop-piece.invariant found
-              (sym c.kind.ensures ∙ w.in-LineEnd.is) w.at.ensures w.kept-in-LineEnd.ensures.at)
+          (ends_line c.args.end c.args.pieces.now c.loop-piece.lines.items span c.loop-piece.at c.in-Some.piece c.loop-piece.invariant found
+          (sym c.kind.ensures ∙ w.in-LineEnd.is) w.at.ensures w.kept-in-LineEnd.ensures.at)
       | in_default-kind w ↦ rw (w.lines-is, w.first-is, w.past-is)
-            (goes_on c.args.end c.args.pieces.now c.loop-piece.lines.items c.loop-piece.first c.loop-piece.past c.loop-piece.at c.in-Some.piece
-              c.loop-piece.invariant found (λ e. w.in_default-kind.not-LineEnd (c.kind.ensures ∙ e)))
+          (goes_on c.args.end c.args.pieces.now c.loop-piece.lines.items c.loop-piece.first c.loop-piece.past c.loop-piece.at c.in-Some.piece
+          c.loop-piece.invariant found (λ e. w.in_default-kind.not-LineEnd (c.kind.ensures ∙ e)))
     ]
 
 pub returns : goal.returns
 returns c =
     let span : LineSpan = record { first = c.loop-piece.first; past = c.loop-piece.past; ends = c.args.end } in
     rw c.in_ok-add_unless_empty-2.ensures
-      (at_end c.args.end c.args.pieces.now c.loop-piece.lines.items span c.loop-piece.at c.loop-piece.invariant
-        (sym c.get.ensures ∙ none_of c.get.result c.in_default.not-Some) refl c.requires)
+    (at_end c.args.end c.args.pieces.now c.loop-piece.lines.items span c.loop-piece.at c.loop-piece.invariant
+    (sym c.get.ensures ∙ none_of c.get.result c.in_default.not-Some) refl c.requires)

@@ -14,4 +14,4 @@ returns c =
     let inside : c.args.place < length c.self.inside.items.items.items = omega arith in
     ap (λ (v : ItemsOfText). slice_get v.items c.args.place) (sym c.self.view_is)
     ∙ item_there _ _ _ c.args.place c.index-span.result.now c.index.result.now c.of-2.result inside c.self.invariant.each
-      c.index-span.ensures c.index.ensures (rw (c.of-2.ensures, c.of.ensures, c.deref.ensures.value, c.deref-2.ensures.value) refl)
+    c.index-span.ensures c.index.ensures (rw (c.of-2.ensures, c.of.ensures, c.deref.ensures.value, c.deref-2.ensures.value) refl)
