@@ -3,8 +3,7 @@
 
 ghost use Rattle.std.specs.Prelude.{◌≡◌, ◌^◌, ◌≤◌, length, Ok, IfOk, IfErr};
 ghost use Rattle.dp_lexer.specs.TokenLaws.{AreTokensOf};
-ghost use Rattle.dp_lexer.specs.Tokens.{tokens_of, NamesFirstBadByte};
-ghost use Rattle.dp_lexer.specs.declared.LexFault.TheVariants.{Memory};
+ghost use Rattle.dp_lexer.specs.Tokens.{tokens_of, IsFirstBadByte, NamesFirstBadByte};
 
 mod laws;
 mod pieces;
@@ -40,18 +39,29 @@ pub struct Token {
 /// Why a text has no tokens.
 #[derive(Clone, Copy, Debug, PartialEq, Eq)]
 pub enum LexFault {
-    /// A byte outside comments that is neither a blank nor one of a token, at this offset. Lines and columns count
-    /// from 1, and columns count bytes.
+    /// A byte outside comments that is neither a blank nor one of a token. Lines and columns count from 1, and
+    /// columns count bytes.
+    BadByte { line: u32, column: u32 },
+    /// Memory ran out.
+    Memory,
+}
+
+/// Why a text has no tokens, with the offset of the byte.
+#[derive(Clone, Copy, Debug, PartialEq, Eq)]
+pub enum TokenFault {
+    /// A byte as `LexFault` tells it, and its offset.
     BadByte { at: u32, line: u32, column: u32 },
     /// Memory ran out.
     Memory,
 }
 
-impl<T: Drop> From<AllocFailed<T>> for LexFault {
-    ghost from_gives = { λ _ fault. fault ≡ Memory };
+impl<T: Drop> From<AllocFailed<T>> for TokenFault {
+    ghost use Rattle.dp_lexer.specs.declared.TokenFault.TheVariants as token_faults;
 
-    fn from(_: AllocFailed<T>) -> LexFault {
-        LexFault::Memory
+    ghost from_gives = { λ _ fault. fault ≡ token_faults.Memory };
+
+    fn from(_: AllocFailed<T>) -> TokenFault {
+        TokenFault::Memory
     }
 }
 
@@ -67,13 +77,27 @@ pub fn lex(alloc: Global, bytes: &[u8]) -> Result<Vec<Token>, LexFault>
     ensures described { IfOk result (λ tokens. AreTokensOf bytes.now tokens.items) }
     ensures first_bad_byte { IfErr result (NamesFirstBadByte bytes.now) }
 {
+    match tokens_or_fault(alloc, bytes) {
+        Ok(tokens) => Ok(tokens),
+        Err(TokenFault::BadByte { line, column, .. }) => Err(LexFault::BadByte { line, column }),
+        Err(TokenFault::Memory) => Err(LexFault::Memory),
+    }
+}
+
+/// The tokens of a text, as `lex` gives them. A bad byte is told with its offset.
+pub fn tokens_or_fault(alloc: Global, bytes: &[u8]) -> Result<Vec<Token>, TokenFault>
+    requires { length bytes.now ≤ 2 ^ 26 }
+    ensures tokens { IfOk result (λ tokens. tokens_of bytes.now ≡ Ok tokens.items) }
+    ensures described { IfOk result (λ tokens. AreTokensOf bytes.now tokens.items) }
+    ensures first_bad_byte { IfErr result (IsFirstBadByte bytes.now) }
+{
     let mut tokens = Vec::new(alloc);
     let mut at: usize = 0;
     let mut line: u32 = 1;
     while at < bytes.len() {
         let class = class_of(bytes[at]);
         if let Class::Bad = class {
-            return Err(LexFault::BadByte {
+            return Err(TokenFault::BadByte {
                 at: at as u32,
                 line,
                 column: column_at(bytes, at),
@@ -162,18 +186,18 @@ mod tests {
 
     #[test]
     fn texts_with_a_bad_byte(rt: HostRuntime) {
-        let rows: [(&[u8], u32, u32, u32); 6] = [
-            (b"a,b", 1, 1, 2),
-            (b"# x , y\n ;", 9, 2, 2),
-            (b"a\r\n\n b\r,", 7, 3, 4),
-            (b"#,\r,\n\n\n\xff", 7, 4, 1),
-            (b"1.5 \0 ,", 4, 1, 5),
-            (b"a: {b}\n", 3, 1, 4),
+        let rows: [(&[u8], u32, u32); 6] = [
+            (b"a,b", 1, 2),
+            (b"# x , y\n ;", 2, 2),
+            (b"a\r\n\n b\r,", 3, 4),
+            (b"#,\r,\n\n\n\xff", 4, 1),
+            (b"1.5 \0 ,", 1, 5),
+            (b"a: {b}\n", 1, 4),
         ];
-        for (text, at, line, column) in rows {
+        for (text, line, column) in rows {
             match lexed(&rt, rt.alloc(), text) {
                 Ok(found) => assert_eq!(rt; found.len(), 1000),
-                Err(fault) => assert_eq!(rt; fault, LexFault::BadByte { at, line, column }),
+                Err(fault) => assert_eq!(rt; fault, LexFault::BadByte { line, column }),
             }
         }
     }

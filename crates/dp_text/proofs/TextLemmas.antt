@@ -1,9 +1,9 @@
 -- The text of a file from its tokens.
 use Rattle.std.proofs.Common.{◌≡◌, ℕ, List, length, map, Result, Ok, Err, refl, ap, ◌∙◌}
 use Rattle.dp_lexer.specs.declared.Token.{Token}
-use Rattle.dp_lexer.specs.declared.LexFault.{LexFault}
-use Rattle.dp_lexer.specs.declared.LexFault.TheVariants as lexer
-use Rattle.dp_lexer.specs.Tokens.{tokens_of, NamesFirstBadByte}
+use Rattle.dp_lexer.specs.declared.TokenFault.{TokenFault}
+use Rattle.dp_lexer.specs.declared.TokenFault.TheVariants as lexer
+use Rattle.dp_lexer.specs.Tokens.{tokens_of, IsFirstBadByte}
 use Rattle.dp_meaning.specs.declared.why.Fault.{Fault}
 use Rattle.dp_meaning.specs.declared.text.Text.{Text}
 use Rattle.dp_meaning.specs.Faults.{◌>>=◌}
@@ -30,7 +30,7 @@ unfolding text_of
 by_steps bytes = refl
 
 -- a text without tokens
-pub has_no_tokens : (bytes : List ℕ) (fault : LexFault) → NamesFirstBadByte bytes fault → Reads (text_of bytes) (Err (fault_of_lexer fault))
+pub has_no_tokens : (bytes : List ℕ) (fault : TokenFault) → IsFirstBadByte bytes fault → Reads (text_of bytes) (Err (fault_of_lexer fault))
 has_no_tokens bytes (lexer.BadByte at line column) named =
     by_steps bytes ∙ ap (λ (r : Result (List Token) ℕ). steps bytes (pieces_of_tokens bytes r)) named.0
 has_no_tokens bytes lexer.Memory named = tt

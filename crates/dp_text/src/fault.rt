@@ -1,7 +1,7 @@
 //! Why a text was not read.
 ghost use Rattle.std.specs.Prelude.{◌≡◌};
 
-use dp_lexer::LexFault;
+use dp_lexer::TokenFault;
 use dp_meaning::{Fault, Why};
 use dp_num::Memory;
 use std::alloc::{AllocError, AllocFailed};
@@ -33,19 +33,19 @@ impl From<Fault> for TextFault {
     }
 }
 
-impl From<LexFault> for TextFault {
+impl From<TokenFault> for TextFault {
     ghost use Rattle.std.specs.Prelude.{◌≡◌};
     ghost use Rattle.dp_text.specs.Reading.{fault_of_lexer};
 
     ghost from_gives = { λ fault result. result ≡ fault_of_lexer fault };
 
-    fn from(fault: LexFault) -> TextFault {
+    fn from(fault: TokenFault) -> TextFault {
         match fault {
-            LexFault::BadByte { at, .. } => TextFault::At(Fault {
+            TokenFault::BadByte { at, .. } => TextFault::At(Fault {
                 at,
                 why: Why::BadByte,
             }),
-            LexFault::Memory => TextFault::Memory,
+            TokenFault::Memory => TextFault::Memory,
         }
     }
 }

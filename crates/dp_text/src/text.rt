@@ -8,7 +8,7 @@ use crate::document::Document;
 use crate::fault::TextFault;
 use crate::header::read_header;
 use crate::statements::read_statements;
-use dp_lexer::lex;
+use dp_lexer::tokens_or_fault;
 use dp_meaning::Text;
 use std::alloc::Global;
 
@@ -37,7 +37,7 @@ pub fn read_text(alloc: Global, bytes: &[u8]) -> Result<Text, TextFault>
     requires { length bytes.now ≤ 2 ^ 26 }
     ensures { Reads (text_of bytes.now) result }
 {
-    let tokens = match lex(alloc, bytes) {
+    let tokens = match tokens_or_fault(alloc, bytes) {
         Ok(tokens) => tokens,
         Err(fault) => return Err(TextFault::from(fault)),
     };

@@ -2,8 +2,8 @@ use Rattle.std.proofs.Common.{refl, sym, ap, ◌∙◌}
 use Rattle.std.specs.Result.{result_err}
 use Rattle.dp_lexer.proofs.Loop.{IsPiece, starts, keeps_token, keeps_none, next_line_feed, next_line_other, is_bad, is_done}
 use Rattle.dp_lexer.proofs.WholeText.{first_bad_byte_is_named, tokens_are_of_text}
-use Rattle.dp_lexer.proofs.lex.Goals as goal
-use Rattle.dp_lexer.proofs.lex.Goals.{After-kind_of, in-Some+in_ok-push, in_default-kind_of}
+use Rattle.dp_lexer.proofs.tokens_or_fault.Goals as goal
+use Rattle.dp_lexer.proofs.tokens_or_fault.Goals.{After-kind_of, in-Some+in_ok-push, in_default-kind_of}
 
 pub loop-at-init : goal.loop-at-init
 loop-at-init c = rw c.new-tokens.ensures.items (starts c.args.bytes.now)
