@@ -1,13 +1,13 @@
 -- The fields of a line, read one by one along axes.
-use Rattle.std.proofs.Common.{◌≡◌, ℕ, ◌+◌, ◌-◌, ◌<◌, ◌≤◌, List, [], ◌∷◌, ◌++◌, length, get_or, drop, Result, Ok, Err, refl, sym, ap, ◌∙◌, arith, length-append, length-drop}
+use Rattle.std.proofs.Common.{◌≡◌, ℕ, ◌+◌, ◌-◌, ◌<◌, ◌≤◌, List, [], ◌∷◌, ◌++◌, length, get_or, drop, Result, Ok, Err, refl, ap, ◌∙◌, arith, length-append, length-drop}
 use Rattle.std.proofs.lemmas.List.{drop_all, drop-drop}
 use Rattle.dp_meaning.specs.declared.why.Fault.{Fault}
 use Rattle.dp_meaning.specs.declared.why.Why.TheVariants.{Expected}
 use Rattle.dp_meaning.specs.declared.statement.Part.{Part}
 use Rattle.dp_meaning.specs.Faults.{◌>>=◌, fault}
 use Rattle.dp_meaning.specs.Items.{Piece}
-use Rattle.dp_meaning.specs.Fields.{Axis, Field, Fields, fields_of, field_parts, all_parts}
-use Rattle.dp_text.specs.FirstFields.{HasNoField, IsFirstField, with_field}
+use Rattle.dp_meaning.specs.Fields.{Axis, Field, fields_of, field_parts, all_parts}
+use Rattle.dp_text.specs.FirstFields.{HasNoField, IsFirstField}
 use Rattle.dp_text.specs.Reading.{Reads}
 use Rattle.dp_text.specs.declared.fault.TextFault.{TextFault}
 use Rattle.dp_text.specs.declared.fault.TextFault.TheVariants.{At, Memory}

@@ -1,11 +1,11 @@
 -- The first field of a line is what stands before its first Colon.
-use Rattle.std.proofs.Common.{◌≡◌, ℕ, zero, suc, ◌+◌, ◌<◌, ◌≤◌, Bool, true, false, cond, List, [], ◌∷◌, length, take, drop, refl, sym, ap, ◌∙◌, arith, add-one, length-take}
-use Rattle.std.specs.Prelude.{not, Option, Some, None}
+use Rattle.std.proofs.Common.{◌≡◌, ℕ, zero, suc, ◌+◌, ◌<◌, Bool, true, false, cond, List, [], ◌∷◌, length, take, drop, refl, sym, ap, ◌∙◌, arith, add-one, length-take}
+use Rattle.std.specs.Prelude.{not, Some, None}
 use Rattle.std.proofs.lemmas.List.{drop_all}
 use Rattle.std.proofs.lemmas.Option.{slice_get_within}
 use Rattle.std.specs.List.{prefix_len, slice_get}
 use Rattle.dp_meaning.specs.Items.{Piece, is_colon}
-use Rattle.dp_meaning.specs.Fields.{Field, Fields, fields_of, with_field_piece, in_first_field}
+use Rattle.dp_meaning.specs.Fields.{fields_of, with_field_piece}
 use Rattle.dp_text.specs.FirstFields.{is_no_colon, is_colon_in, with_field}
 
 no_colon : (line : List Piece) → slice_get line (prefix_len is_no_colon line) ≡ None → fields_of line ≡ record { fields = []; rest = line }

@@ -1,5 +1,3 @@
-use Rattle.std.proofs.Common.{◌∙◌, ap, sym, ◌*◌, map, drop, ◌+◌}
-use Rattle.dp_spec.specs.JointNumbers.{product}
 use Rattle.dp_meaning.specs.NameLists.{size_of}
 use Rattle.dp_text.proofs.Saturating.{one_more, product_at}
 use Rattle.dp_text.proofs.axes.axis_size.Goals as goal

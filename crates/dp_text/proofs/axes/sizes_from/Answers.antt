@@ -1,4 +1,4 @@
-use Rattle.std.proofs.Common.{[], ◌<◌, length, rules}
+use Rattle.std.proofs.Common.{[], ◌<◌, length}
 use Rattle.dp_meaning.specs.Statements.{axes_of, axis_size}
 use Rattle.dp_text.proofs.Saturating.{one_cut, product_at}
 use Rattle.dp_text.proofs.axes.sizes_from.Goals as goal

@@ -1,4 +1,3 @@
-use Rattle.std.proofs.Common.{sym}
 use Rattle.dp_text.proofs.FirstFields.{first_field_is, no_first_field}
 use Rattle.dp_text.proofs.fields.first_field.Goals as goal
 

@@ -1,4 +1,4 @@
-use Rattle.std.proofs.Common.{◌≡◌, ◌<◌, length, arith, sym, ◌∙◌}
+use Rattle.std.proofs.Common.{◌≡◌, ◌<◌, length, arith}
 use Rattle.dp_meaning.specs.Statements.{axes_of}
 use Rattle.dp_text.proofs.FieldLemmas.{none_read, field_read, field_fault, too_many, fields_end}
 use Rattle.dp_text.proofs.parts.line_fields.Goals as goal

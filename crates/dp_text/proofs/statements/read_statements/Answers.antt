@@ -1,4 +1,4 @@
-use Rattle.std.proofs.Common.{◌≤◌, length, arith}
+use Rattle.std.proofs.Common.{arith}
 use Rattle.dp_text.proofs.StatementLemmas.{statement_read, statement_fault, statements_end, none_read}
 use Rattle.dp_text.proofs.statements.read_statements.Goals as goal
 

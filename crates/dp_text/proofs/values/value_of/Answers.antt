@@ -1,4 +1,4 @@
-use Rattle.std.proofs.Common.{◌≡◌, ◌-◌, ◌∙◌, Bool, true, false, List, length, drop, sym, arith, length-drop}
+use Rattle.std.proofs.Common.{◌≡◌, ◌-◌, ◌∙◌, length, drop, arith, length-drop}
 use Rattle.std.specs.Prelude.{◌&&◌, codes}
 use Rattle.dp_meaning.specs.NameLists.{says}
 use Rattle.dp_meaning.specs.Fields.{Axis}
