@@ -10,3 +10,4 @@ pub mod WritingLemmas
 pub mod FlatCells
 pub mod ChanceLemmas
 pub mod ChanceTables
+pub mod StartLemmas

@@ -23,7 +23,8 @@ use Rattle.dp_meaning.proofs.TextLimits.{small}
 use Rattle.dp_spec.specs.Model.{AreScales}
 use Rattle.dp_meaning.specs.Rows.{Row, Repaired, row_cells, last_of_row, statement_at, table_row, table_rows, trans_rows, obs_rows, repair_all}
 use Rattle.dp_meaning.proofs.TableRows.{length_of_table_row, cell_of_table_row, scale_of_table_row}
-use Rattle.dp_meaning.proofs.CellNumbers.{parts_of_joint, parts_of_row}
+use Rattle.dp_meaning.proofs.CellNumbers.{parts_of_row}
+use Rattle.dp_spec.proofs.JointNumberLaws.{parts_of-joint_number}
 use Rattle.dp_tables.specs.Repair.{AreRows, fault_of_row, RepairsRows}
 use Rattle.dp_tables.specs.Rows.{given_cells, Repairs}
 
@@ -102,7 +103,7 @@ cell_of_row actions states len r j h k =
     ≡ joint_number (actions ∷ states ∷ len ∷ []) (r / states ∷ r % states ∷ j ∷ []) = joined actions states len (r / states) (r % states) j in
     ap (λ n. parts_of (actions ∷ states ∷ len ∷ []) (n * len + j)) w.2
     ∙ ap (parts_of (actions ∷ states ∷ len ∷ [])) number
-    ∙ parts_of_joint (actions ∷ states ∷ len ∷ []) (r / states ∷ r % states ∷ j ∷ []) (w.0, (w.1, (k, tt)))
+    ∙ parts_of-joint_number (actions ∷ states ∷ len ∷ []) (r / states ∷ r % states ∷ j ∷ []) (w.0, (w.1, (k, tt)))
     ∙ sym (ap (λ ps. ps ++ j ∷ []) (parts_of_number actions states r h))
   where
     joined : (actions states len a s j : ℕ) → (a * states + s) * len + j ≡ joint_number (actions ∷ states ∷ len ∷ []) (a ∷ s ∷ j ∷ [])

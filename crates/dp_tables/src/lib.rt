@@ -11,6 +11,7 @@ mod repair;
 mod rows;
 mod scales;
 mod sizes;
+mod start;
 mod statements;
 mod writing;
 
@@ -18,3 +19,4 @@ pub use chance_table::chances;
 pub use limits::scales_within_limits;
 pub use rows::{repair_observations, repair_transitions};
 pub use sizes::{joint_actions, joint_observations, states};
+pub use start::{repair_start, start_chances};
