@@ -77,7 +77,7 @@ IsReward d = (d.digits ≤ 9) × (unsigned_abs d.units ≤ 10 ^ (8 + d.digits))
 abbrev pub GivesRewards : Statement → Type 0
 GivesRewards s = Each IsReward (numbers_in s.value)
 
-reward_parts : (d : Decimal) → is_reward d ≡ true → IsReward d
+pub reward_parts : (d : Decimal) → is_reward d ≡ true → IsReward d
 reward_parts d e = by (nat_le (unsigned_abs d.units) (10 ^ (8 + d.digits))) refl (nat_le d.digits 9) refl e
   where
     by : (b : Bool) → nat_le (unsigned_abs d.units) (10 ^ (8 + d.digits)) ≡ b → (c : Bool) → nat_le d.digits 9 ≡ c → (b && c) ≡ true

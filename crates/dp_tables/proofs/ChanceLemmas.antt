@@ -86,16 +86,17 @@ of_identity scale actions len k some =
     square_some zero h = absurd (omega arith)
     square_some (suc n) h = omega arith
 
-of_numbers : (scale k f : ℕ) (sizes : List ℕ) (ns : List Decimal) → k < product sizes → length ns ≡ product (drop f sizes)
-    → get_or (map (chance_over scale) ns) (k % length (map (chance_over scale) ns)) 0
-    ≡ chance_over scale (number_at sizes f (parts_of sizes k) ns)
-of_numbers scale k f sizes ns h long =
+-- the numbers behind the fields, each over its scale
+pub of_numbers : (T : Type 0) (none : T) (over : Decimal → T) (k f : ℕ) (sizes : List ℕ) (ns : List Decimal) → k < product sizes
+    → length ns ≡ product (drop f sizes)
+    → get_or (map over ns) (k % length (map over ns)) none ≡ over (number_at sizes f (parts_of sizes k) ns)
+of_numbers T none over k f sizes ns h long =
     let some : 0 < product (drop f sizes) = product-drop_above sizes f (omega arith) in
-    let width : length (map (chance_over scale) ns) ≡ product (drop f sizes) = length-map ns (chance_over scale) ∙ long in
+    let width : length (map over ns) ≡ product (drop f sizes) = length-map ns over ∙ long in
     let low = mod_below k (product (drop f sizes)) some in
-    ap (λ n. get_or (map (chance_over scale) ns) (k % n) 0) width
-    ∙ get_or-map (chance_over scale) ns (k % product (drop f sizes)) no_number 0 (omega arith)
-    ∙ ap (λ n. chance_over scale (get_or ns n no_number)) (sym (joint_number-drop_parts f sizes k h))
+    ap (λ n. get_or (map over ns) (k % n) none) width
+    ∙ get_or-map over ns (k % product (drop f sizes)) no_number none (omega arith)
+    ∙ ap (λ n. over (get_or ns n no_number)) (sym (joint_number-drop_parts f sizes k h))
 
 -- the block gives a cell what the statement gives it
 pub value_at : (scale actions states len k f : ℕ) (table : Table) (axes : List Axis) (v : Value)
@@ -106,7 +107,7 @@ value_at scale actions states len k f table axes Uniform is fills h =
     of_uniform scale actions states len k
     ∙ ap (λ ns. given_chance scale ns f (parts_of (map axis_size axes) k) Uniform) (sym is.sizes)
 value_at scale actions states len k f table axes (Numbers ns) is fills h =
-    of_numbers scale k f (map axis_size axes) ns h (fills ∙ ap product (sym (drop-map axis_size f axes)))
+    of_numbers ℕ 0 (chance_over scale) k f (map axis_size axes) ns h (fills ∙ ap product (sym (drop-map axis_size f axes)))
 value_at scale actions states len k f table axes Identity is fills h =
     let w = is_square table axes actions states len f is fills in
     let sizes : map axis_size axes ≡ actions ∷ len ∷ len ∷ [] = is.sizes ∙ ap (λ n. actions ∷ n ∷ len ∷ []) w.0 in

@@ -29,6 +29,7 @@ use Rattle.dp_tables.specs.Blocks.{chance_block, IsChanceValue}
 use Rattle.dp_tables.specs.Tables.{row_length}
 use Rattle.dp_tables.specs.Writing.{AreWithin, AreWritten, is_covered, list_sizes, list_parts}
 use Rattle.dp_tables.proofs.ChanceLemmas.{IsTableOver, block_fits, value_at}
+use Rattle.dp_tables.proofs.CellTables.{AreCells, same_table, taken, skipped, no_cells, more_cells, all_cells}
 use Rattle.dp_tables.proofs.FlatCells.{product_of_lists, parts_within, width_of_parts, covered_by_lists}
 
 -- ---- the table of a text
@@ -81,17 +82,6 @@ pub record IsChanceStatement (table : Table) (axes : List Axis) (s : Statement) 
   pub fills : Fills table (drop (length s.fields) axes) s.value
   pub numbers : IsChanceValue s.value
 
-same_table : (a b : Table) → is_same_table a b ≡ true → b ≡ a
-same_table Trans Trans e = refl
-same_table Trans Obs e = absurd (cc)
-same_table Trans Reward e = absurd (cc)
-same_table Obs Trans e = absurd (cc)
-same_table Obs Obs e = refl
-same_table Obs Reward e = absurd (cc)
-same_table Reward Trans e = absurd (cc)
-same_table Reward Obs e = absurd (cc)
-same_table Reward Reward e = refl
-
 chance_numbers : (table : Table) (v : Value) → is_reward_table table ≡ false → AreNumbersOf table v → IsChanceValue v
 chance_numbers table Uniform e are = tt
 chance_numbers table Identity e are = tt
@@ -117,73 +107,28 @@ chance_statement text table items i s said chances are h is same =
       numbers = chance_numbers table s.value chances (subst (λ b. AreNumbersOf b s.value) t numbers);
     }
 
--- one more statement, which is one of the table's or none
-pub taken : (table : Table) (items : List Statement) (i : ℕ) (s : Statement) → i < length items → s ≡ get_or items i s
-    → is_same_table table s.table ≡ true
-    → statements_for table (take (i + 1) items) ≡ statements_for table (take i items) ++ s ∷ []
-taken table items i s h is same =
-    ap (statements_for table) (take_more items i s h ∙ ap (λ l. take i items ++ l ∷ []) (sym is))
-    ∙ filter-append (λ l. is_same_table table l.table) (take i items) (s ∷ [])
-    ∙ ap (λ b. statements_for table (take i items) ++ cond b (s ∷ []) []) same
-
-pub skipped : (table : Table) (items : List Statement) (i : ℕ) (s : Statement) → i < length items → s ≡ get_or items i s
-    → is_same_table table s.table ≡ false
-    → statements_for table (take (i + 1) items) ≡ statements_for table (take i items)
-skipped table items i s h is other =
-    ap (statements_for table) (take_more items i s h ∙ ap (λ l. take i items ++ l ∷ []) (sym is))
-    ∙ filter-append (λ l. is_same_table table l.table) (take i items) (s ∷ [])
-    ∙ ap (λ b. statements_for table (take i items) ++ cond b (s ∷ []) []) other ∙ append-nil (statements_for table (take i items))
-
 -- ---- the cells
 
 -- the cells by these statements
-pub record AreChancesBy (scale : ℕ) (axes : List Axis) (statements : List Statement) (cells : List ℕ) : Type 0 where
-  pub count : length cells ≡ product (list_sizes axes)
-  pub cell : (k : ℕ) → k < product (list_sizes axes) → get_or cells k 0 ≡ chance_of_cell scale axes statements (parts_of (map axis_size axes) k)
+abbrev pub AreChancesBy : ℕ → List Axis → List Statement → List ℕ → Type 0
+AreChancesBy scale axes statements cells = AreCells ℕ 0 axes (chance_of_cell scale axes statements) cells
 
 pub no_chances : (scale : ℕ) (axes : List Axis) (cells : List ℕ) (n : ℕ) → cells ≡ replicate n 0 → n ≡ product (list_sizes axes)
     → AreChancesBy scale axes [] cells
-no_chances scale axes cells n e long = record {
-  count = ap length e ∙ length-replicate n 0 ∙ long;
-  cell = λ k h. zeros k ∙ sym (chance_uncovered scale axes [] (parts_of (map axis_size axes) k) refl);
-}
-  where
-    zero_at : (n k : ℕ) → get_or {A = ℕ} (replicate n 0) k 0 ≡ 0
-    zero_at zero k = refl
-    zero_at (suc n) zero = refl
-    zero_at (suc n) (suc k) = zero_at n k
+no_chances scale axes cells n e long =
+    no_cells ℕ 0 axes (chance_of_cell scale axes []) cells n e long (λ cell. chance_uncovered scale axes [] cell refl)
 
-    zeros : (k : ℕ) → get_or cells k 0 ≡ 0
-    zeros k = ap (λ ns. get_or ns k 0) e ∙ zero_at n k
-
-pub more_chances : (scale actions states len : ℕ) (table : Table) (axes : List Axis) (before : List Statement) (s : Statement) (cells new : List ℕ)
+more_chances : (scale actions states len : ℕ) (table : Table) (axes : List Axis) (before : List Statement) (s : Statement) (cells new : List ℕ)
     → IsTableOver table axes actions states len → IsChanceStatement table axes s → AreChancesBy scale axes before cells → length new ≡ length cells
     → AreWritten (list_sizes axes) (list_parts s.fields) (chance_block scale len s.value) cells new
     → AreChancesBy scale axes (before ++ s ∷ []) new
-more_chances scale actions states len table axes before s cells new over is so_far long written = record {
-  count = long ∙ so_far.count;
-  cell = cell;
-}
-  where
-    cell : (k : ℕ) → k < product (list_sizes axes)
-        → get_or new k 0 ≡ chance_of_cell scale axes (before ++ s ∷ []) (parts_of (map axis_size axes) k)
-    cell k h =
-        written k 0 (subst (λ n. k < n) (sym so_far.count) h)
-        ∙ ap (λ b. cond b (get_or (chance_block scale len s.value) (k % length (chance_block scale len s.value)) 0) (get_or cells k 0))
-        (covered_by_lists axes s.fields k is.over.fields h)
-        ∙ by (covers axes s.fields (parts_of (map axis_size axes) k)) refl
-      where
-        by : (b : Bool) → covers axes s.fields (parts_of (map axis_size axes) k) ≡ b
-            → cond b (get_or (chance_block scale len s.value) (k % length (chance_block scale len s.value)) 0) (get_or cells k 0)
-            ≡ chance_of_cell scale axes (before ++ s ∷ []) (parts_of (map axis_size axes) k)
-        by true e =
-            value_at scale actions states len k (length s.fields) table axes s.value over is.fills
-            (subst (λ n. k < n) (product_of_lists axes) h)
-            ∙ sym (chance_of_last scale axes before s [] (parts_of (map axis_size axes) k) e refl)
-        by false e =
-            so_far.cell k h
-            ∙ sym (chance_of_others scale axes before s [] (parts_of (map axis_size axes) k) e
-            ∙ ap (λ ss. chance_of_cell scale axes ss (parts_of (map axis_size axes) k)) (append-nil before))
+more_chances scale actions states len table axes before s cells new over is so_far long written =
+    more_cells ℕ 0 axes (chance_of_cell scale axes before)
+    (λ cell. given_chance scale (map axis_size axes) (length s.fields) cell s.value) (chance_of_cell scale axes (before ++ s ∷ []))
+    s.fields (chance_block scale len s.value) cells new is.over.fields so_far long written
+    (λ k h. value_at scale actions states len k (length s.fields) table axes s.value over is.fills h)
+    (λ cell e. chance_of_last scale axes before s [] cell e refl)
+    (λ cell e. chance_of_others scale axes before s [] cell e ∙ ap (λ ss. chance_of_cell scale axes ss cell) (append-nil before))
 
 -- what is known where a statement of the table is written
 pub record IsWritable (scale len : ℕ) (sizes : List ℕ) (s : Statement) : Type 0 where
@@ -233,7 +178,4 @@ pub all_chances : (scale actions states len : ℕ) (table : Table) (axes : List 
     → IsTableOver table axes actions states len → AreChancesBy scale axes statements cells
     → cells ≡ map (λ k. chance_of_cell scale axes statements (parts_of (actions ∷ states ∷ len ∷ []) k)) (range_with_len 0 (actions * states * len))
 all_chances scale actions states len table axes statements cells over are =
-    fill_by_all (λ k. chance_of_cell scale axes statements (parts_of (actions ∷ states ∷ len ∷ []) k)) cells (actions * states * len) 0
-    (are.count ∙ cells_count table axes actions states len over)
-    (λ k h. are.cell k (subst (λ n. k < n) (sym (cells_count table axes actions states len over)) h)
-    ∙ ap (λ ns. chance_of_cell scale axes statements (parts_of ns k)) over.sizes)
+    all_cells ℕ 0 axes (chance_of_cell scale axes statements) cells (actions ∷ states ∷ len ∷ []) (actions * states * len) are over.sizes (omega arith)

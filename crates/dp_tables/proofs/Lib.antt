@@ -9,5 +9,7 @@ pub mod BlockLemmas
 pub mod WritingLemmas
 pub mod FlatCells
 pub mod ChanceLemmas
+pub mod CellTables
 pub mod ChanceTables
 pub mod StartLemmas
+pub mod RewardTables

@@ -1,11 +1,11 @@
 //! The values of a statement as a block: those of the cells of the axes without a field, the last axis fastest, or one
 //! for all of them.
-ghost use Rattle.std.specs.Prelude.{◌≡◌, ◌<◌, ◌≤◌, ◌*◌, [], ◌∷◌, map, All, true, IfOk};
+ghost use Rattle.std.specs.Prelude.{◌≡◌, ◌<◌, ◌≤◌, ◌*◌, ◌^◌, ◌*ℤ◌, pos, unsigned_abs, [], ◌∷◌, map, All, true, IfOk};
 ghost use Rattle.std.specs.List.{range_with_len};
-ghost use Rattle.dp_meaning.specs.Numbers.{is_chance};
+ghost use Rattle.dp_meaning.specs.Numbers.{is_chance, is_reward};
 ghost use Rattle.dp_meaning.specs.Cells as spec;
 ghost use Rattle.dp_tables.specs.Blocks as blocks;
-ghost use Rattle.dp_tables.specs.Blocks.{IsChanceValue};
+ghost use Rattle.dp_tables.specs.Blocks.{IsChanceValue, IsRewardValue};
 
 use dp_meaning::Value;
 use dp_num::{Decimal, Memory};
@@ -73,4 +73,49 @@ pub(crate) fn chance_over(scale: u64, chance: Decimal) -> u64
 {
     let unit = scale / 10u64.pow(u32::from(chance.digits));
     chance.units.unsigned_abs() as u64 * unit
+}
+
+/// The rewards of a value over the scale. Only Numbers give rewards.
+pub(crate) fn reward_block(alloc: Global, cost: bool, scale: u64, value: &Value) -> Result<Vec<i64>, Memory>
+    requires scale { scale ≤ 10 ^ 9 }
+    requires rewards { IsRewardValue value.now }
+    ensures { IfOk result (λ block. block.items ≡ blocks.reward_block cost scale value.now) }
+{
+    match value {
+        Value::Uniform | Value::Identity => Ok(Vec::new(alloc)),
+        Value::Numbers(numbers) => rewards_over(alloc, cost, scale, numbers.as_slice()),
+    }
+}
+
+/// Rewards over the scale.
+fn rewards_over(alloc: Global, cost: bool, scale: u64, rewards: &[Decimal]) -> Result<Vec<i64>, Memory>
+    requires scale { scale ≤ 10 ^ 9 }
+    requires rewards { All (λ d. is_reward d ≡ true) rewards.now }
+    ensures { IfOk result (λ block. block.items ≡ map (spec.reward_over cost scale) rewards.now) }
+{
+    let mut block = Vec::new(alloc);
+    for reward in rewards {
+        block.push(reward_over(cost, scale, *reward))?;
+    }
+    Ok(block)
+}
+
+/// A reward over the scale, where it may be given as a cost.
+fn reward_over(cost: bool, scale: u64, reward: Decimal) -> i64
+    requires scale { scale ≤ 10 ^ 9 }
+    requires range { is_reward reward ≡ true }
+    ensures { result ≡ spec.reward_over cost scale reward }
+{
+    let unit = scale / 10u64.pow(u32::from(reward.digits));
+    let over = times(reward.units, unit);
+    if cost { -over } else { over }
+}
+
+/// So many units of this size.
+fn times(units: i128, unit: u64) -> i64
+    requires { unsigned_abs units * unit ≤ 10 ^ 17 }
+    ensures value { result ≡ units *ℤ pos unit }
+    ensures limit { unsigned_abs result ≤ 10 ^ 17 }
+{
+    (units * i128::from(unit)) as i64
 }

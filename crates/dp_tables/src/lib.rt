@@ -8,6 +8,7 @@ mod covering;
 mod limits;
 mod lists;
 mod repair;
+mod reward_table;
 mod rows;
 mod scales;
 mod sizes;
@@ -17,6 +18,7 @@ mod writing;
 
 pub use chance_table::chances;
 pub use limits::scales_within_limits;
+pub use reward_table::rewards;
 pub use rows::{repair_observations, repair_transitions};
 pub use sizes::{joint_actions, joint_observations, states};
 pub use start::{repair_start, start_chances};

@@ -1,0 +1,68 @@
+//! The rewards, as the statements of a text give them.
+ghost use Rattle.std.specs.Prelude.{◌≡◌, ◌*◌, ◌^◌, ◌<◌, ◌≤◌, None, IfOk, OnOk, length, drop};
+ghost use Rattle.dp_spec.specs.JointNumbers.{product};
+ghost use Rattle.dp_meaning.specs.Limits.{passed_limit};
+ghost use Rattle.dp_meaning.specs.Meaning.{IsSaid, rewards_of};
+ghost use Rattle.dp_meaning.specs.Scales.{scales_of};
+ghost use Rattle.dp_meaning.specs.Text.{states_in, joint_actions_in, joint_observations_in};
+ghost use Rattle.dp_tables.specs.Blocks as blocks;
+ghost use Rattle.dp_tables.specs.Blocks.{IsRewardValue};
+ghost use Rattle.dp_tables.specs.Writing as spec;
+ghost use Rattle.dp_tables.specs.Writing.{AreWithin, AreWritten};
+
+use crate::blocks::reward_block;
+use crate::lists::{list_parts, list_sizes};
+use crate::sizes::{joint_actions, joint_observations, states};
+use crate::writing::write;
+use dp_meaning::{Statement, Table, Text};
+use dp_num::Memory;
+use std::alloc::Global;
+
+/// The rewards over their scale, as the statements of the text give them: by joint action, state, next state and joint
+/// observation. Costs are negated.
+pub fn rewards(alloc: Global, text: &Text, scale: u64) -> Result<Vec<i64>, Memory>
+    requires said { IsSaid text.now }
+    requires within { passed_limit text.now ≡ None }
+    requires scale { scale ≡ (scales_of text.now).reward }
+    ensures { IfOk result (λ cells. cells.items ≡ rewards_of text.now) }
+{
+    let sizes = list_sizes(alloc, &text.header, Table::Reward)?;
+    let mut cells = vec![in alloc; 0; reward_cells(text)]?;
+    for statement in text.statements.as_slice() {
+        if Table::Reward.is_same(statement.table) {
+            write_rewards(alloc, &mut cells, &sizes, text.header.cost, scale, statement)?;
+        }
+    }
+    Ok(cells)
+}
+
+/// Writes what a statement gives to the rewards that it covers.
+fn write_rewards(alloc: Global, cells: &mut [i64], sizes: &[u32], cost: bool, scale: u64, statement: &Statement) -> Result<(), Memory>
+    requires scale { scale ≤ 10 ^ 9 }
+    requires rewards { IsRewardValue statement.now.value }
+    requires cells { length cells.old ≡ product sizes.now }
+    requires some { 0 < product sizes.now }
+    requires parts { AreWithin sizes.now (spec.list_parts statement.now.fields) }
+    requires block {
+      let block = blocks.reward_block cost scale statement.now.value in
+      length block ≡ product (drop (length (spec.list_parts statement.now.fields)) sizes.now)
+    }
+    ensures {
+      let block = blocks.reward_block cost scale statement.now.value in
+      OnOk result (AreWritten sizes.now (spec.list_parts statement.now.fields) block cells.old cells.new)
+    }
+{
+    let block = reward_block(alloc, cost, scale, &statement.value)?;
+    let parts = list_parts(alloc, statement.fields.as_slice())?;
+    write(cells, sizes, &parts, &block);
+    Ok(())
+}
+
+/// How many rewards a model has.
+fn reward_cells(text: &Text) -> usize
+    requires { passed_limit text.now ≡ None }
+    ensures { result ≡ joint_actions_in text.now * states_in text.now * states_in text.now * joint_observations_in text.now }
+{
+    let states = states(text) as usize;
+    joint_actions(text) as usize * states * states * joint_observations(text) as usize
+}
