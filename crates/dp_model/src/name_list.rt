@@ -1,5 +1,5 @@
 //! One list of names.
-ghost use Rattle.std.specs.Prelude.{◌≡◌, [], ◌<◌, ◌≤◌, ◌^◌, ◌↔◌, IsTrue, IsNone, not, length, slice_get, IfOk, OnOk, OnErr};
+ghost use Rattle.std.specs.Prelude.{◌≡◌, [], ◌<◌, ◌^◌, ◌↔◌, IsTrue, IsNone, not, length, slice_get, IfOk, OnOk, OnErr};
 ghost use Rattle.std.specs.Option.{option_copied};
 ghost use Rattle.dp_num.specs.Names.{is_name};
 ghost use Rattle.dp_model.specs.Names.{IsNameList, has_name, place_of, with_name};
@@ -45,10 +45,9 @@ impl NameList {
         let _ = &self.names;
     }
 
-    /// How many names there are.
+    /// How many names it has.
     pub fn len(&self) -> u32
-        ensures is { result ≡ length self.now }
-        ensures limit { result ≤ 2 ^ 26 }
+        ensures { result ≡ length self.now }
     {
         self.names.len() as u32
     }
