@@ -65,9 +65,8 @@ tokens_from text zero at (b ∷ rest) =
 unfoldable pub tokens_of : List ℕ → Result (List Token) ℕ
 tokens_of text = tokens_from text 0 0 text
 
--- the fault is want of memory, or it names the first bad byte by its line and column
+-- the fault is want of memory, or it names the first bad byte by its offset, and by its line and column
 abbrev pub NamesFirstBadByte : List ℕ → LexFault → Type 0
-NamesFirstBadByte text (BadByte line column) =
-    (at : ℕ) × (tokens_of text ≡ Err at) × (first_bad text ≡ Some at)
-    × (line ≡ line_at text at) × (column ≡ column_at text at)
+NamesFirstBadByte text (BadByte at line column) =
+    (tokens_of text ≡ Err at) × (first_bad text ≡ Some at) × (line ≡ line_at text at) × (column ≡ column_at text at)
 NamesFirstBadByte text Memory = Unit {0}

@@ -40,9 +40,9 @@ pub struct Token {
 /// Why a text has no tokens.
 #[derive(Clone, Copy, Debug, PartialEq, Eq)]
 pub enum LexFault {
-    /// A byte outside comments that is neither a blank nor one of a token. Lines and columns count from 1, and
-    /// columns count bytes.
-    BadByte { line: u32, column: u32 },
+    /// A byte outside comments that is neither a blank nor one of a token, at this offset. Lines and columns count
+    /// from 1, and columns count bytes.
+    BadByte { at: u32, line: u32, column: u32 },
     /// Memory ran out.
     Memory,
 }
@@ -74,6 +74,7 @@ pub fn lex(alloc: Global, bytes: &[u8]) -> Result<Vec<Token>, LexFault>
         let class = class_of(bytes[at]);
         if let Class::Bad = class {
             return Err(LexFault::BadByte {
+                at: at as u32,
                 line,
                 column: column_at(bytes, at),
             });
@@ -161,18 +162,18 @@ mod tests {
 
     #[test]
     fn texts_with_a_bad_byte(rt: HostRuntime) {
-        let rows: [(&[u8], u32, u32); 6] = [
-            (b"a,b", 1, 2),
-            (b"# x , y\n ;", 2, 2),
-            (b"a\r\n\n b\r,", 3, 4),
-            (b"#,\r,\n\n\n\xff", 4, 1),
-            (b"1.5 \0 ,", 1, 5),
-            (b"a: {b}\n", 1, 4),
+        let rows: [(&[u8], u32, u32, u32); 6] = [
+            (b"a,b", 1, 1, 2),
+            (b"# x , y\n ;", 9, 2, 2),
+            (b"a\r\n\n b\r,", 7, 3, 4),
+            (b"#,\r,\n\n\n\xff", 7, 4, 1),
+            (b"1.5 \0 ,", 4, 1, 5),
+            (b"a: {b}\n", 3, 1, 4),
         ];
-        for (text, line, column) in rows {
+        for (text, at, line, column) in rows {
             match lexed(&rt, rt.alloc(), text) {
                 Ok(found) => assert_eq!(rt; found.len(), 1000),
-                Err(fault) => assert_eq!(rt; fault, LexFault::BadByte { line, column }),
+                Err(fault) => assert_eq!(rt; fault, LexFault::BadByte { at, line, column }),
             }
         }
     }

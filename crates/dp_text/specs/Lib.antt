@@ -1,3 +1,6 @@
 pub mod Reading
 pub mod Tokens
 pub mod Lines
+pub mod ItemSpans
+pub mod Documents
+pub mod TextSteps

@@ -1,6 +1,5 @@
 -- The tokens of a text as the reading functions take them.
-use Rattle.std.specs.Prelude.{◌≡◌, ℕ, ◌<◌, ◌≤◌, ◌^◌, List, length, map, All, AllPairs}
-use Rattle.dp_lexer.specs.declared.Kind.{Kind}
+use Rattle.std.specs.Prelude.{ℕ, ◌<◌, ◌≤◌, ◌^◌, List, length, map, All, AllPairs}
 use Rattle.dp_lexer.specs.declared.Token.{Token}
 use Rattle.dp_lexer.specs.TokenLaws.{IsOfKind, slice_of}
 use Rattle.dp_meaning.specs.Items.{Piece, piece_of}

@@ -1,5 +1,6 @@
 //! Why a text was not read.
-use dp_meaning::Fault;
+use dp_lexer::LexFault;
+use dp_meaning::{Fault, Why};
 use dp_num::Memory;
 use std::alloc::{AllocError, AllocFailed};
 
@@ -20,6 +21,23 @@ impl From<Fault> for TextFault {
 
     fn from(fault: Fault) -> TextFault {
         TextFault::At(fault)
+    }
+}
+
+impl From<LexFault> for TextFault {
+    ghost use Rattle.std.specs.Prelude.{◌≡◌};
+    ghost use Rattle.dp_text.specs.Reading.{fault_of_lexer};
+
+    ghost from_gives = { λ fault result. result ≡ fault_of_lexer fault };
+
+    fn from(fault: LexFault) -> TextFault {
+        match fault {
+            LexFault::BadByte { at, .. } => TextFault::At(Fault {
+                at,
+                why: Why::BadByte,
+            }),
+            LexFault::Memory => TextFault::Memory,
+        }
     }
 }
 

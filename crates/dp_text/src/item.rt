@@ -1,34 +1,58 @@
 //! An item: a line whose second token is a Colon, and the lines that follow it, up to the next item.
-ghost use Rattle.std.specs.Prelude.{◌≡◌, ◌≤◌, ◌^◌, true, slice_get};
+ghost use Rattle.std.specs.Prelude.{◌≡◌, ◌≤◌, ◌^◌, map, true, slice_get};
 ghost use Rattle.dp_meaning.specs.Entries.{agent_lines};
-ghost use Rattle.dp_meaning.specs.Items.{after_colon, begins_item, item_at, value_pieces};
+ghost use Rattle.dp_meaning.specs.Items.{after_colon, begins_item, item_at, pieces_of, value_pieces};
+ghost use Rattle.dp_text.specs.Lines.{item_of, IsItem};
 
 use crate::line::LineSpan;
 use crate::pieces::Pieces;
-use dp_lexer::Token;
 use std::marker::Model;
 
 /// An item of a text.
 #[derive(Drop)]
 pub(crate) struct Item<'a> {
-    bytes: &'a [u8],
     // Those of the whole text, line ends aside.
-    tokens: &'a [Token],
+    pieces: Pieces<'a>,
     first: LineSpan,
     more: &'a [LineSpan],
+    // Where the last line ends.
+    past: usize,
     next: u32,
 }
 
 impl<'a> Model for Item<'a> {
     ghost use Rattle.dp_meaning.specs.Items as spec;
-    ghost use Rattle.dp_text.specs.Lines.{item_of};
+    ghost use Rattle.dp_text.specs.Lines.{item_of, IsItem};
 
     ghost Value = { spec.Item };
 
-    ghost view = { λ i. item_of i.bytes.now i.tokens.now i.first i.more.now i.next };
+    ghost view = { λ i. item_of i.pieces i.first i.more.now i.next };
+
+    ghost invariant = { λ i. IsItem i.pieces i.first i.more.now i.past i.next };
 }
 
 impl<'a> Item<'a> {
+    /// The item of a first line, of the lines that follow it, and of the place of the next item.
+    #[inline]
+    pub(crate) fn of(
+        pieces: Pieces<'a>,
+        first: LineSpan,
+        more: &'a [LineSpan],
+        past: usize,
+        next: u32,
+    ) -> Item<'a>
+        requires { IsItem pieces first more.now past next }
+        ensures { result ≡ item_of pieces.entry first more.now next }
+    {
+        Item {
+            pieces,
+            first,
+            more,
+            past,
+            next,
+        }
+    }
+
     /// What holds of every item. It does nothing.
     #[inline]
     pub(crate) fn kept(&self)
@@ -43,7 +67,7 @@ impl<'a> Item<'a> {
     pub(crate) fn at(&self) -> u32
         ensures { result ≡ item_at self.now }
     {
-        self.tokens[self.first.first as usize].start
+        self.first_line().first_at(self.next)
     }
 
     /// Where the next item begins, or the text ends.
@@ -66,34 +90,34 @@ impl<'a> Item<'a> {
     pub(crate) fn first_line(&self) -> Pieces<'a>
         ensures { result ≡ self.now.first.pieces }
     {
-        Pieces::of(
-            self.bytes,
-            &self.tokens[self.first.first as usize..self.first.past as usize],
-        )
+        self.pieces.between(self.first.first, self.first.past)
     }
 
     /// What stands on its first line after the first Colon.
     pub(crate) fn after_colon(&self) -> Pieces<'a>
         ensures { result ≡ after_colon self.now }
     {
-        Pieces::of(
-            self.bytes,
-            &self.tokens[self.first.first as usize + 2..self.first.past as usize],
-        )
+        self.kept();
+        self.first_line().from(2)
     }
 
     /// All that stands after its first Colon.
     pub(crate) fn value(&self) -> Pieces<'a>
         ensures { result ≡ value_pieces self.now }
     {
-        let past = match self.more.last() {
-            Some(line) => line.past,
-            None => self.first.past,
-        };
-        Pieces::of(
-            self.bytes,
-            &self.tokens[self.first.first as usize + 2..past as usize],
-        )
+        self.pieces.between(self.first.first, self.past).from(2)
+    }
+
+    /// A line behind the first.
+    fn line_behind(&self, i: usize) -> Option<Pieces<'a>>
+        ensures { result ≡ slice_get (map pieces_of self.now.more) i }
+    {
+        if i < self.more.len() {
+            let line = self.more[i];
+            Some(self.pieces.between(line.first, line.past))
+        } else {
+            None
+        }
     }
 
     /// The line of agent `i` in a list with one line for each agent, of which the first may stand
@@ -102,14 +126,13 @@ impl<'a> Item<'a> {
         ensures { result ≡ slice_get (agent_lines self.now) i }
     {
         let own = self.after_colon();
-        let own_lines = if own.len() > 0 { 1 } else { 0 };
-        if i < own_lines {
-            return Some(own);
+        if own.len() == 0 {
+            return self.line_behind(i);
         }
-        let line = self.more.get(i - own_lines)?;
-        Some(Pieces::of(
-            self.bytes,
-            &self.tokens[line.first as usize..line.past as usize],
-        ))
+        if i == 0 {
+            Some(own)
+        } else {
+            self.line_behind(i - 1)
+        }
     }
 }

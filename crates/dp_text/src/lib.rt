@@ -4,6 +4,7 @@
 mod document;
 mod fault;
 mod item;
+mod item_span;
 mod line;
 mod pieces;
 

@@ -1,5 +1,6 @@
 //! Pieces: tokens by their bytes.
-ghost use Rattle.std.specs.Prelude.{◌≡◌, [], ◌∷◌, ◌<◌, ◌≤◌, ◌^◌, MatchOption, drop, length, slice_get, take};
+ghost use Rattle.std.specs.Prelude.{◌≡◌, [], ◌∷◌, ◌<◌, ◌≤◌, ◌^◌, MatchOption, drop, length, slice_get, slice_range, take};
+ghost use Rattle.dp_meaning.specs.Items.{first_at};
 ghost use Rattle.dp_text.specs.Tokens.{ArePiecesOf, IsPiece, pieces_of_text};
 
 use dp_lexer::{Kind, Token};
@@ -88,6 +89,14 @@ impl<'a> Pieces<'a> {
         Pieces { bytes, tokens }
     }
 
+    /// What holds of all pieces. It does nothing.
+    #[inline]
+    pub(crate) fn kept(&self)
+        ensures { length self.now ≤ 2 ^ 26 }
+    {
+        let _ = self.len();
+    }
+
     /// How many there are.
     #[inline]
     pub(crate) fn len(&self) -> usize
@@ -140,6 +149,29 @@ impl<'a> Pieces<'a> {
         Pieces {
             bytes: self.bytes,
             tokens,
+        }
+    }
+
+    /// The pieces from a place on, before another.
+    pub(crate) fn between(&self, first: usize, past: usize) -> Pieces<'a>
+        requires in_order { first ≤ past }
+        requires within { past ≤ length self.now }
+        ensures { result ≡ slice_range self.now first past }
+    {
+        self.from(first).until(past - first)
+    }
+
+    /// Where the first of them stands, or `end` where there is none.
+    pub(crate) fn first_at(&self, end: u32) -> u32
+        ensures is { result ≡ first_at end self.now }
+        ensures limit { end ≤ 2 ^ 26 → result ≤ 2 ^ 26 }
+    {
+        match self.get(0) {
+            Some(first) => {
+                first.kept();
+                first.at()
+            }
+            None => end,
         }
     }
 }

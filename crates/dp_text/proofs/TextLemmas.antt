@@ -1,0 +1,42 @@
+-- The text of a file from its tokens.
+use Rattle.std.proofs.Common.{◌≡◌, ℕ, List, length, map, Result, Ok, Err, refl, ap, ◌∙◌}
+use Rattle.dp_lexer.specs.declared.Token.{Token}
+use Rattle.dp_lexer.specs.declared.LexFault.{LexFault}
+use Rattle.dp_lexer.specs.declared.LexFault.TheVariants as lexer
+use Rattle.dp_lexer.specs.Tokens.{tokens_of, NamesFirstBadByte}
+use Rattle.dp_meaning.specs.declared.why.Fault.{Fault}
+use Rattle.dp_meaning.specs.declared.text.Text.{Text}
+use Rattle.dp_meaning.specs.Faults.{◌>>=◌}
+use Rattle.dp_meaning.specs.Items.{Piece, piece_of, items_of_pieces}
+use Rattle.dp_meaning.specs.Header.{header_of, no_entries}
+use Rattle.dp_meaning.specs.Statements.{statements_of}
+use Rattle.dp_meaning.specs.Meaning.{pieces_of_tokens, unless_lines, text_of}
+use Rattle.dp_text.specs.Reading.{Reads, fault_of_lexer}
+use Rattle.dp_text.specs.Documents.{with_end}
+use Rattle.dp_text.specs.TextSteps.{text_of_items}
+
+-- the steps of reading a text of these pieces
+abbrev steps : List ℕ → Result (List Piece) Fault → Result Text Fault
+steps bytes read = do
+  pieces ← read
+  let items = items_of_pieces (length bytes) pieces
+  _ ← unless_lines (length bytes) items.before
+  header ← header_of (length bytes) no_entries items.items
+  statements ← statements_of header.0 header.1
+  Ok (record { header = header.0; statements = statements })
+
+by_steps : (bytes : List ℕ) → text_of bytes ≡ steps bytes (pieces_of_tokens bytes (tokens_of bytes))
+unfolding text_of
+by_steps bytes = refl
+
+-- a text without tokens
+pub has_no_tokens : (bytes : List ℕ) (fault : LexFault) → NamesFirstBadByte bytes fault → Reads (text_of bytes) (Err (fault_of_lexer fault))
+has_no_tokens bytes (lexer.BadByte at line column) named =
+    by_steps bytes ∙ ap (λ (r : Result (List Token) ℕ). steps bytes (pieces_of_tokens bytes r)) named.0
+has_no_tokens bytes lexer.Memory named = tt
+
+-- a text with these tokens
+pub by_items : (bytes : List ℕ) (tokens : List Token) → tokens_of bytes ≡ Ok tokens
+    → text_of bytes ≡ text_of_items (with_end (length bytes) (items_of_pieces (length bytes) (map (piece_of bytes) tokens)))
+unfolding text_of_items
+by_items bytes tokens e = by_steps bytes ∙ ap (λ (r : Result (List Token) ℕ). steps bytes (pieces_of_tokens bytes r)) e
