@@ -69,7 +69,8 @@ pub fn repair_start(cells: &mut [u64], text: &Text, scale: u64, end: u32) -> Res
     requires within { passed_limit text.now ≡ None }
     requires scale { scale ≡ (scales_of text.now).start }
     requires given { cells.old ≡ (start_row text.now).cells }
-    ensures { Repairs (repair_all end (start_row text.now ∷ [])) cells.new result }
+    ensures few { IfOk result (λ repaired. repaired ≤ 1) }
+    ensures is { Repairs (repair_all end (start_row text.now ∷ [])) cells.new result }
 {
     match repair_rows(cells, 1, states(text), scale) {
         Ok(repaired) => Ok(repaired),
