@@ -1,10 +1,12 @@
 //! Reading of model files.
 #![tactic(auto)]
 
+mod build;
 mod fault;
 mod lists;
 mod place;
 mod repaired;
 
+pub use build::ReadModel;
 pub use dp_meaning::Why;
 pub use fault::ModelFault;

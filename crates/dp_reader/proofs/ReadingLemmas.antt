@@ -1,0 +1,73 @@
+-- What a text means, from its rows.
+use Rattle.std.proofs.Common.{◌≡◌, ℕ, ◌+◌, List, [], ◌∷◌, ◌++◌, length, map, refl, sym, ap, ◌∙◌, append_assoc}
+use Rattle.std.specs.Prelude.{None, Result, Ok, Err}
+use Rattle.dp_spec.specs.Model.{IsModel}
+use Rattle.dp_model.specs.Names.{AreNames}
+use Rattle.dp_model.specs.Tables.{AreNamesOf}
+use Rattle.dp_meaning.specs.declared.text.Text.{Text}
+use Rattle.dp_meaning.specs.declared.why.Fault.{Fault}
+use Rattle.dp_meaning.specs.Limits.{passed_limit}
+use Rattle.dp_meaning.specs.Meaning as meaning
+use Rattle.dp_meaning.specs.Meaning.{text_of, table_model, names_given, model_of, meaning, Means}
+use Rattle.dp_meaning.specs.Rows as rows
+use Rattle.dp_meaning.specs.Rows.{repair_all, start_row, trans_rows, obs_rows}
+use Rattle.dp_meaning.proofs.ModelLaws.{model_is, names_are}
+use Rattle.dp_text.specs.declared.fault.TextFault.{TextFault}
+use Rattle.dp_text.specs.declared.fault.TextFault.TheVariants.{At, Memory}
+use Rattle.dp_reader.specs.declared.build.Rows.{Rows}
+use Rattle.dp_reader.specs.Repaired.{AreRepaired, ReadsRows, AreAllRows, ReadsAllRows}
+
+-- ---- the first rows that cannot be repaired
+
+pub start_stops : (end : ℕ) (text : Text) (e : TextFault) → ReadsRows (repair_all end (start_row text ∷ [])) (Err e)
+    → ReadsAllRows end text (Err e)
+unfolding model_of
+start_stops end text (At f) h = rw h refl
+start_stops end text Memory h = tt
+
+pub trans_stops : (end : ℕ) (text : Text) (x : rows.Repaired) (e : TextFault) → repair_all end (start_row text ∷ []) ≡ Ok x
+    → ReadsRows (repair_all end (trans_rows text)) (Err e) → ReadsAllRows end text (Err e)
+unfolding model_of
+trans_stops end text x (At f) g h = rw g (rw h refl)
+trans_stops end text x Memory g h = tt
+
+pub obs_stops : (end : ℕ) (text : Text) (x y : rows.Repaired) (e : TextFault) → repair_all end (start_row text ∷ []) ≡ Ok x
+    → repair_all end (trans_rows text) ≡ Ok y → ReadsRows (repair_all end (obs_rows text)) (Err e) → ReadsAllRows end text (Err e)
+unfolding model_of
+obs_stops end text x y (At f) g h k = rw g (rw h (rw k refl))
+obs_stops end text x y Memory g h k = tt
+
+-- ---- the model of all rows
+
+-- what the rows give
+abbrev pub built : Text → Rows → meaning.ReadModel
+built text rows = record {
+  model = record {
+    model = table_model text rows.start.cells.items rows.transitions.cells.items rows.observations.cells.items;
+    names = names_given text.header;
+  };
+  repaired = rows.start.count + rows.transitions.count + rows.observations.count;
+}
+
+pub all_rows_are : (end : ℕ) (text : Text) (rows : Rows) → AreAllRows end text rows → model_of end text ≡ Ok (built text rows)
+unfolding model_of
+all_rows_are end text rows are = rw are.first.is (rw are.trans.is (rw are.obs.is refl))
+
+pub means_built : (bytes : List ℕ) (text : Text) (r : meaning.ReadModel) → text_of bytes ≡ Ok text → passed_limit text ≡ None
+    → model_of (length bytes) text ≡ Ok r → meaning bytes ≡ Means r
+unfolding meaning
+means_built bytes text r says within is = rw says (rw within (rw is refl))
+
+-- what a model can be built from
+pub record CanBuild (text : Text) (rows : Rows) : Type 0 where
+  pub names : AreNames (names_given text.header)
+  pub model : IsModel (table_model text rows.start.cells.items rows.transitions.cells.items rows.observations.cells.items)
+  pub named : AreNamesOf (table_model text rows.start.cells.items rows.transitions.cells.items rows.observations.cells.items)
+      (names_given text.header)
+
+pub can_build : (bytes : List ℕ) (text : Text) (rows : Rows) → text_of bytes ≡ Ok text → passed_limit text ≡ None
+    → AreAllRows (length bytes) text rows → CanBuild text rows
+can_build bytes text rows says within are =
+    let means = means_built bytes text (built text rows) says within (all_rows_are (length bytes) text rows are) in
+    let is = model_is bytes (built text rows) means in
+    record { names = names_are bytes (built text rows) means; model = is.model; named = is.names }
