@@ -3,7 +3,7 @@ use Rattle.std.proofs.Common.{◌≡◌, ℕ, ◌+◌, List, [], ◌∷◌, ◌+
 use Rattle.std.specs.Prelude.{None, Result, Ok, Err}
 use Rattle.dp_spec.specs.Model.{IsModel}
 use Rattle.dp_model.specs.Names.{AreNames}
-use Rattle.dp_model.specs.Tables.{AreNamesOf}
+use Rattle.dp_model.specs.Tables.{AreNamesOf, NamedModel}
 use Rattle.dp_meaning.specs.declared.text.Text.{Text}
 use Rattle.dp_meaning.specs.declared.why.Fault.{Fault}
 use Rattle.dp_meaning.specs.Limits.{passed_limit}
@@ -71,3 +71,9 @@ can_build bytes text rows says within are =
     let means = means_built bytes text (built text rows) says within (all_rows_are (length bytes) text rows are) in
     let is = model_is bytes (built text rows) means in
     record { names = names_are bytes (built text rows) means; model = is.model; named = is.names }
+
+pub rows_built : (end : ℕ) (text : Text) (rows : Rows) (model : NamedModel) → AreAllRows end text rows → model ≡ (built text rows).model
+    → model_of end text ≡ Ok (record { model = model; repaired = (built text rows).repaired })
+rows_built end text rows model are e =
+    let with_model : NamedModel → Result meaning.ReadModel Fault = λ m. Ok (record { model = m; repaired = (built text rows).repaired }) in
+    all_rows_are end text rows are ∙ ap with_model (sym e)
