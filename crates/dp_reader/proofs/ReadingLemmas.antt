@@ -1,6 +1,6 @@
 -- What a text means, from its rows.
-use Rattle.std.proofs.Common.{◌≡◌, ℕ, ◌+◌, List, [], ◌∷◌, ◌++◌, length, map, refl, sym, ap, ◌∙◌, append_assoc}
-use Rattle.std.specs.Prelude.{None, Result, Ok, Err}
+use Rattle.std.proofs.Common.{◌≡◌, ℕ, ◌+◌, List, [], ◌∷◌, ◌++◌, length, map, refl, sym, ap, subst, ◌∙◌}
+use Rattle.std.specs.Prelude.{Some, None, Result, Ok, Err}
 use Rattle.dp_spec.specs.Model.{IsModel}
 use Rattle.dp_model.specs.Names.{AreNames}
 use Rattle.dp_model.specs.Tables.{AreNamesOf, NamedModel}
@@ -8,13 +8,18 @@ use Rattle.dp_meaning.specs.declared.text.Text.{Text}
 use Rattle.dp_meaning.specs.declared.why.Fault.{Fault}
 use Rattle.dp_meaning.specs.Limits.{passed_limit}
 use Rattle.dp_meaning.specs.Meaning as meaning
-use Rattle.dp_meaning.specs.Meaning.{text_of, table_model, names_given, model_of, meaning, Means}
+use Rattle.dp_meaning.specs.Meaning.{text_of, table_model, names_given, model_of, Meaning, meaning, Means, Passes}
 use Rattle.dp_meaning.specs.Rows as rows
 use Rattle.dp_meaning.specs.Rows.{repair_all, start_row, trans_rows, obs_rows}
 use Rattle.dp_meaning.proofs.ModelLaws.{model_is, names_are}
 use Rattle.dp_text.specs.declared.fault.TextFault.{TextFault}
 use Rattle.dp_text.specs.declared.fault.TextFault.TheVariants.{At, Memory}
+use Rattle.dp_model.specs.declared.limit.TooLarge.{TooLarge}
+use Rattle.dp_text.specs.Reading.{Reads}
 use Rattle.dp_reader.specs.declared.build.Rows.{Rows}
+use Rattle.dp_reader.specs.declared.build.ReadModel.{ReadModel}
+use Rattle.dp_reader.specs.declared.fault.ModelFault.{ModelFault}
+use Rattle.dp_reader.specs.Reading.{ReadsModel, IsMeaning, told}
 use Rattle.dp_reader.specs.Repaired.{AreRepaired, ReadsRows, AreAllRows, ReadsAllRows}
 
 -- ---- the first rows that cannot be repaired
@@ -77,3 +82,32 @@ pub rows_built : (end : ℕ) (text : Text) (rows : Rows) (model : NamedModel) �
 rows_built end text rows model are e =
     let with_model : NamedModel → Result meaning.ReadModel Fault = λ m. Ok (record { model = m; repaired = (built text rows).repaired }) in
     all_rows_are end text rows are ∙ ap with_model (sym e)
+
+-- ---- the answer
+
+-- a fault of the text is what the file means
+pub text_fault : (bytes : List ℕ) (fault : TextFault) → Reads (text_of bytes) (Err fault) → IsMeaning (meaning bytes) (Err (told bytes fault))
+unfolding meaning
+text_fault bytes (At f) h = rw h refl
+text_fault bytes Memory h = tt
+
+-- the first limit that is passed
+pub text_passes : (bytes : List ℕ) (text : Text) (passed : TooLarge) → text_of bytes ≡ Ok text → passed_limit text ≡ Some passed
+    → meaning bytes ≡ Passes passed
+unfolding meaning
+text_passes bytes text passed says is = rw says (rw is refl)
+
+-- the model, or the fault of a row
+pub text_means : (bytes : List ℕ) (text : Text) (r : ReadModel) → text_of bytes ≡ Ok text → passed_limit text ≡ None
+    → ReadsModel (model_of (length bytes) text) (Ok r) → IsMeaning (meaning bytes) (Ok r)
+text_means bytes text r says within is = means_built bytes text _ says within is
+
+pub row_fault : (bytes : List ℕ) (text : Text) (fault : TextFault) → text_of bytes ≡ Ok text → passed_limit text ≡ None
+    → ReadsModel (model_of (length bytes) text) (Err fault) → IsMeaning (meaning bytes) (Err (told bytes fault))
+unfolding meaning
+row_fault bytes text (At f) says within h = rw says (rw within (rw h refl))
+row_fault bytes text Memory says within h = tt
+
+pub told_same : (bytes : List ℕ) (meant : Meaning) (fault : TextFault) (answer : ModelFault) → answer ≡ told bytes fault
+    → IsMeaning meant (Err (told bytes fault)) → IsMeaning meant (Err answer)
+told_same bytes meant fault answer e is = subst (λ f. IsMeaning meant (Err f)) (sym e) is

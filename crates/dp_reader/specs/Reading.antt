@@ -1,5 +1,6 @@
 -- What reading a model file answers.
-use Rattle.std.specs.Prelude.{◌≡◌, Result, Ok, Err}
+use Rattle.std.specs.Prelude.{◌≡◌, ℕ, List, Result, Ok, Err}
+use Rattle.dp_lexer.specs.Bytes.{line_at, column_at}
 use Rattle.dp_meaning.specs.declared.why.Fault.{Fault}
 use Rattle.dp_meaning.specs.Meaning as meaning
 use Rattle.dp_meaning.specs.Meaning.{Meaning, Means, FaultAt, Passes}
@@ -25,3 +26,8 @@ IsMeaning meant (Ok r) = meant ≡ Means (meant_model r)
 IsMeaning meant (Err (At line column why)) = meant ≡ FaultAt (record { line = line; column = column }) why
 IsMeaning meant (Err (TooLarge passed)) = meant ≡ Passes passed
 IsMeaning meant (Err Memory) = Unit {0}
+
+-- the fault of a text with its place
+abbrev pub told : List ℕ → TextFault → ModelFault
+told bytes (text.At fault) = At (line_at bytes fault.at) (column_at bytes fault.at) fault.why
+told bytes text.Memory = Memory
