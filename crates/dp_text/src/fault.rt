@@ -1,4 +1,6 @@
 //! Why a text was not read.
+ghost use Rattle.std.specs.Prelude.{◌≡◌};
+
 use dp_lexer::LexFault;
 use dp_meaning::{Fault, Why};
 use dp_num::Memory;
@@ -11,6 +13,13 @@ pub enum TextFault {
     At(Fault),
     /// Memory ran out.
     Memory,
+}
+
+/// What is wrong at an offset.
+pub(crate) fn fault(why: Why, at: u32) -> Fault
+    ensures { result ≡ record { at = at; why = why } }
+{
+    Fault { at, why }
 }
 
 impl From<Fault> for TextFault {

@@ -1,0 +1,104 @@
+-- One list for each agent, read line by line.
+use Rattle.std.proofs.Common.{◌≡◌, ℕ, zero, suc, ◌+◌, ◌-◌, ◌<◌, ◌≤◌, List, [], ◌∷◌, ◌++◌, drop, Some, None, Result, Ok, Err, refl, ap, ◌∙◌, sym, subst, add-one, arith}
+use Rattle.std.specs.Prelude.{slice_get}
+use Rattle.dp_meaning.specs.declared.given_list.GivenList.{GivenList}
+use Rattle.dp_meaning.specs.declared.why.Fault.{Fault}
+use Rattle.dp_meaning.specs.declared.why.Why.TheVariants.{Expected}
+use Rattle.dp_meaning.specs.Faults.{◌>>=◌, fault}
+use Rattle.dp_meaning.specs.Items.{Piece}
+use Rattle.dp_meaning.specs.NameLists.{name_list, name_lists}
+use Rattle.dp_meaning.specs.Numbers.{ended}
+use Rattle.dp_text.specs.Reading.{Reads}
+use Rattle.dp_text.specs.declared.fault.TextFault.{TextFault}
+use Rattle.dp_text.specs.declared.fault.TextFault.TheVariants.{At, Memory}
+use Rattle.dp_text.proofs.Continuing.{Continues, behind, continues_one, continues_none}
+use Rattle.dp_text.proofs.NameListLemmas.{drop_at}
+use Rattle.dp_text.proofs.NumberLemmas.{ends, ended_ok, ended_fault}
+
+drop_past : {X : Type 0} (i : ℕ) (xs : List X) → None ≡ slice_get xs i → drop i xs ≡ []
+drop_past zero [] h = refl
+drop_past zero (y ∷ ys) h = cc
+drop_past (suc i) [] h = refl
+drop_past (suc i) (y ∷ ys) h = drop_past i ys h
+
+module _ (next : ℕ) where
+  -- what stands for the agents from the i-th on
+  abbrev pub from_agent : ℕ → ℕ → List (List Piece) → Result (List GivenList) Fault
+  from_agent agents i lines = name_lists next (agents - i) (drop i lines)
+
+  first_line : (n : ℕ) (line : List Piece) (lines : List (List Piece))
+      → name_lists next (suc n) (line ∷ lines) ≡ (name_list next line >>= λ first. name_lists next n lines >>= λ others. Ok (first ∷ others))
+  unfolding name_lists
+  first_line n line lines = refl
+
+  left : (agents i : ℕ) → i < agents → agents - i ≡ suc (agents - (i + 1))
+  left agents i h = omega arith
+
+  -- the line of agent i, and those of the agents behind it
+  at_agent : (agents i : ℕ) (lines : List (List Piece)) (line : List Piece) → i < agents → Some line ≡ slice_get lines i
+      → from_agent agents i lines ≡ (name_list next line >>= λ first. from_agent agents (i + 1) lines >>= λ others. Ok (first ∷ others))
+  at_agent agents i lines line some is =
+      rw (left agents i some, drop_at i lines line is, first_line, add-one) refl
+
+  pub line_one : (all : Result (List GivenList) Fault) (lists : List GivenList) (agents i : ℕ) (lines : List (List Piece)) (line : List Piece) (list : GivenList)
+      → i < agents → Some line ≡ slice_get lines i → name_list next line ≡ Ok list → Continues all lists (from_agent agents i lines)
+      → Continues all (lists ++ list ∷ []) (from_agent agents (i + 1) lines)
+  line_one all lists agents i lines line list some is read h =
+      let steps : from_agent agents i lines ≡ (from_agent agents (i + 1) lines >>= λ others. Ok (list ∷ others)) =
+      at_agent agents i lines line some is ∙ ap (λ (x : Result GivenList Fault). x >>= λ first. from_agent agents (i + 1) lines >>= λ others. Ok (first ∷ others)) read in
+      continues_one all lists list (from_agent agents (i + 1) lines) (subst (λ (x : Result (List GivenList) Fault). Continues all lists x) steps h)
+
+  wrong_behind : (lists : List GivenList) (meant : Result GivenList Fault) (more : GivenList → Result (List GivenList) Fault) (wrong : TextFault)
+      → Reads meant (Err wrong) → Reads (behind lists (meant >>= more)) (Err wrong)
+  wrong_behind lists meant more (At e) h = rw h refl
+  wrong_behind lists meant more Memory h = tt
+
+  pub line_wrong : (all : Result (List GivenList) Fault) (lists : List GivenList) (agents i : ℕ) (lines : List (List Piece)) (line : List Piece) (wrong : TextFault)
+      → i < agents → Some line ≡ slice_get lines i → Reads (name_list next line) (Err wrong) → Continues all lists (from_agent agents i lines)
+      → Reads all (Err wrong)
+  line_wrong all lists agents i lines line wrong some is read h =
+      let steps = h.is ∙ ap (behind lists) (at_agent agents i lines line some is) in
+      subst (λ (x : Result (List GivenList) Fault). Reads x (Err wrong)) (sym steps)
+      (wrong_behind lists (name_list next line) (λ first. from_agent agents (i + 1) lines >>= λ others. Ok (first ∷ others)) wrong read)
+
+  missing : (n : ℕ) → name_lists next (suc n) [] ≡ fault Expected next
+  unfolding name_lists
+  missing n = refl
+
+  pub line_missing : (all : Result (List GivenList) Fault) (lists : List GivenList) (agents i : ℕ) (lines : List (List Piece))
+      → i < agents → None ≡ slice_get lines i → Continues all lists (from_agent agents i lines) → all ≡ fault Expected next
+  line_missing all lists agents i lines some is h =
+      let steps : from_agent agents i lines ≡ fault Expected next = rw (left agents i some, drop_past i lines is) (missing (agents - (i + 1))) in
+      h.is ∙ ap (behind lists) steps
+
+  none_left : (agents i : ℕ) → agents ≤ i → agents - i ≡ 0
+  none_left agents i h = omega arith
+
+  all_lines : name_lists next 0 [] ≡ Ok []
+  unfolding name_lists
+  all_lines = refl
+
+  too_many : (line : List Piece) (lines : List (List Piece)) → name_lists next 0 (line ∷ lines) ≡ ended [] line
+  unfolding name_lists
+  too_many line lines = refl
+
+  pub lines_end : (all : Result (List GivenList) Fault) (lists : List GivenList) (agents i : ℕ) (lines : List (List Piece))
+      → agents ≤ i → None ≡ slice_get lines i → Continues all lists (from_agent agents i lines) → all ≡ Ok lists
+  lines_end all lists agents i lines none is h =
+      let steps : from_agent agents i lines ≡ Ok [] = rw (none_left agents i none, drop_past i lines is) all_lines in
+      continues_none all lists (subst (λ (x : Result (List GivenList) Fault). Continues all lists x) steps h)
+
+  one_beyond : (agents i : ℕ) (lines : List (List Piece)) (line : List Piece) → agents ≤ i → Some line ≡ slice_get lines i → from_agent agents i lines ≡ ended [] line
+  one_beyond agents i lines line none is = rw (none_left agents i none, drop_at i lines line is) (too_many line (drop (suc i) lines))
+
+  pub empty_line : (all : Result (List GivenList) Fault) (lists : List GivenList) (agents i : ℕ) (lines : List (List Piece)) (line : List Piece)
+      → agents ≤ i → Some line ≡ slice_get lines i → ends line ≡ Ok tt → Continues all lists (from_agent agents i lines) → all ≡ Ok lists
+  empty_line all lists agents i lines line none is at_end h =
+      let steps : from_agent agents i lines ≡ Ok [] = one_beyond agents i lines line none is ∙ ended_ok {A = List GivenList} [] line at_end in
+      continues_none all lists (subst (λ (x : Result (List GivenList) Fault). Continues all lists x) steps h)
+
+  pub line_beyond : (all : Result (List GivenList) Fault) (lists : List GivenList) (agents i : ℕ) (lines : List (List Piece)) (line : List Piece) (e : Fault)
+      → agents ≤ i → Some line ≡ slice_get lines i → ends line ≡ Err e → Continues all lists (from_agent agents i lines) → all ≡ Err e
+  line_beyond all lists agents i lines line e none is goes_on h =
+      let steps : from_agent agents i lines ≡ Err e = one_beyond agents i lines line none is ∙ ended_fault {A = List GivenList} [] line e goes_on in
+      h.is ∙ ap (behind lists) steps

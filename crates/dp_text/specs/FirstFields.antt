@@ -1,0 +1,19 @@
+-- The first field of a line.
+use Rattle.std.specs.Prelude.{◌≡◌, ℕ, Bool, false, not, List, ◌∷◌, Option, Some, None, slice_get}
+use Rattle.dp_meaning.specs.Items.{Piece, is_colon}
+use Rattle.dp_meaning.specs.Fields.{Field, Fields, fields_of}
+
+abbrev pub is_no_colon : Piece → Bool
+is_no_colon piece = not (is_colon piece.kind)
+
+abbrev pub is_colon_of : Option Piece → Bool
+is_colon_of (Some piece) = is_colon piece.kind
+is_colon_of None = false
+
+-- a Colon stands at this place
+abbrev pub is_colon_in : List Piece → ℕ → Bool
+is_colon_in line place = is_colon_of (slice_get line place)
+
+-- one more field in front
+abbrev pub with_field : Field → Fields → Fields
+with_field field others = record others { fields = field ∷ others.fields }
