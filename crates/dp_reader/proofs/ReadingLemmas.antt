@@ -1,6 +1,6 @@
 -- What a text means, from its rows.
 use Rattle.std.proofs.Common.{◌≡◌, ℕ, ◌+◌, List, [], ◌∷◌, ◌++◌, length, map, refl, sym, ap, subst, ◌∙◌}
-use Rattle.std.specs.Prelude.{Some, None, Result, Ok, Err}
+use Rattle.std.specs.Prelude.{Some, None, Result, Ok, Err, IfOk}
 use Rattle.dp_spec.specs.Model.{IsModel}
 use Rattle.dp_model.specs.Names.{AreNames}
 use Rattle.dp_model.specs.Tables.{AreNamesOf, NamedModel}
@@ -8,7 +8,7 @@ use Rattle.dp_meaning.specs.declared.text.Text.{Text}
 use Rattle.dp_meaning.specs.declared.why.Fault.{Fault}
 use Rattle.dp_meaning.specs.Limits.{passed_limit}
 use Rattle.dp_meaning.specs.Meaning as meaning
-use Rattle.dp_meaning.specs.Meaning.{text_of, table_model, names_given, model_of, Meaning, meaning, Means, Passes}
+use Rattle.dp_meaning.specs.Meaning.{text_of, table_model, names_given, model_of, Meaning, meaning, Means, FaultAt, Passes}
 use Rattle.dp_meaning.specs.Rows as rows
 use Rattle.dp_meaning.specs.Rows.{repair_all, start_row, trans_rows, obs_rows}
 use Rattle.dp_meaning.proofs.ModelLaws.{model_is, names_are}
@@ -19,7 +19,9 @@ use Rattle.dp_text.specs.Reading.{Reads}
 use Rattle.dp_reader.specs.declared.build.Rows.{Rows}
 use Rattle.dp_reader.specs.declared.build.ReadModel.{ReadModel}
 use Rattle.dp_reader.specs.declared.fault.ModelFault.{ModelFault}
-use Rattle.dp_reader.specs.Reading.{ReadsModel, IsMeaning, told}
+use Rattle.dp_reader.specs.declared.fault.ModelFault.TheVariants as faults
+use Rattle.dp_meaning.specs.declared.why.Why.{Why}
+use Rattle.dp_reader.specs.Reading.{meant_model, ReadsModel, IsMeaning, told}
 use Rattle.dp_reader.specs.Repaired.{AreRepaired, ReadsRows, AreAllRows, ReadsAllRows}
 
 -- ---- the first rows that cannot be repaired
@@ -111,3 +113,17 @@ row_fault bytes text Memory says within h = tt
 pub told_same : (bytes : List ℕ) (meant : Meaning) (fault : TextFault) (answer : ModelFault) → answer ≡ told bytes fault
     → IsMeaning meant (Err (told bytes fault)) → IsMeaning meant (Err answer)
 told_same bytes meant fault answer e is = subst (λ f. IsMeaning meant (Err f)) (sym e) is
+
+-- ---- each answer by itself
+
+pub model_is_meant : (meant : Meaning) (r : Result ReadModel ModelFault) → IsMeaning meant r → IfOk r (λ x. meant ≡ Means (meant_model x))
+model_is_meant meant (Ok x) is = is
+model_is_meant meant (Err f) is = tt
+
+pub fault_is_meant : (meant : Meaning) (r : Result ReadModel ModelFault) → IsMeaning meant r → (line column : ℕ) (why : Why)
+    → r ≡ Err (faults.At line column why) → meant ≡ FaultAt (record { line = line; column = column }) why
+fault_is_meant meant r is line column why e = subst (IsMeaning meant) e is
+
+pub limit_is_meant : (meant : Meaning) (r : Result ReadModel ModelFault) → IsMeaning meant r → (passed : TooLarge)
+    → r ≡ Err (faults.TooLarge passed) → meant ≡ Passes passed
+limit_is_meant meant r is passed e = subst (IsMeaning meant) e is
