@@ -30,4 +30,11 @@ impl<T: Drop> Items<T> {
     {
         self.items.as_slice()
     }
+
+    /// The items themselves, in their order.
+    pub fn into_vec(self) -> Vec<T>
+        ensures { result.items ≡ self }
+    {
+        self.items
+    }
 }

@@ -11,4 +11,5 @@ pub mod FlatCells
 pub mod ChanceLemmas
 pub mod CellTables
 pub mod ChanceTables
+pub mod StartLemmas
 pub mod RewardTables

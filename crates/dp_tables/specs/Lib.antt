@@ -6,3 +6,4 @@ pub mod Rows
 pub mod Blocks
 pub mod Tables
 pub mod Writing
+pub mod Start

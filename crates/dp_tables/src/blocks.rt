@@ -72,7 +72,7 @@ fn chances_over(alloc: Global, scale: u64, chances: &[Decimal]) -> Result<Vec<u6
 }
 
 /// A chance over the scale.
-fn chance_over(scale: u64, chance: Decimal) -> u64
+pub(crate) fn chance_over(scale: u64, chance: Decimal) -> u64
     requires { is_chance chance ≡ true }
     ensures { result ≡ spec.chance_over scale chance }
 {

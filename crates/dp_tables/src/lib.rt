@@ -12,6 +12,7 @@ mod reward_table;
 mod rows;
 mod scales;
 mod sizes;
+mod start;
 mod statements;
 mod writing;
 
@@ -20,3 +21,4 @@ pub use limits::scales_within_limits;
 pub use reward_table::rewards;
 pub use rows::{repair_observations, repair_transitions};
 pub use sizes::{joint_actions, joint_observations, states};
+pub use start::{repair_start, start_chances};

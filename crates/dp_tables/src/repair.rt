@@ -1,5 +1,5 @@
 //! The repair of rows of chances.
-ghost use Rattle.std.specs.Prelude.{◌≡◌, ◌≢◌, ◌<◌, ◌≤◌, ◌*◌, ◌^◌, IfErr, IfSome, IsTrue, length, sum};
+ghost use Rattle.std.specs.Prelude.{◌≡◌, ◌≢◌, ◌<◌, ◌≤◌, ◌*◌, ◌^◌, IfErr, IfOk, IfSome, IsTrue, length, sum};
 ghost use Rattle.dp_meaning.specs.Rows.{greatest_cell, greatest_place, is_near, repaired_cells};
 ghost use Rattle.dp_tables.specs.Repair.{RepairsRow, RepairsRows};
 
@@ -80,6 +80,7 @@ pub(crate) fn repair_rows(cells: &mut [u64], rows: u32, len: u32, scale: u64) ->
     requires rows { rows ≤ 2 ^ 16 }
     requires short { len ≤ 256 }
     requires scale { 0 < scale }
+    ensures few { IfOk result (λ repaired. repaired ≤ rows) }
     ensures row { IfErr result (λ row. row < rows) }
     ensures is { RepairsRows scale rows len cells.old cells.new result }
 {

@@ -1,5 +1,5 @@
 //! The rows of a table of chances, and what is wrong with them.
-ghost use Rattle.std.specs.Prelude.{◌≡◌, ◌*◌, ◌<◌, ◌≤◌, ◌∷◌, [], None, length};
+ghost use Rattle.std.specs.Prelude.{◌≡◌, ◌*◌, ◌<◌, ◌≤◌, ◌∷◌, [], None, length, IfOk, ◌^◌};
 ghost use Rattle.dp_spec.specs.JointNumbers.{parts_of};
 ghost use Rattle.dp_meaning.specs.Cells.{statements_for};
 ghost use Rattle.dp_meaning.specs.Limits.{passed_limit};
@@ -57,7 +57,8 @@ fn repair_table(
     requires len { len ≤ 256 }
     requires scale { 0 < scale }
     requires given { cells.old ≡ given_cells text.now table scale len }
-    ensures { Repairs (repair_all end (table_rows text.now table scale len)) cells.new result }
+    ensures few { IfOk result (λ repaired. repaired ≤ 2 ^ 16) }
+    ensures is { Repairs (repair_all end (table_rows text.now table scale len)) cells.new result }
 {
     let rows = joint_actions(text) * states(text);
     match repair_rows(cells, rows, len, scale) {
@@ -78,7 +79,8 @@ pub fn repair_transitions(
     requires within { passed_limit text.now ≡ None }
     requires scale { scale ≡ (scales_of text.now).trans }
     requires given { cells.old ≡ given_cells text.now Table.Trans scale (states_in text.now) }
-    ensures { Repairs (repair_all end (trans_rows text.now)) cells.new result }
+    ensures few { IfOk result (λ repaired. repaired ≤ 2 ^ 16) }
+    ensures is { Repairs (repair_all end (trans_rows text.now)) cells.new result }
 {
     repair_table(cells, text, Table::Trans, states(text), scale, end)
 }
@@ -94,7 +96,8 @@ pub fn repair_observations(
     requires within { passed_limit text.now ≡ None }
     requires scale { scale ≡ (scales_of text.now).obs }
     requires given { cells.old ≡ given_cells text.now Table.Obs scale (joint_observations_in text.now) }
-    ensures { Repairs (repair_all end (obs_rows text.now)) cells.new result }
+    ensures few { IfOk result (λ repaired. repaired ≤ 2 ^ 16) }
+    ensures is { Repairs (repair_all end (obs_rows text.now)) cells.new result }
 {
     repair_table(
         cells,

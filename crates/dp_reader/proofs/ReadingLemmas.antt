@@ -1,0 +1,129 @@
+-- What a text means, from its rows.
+use Rattle.std.proofs.Common.{◌≡◌, ℕ, ◌+◌, List, [], ◌∷◌, ◌++◌, length, map, refl, sym, ap, subst, ◌∙◌}
+use Rattle.std.specs.Prelude.{Some, None, Result, Ok, Err, IfOk}
+use Rattle.dp_spec.specs.Model.{IsModel}
+use Rattle.dp_model.specs.Names.{AreNames}
+use Rattle.dp_model.specs.Tables.{AreNamesOf, NamedModel}
+use Rattle.dp_meaning.specs.declared.text.Text.{Text}
+use Rattle.dp_meaning.specs.declared.why.Fault.{Fault}
+use Rattle.dp_meaning.specs.Limits.{passed_limit}
+use Rattle.dp_meaning.specs.Meaning as meaning
+use Rattle.dp_meaning.specs.Meaning.{text_of, table_model, names_given, model_of, Meaning, meaning, Means, FaultAt, Passes}
+use Rattle.dp_meaning.specs.Rows as rows
+use Rattle.dp_meaning.specs.Rows.{repair_all, start_row, trans_rows, obs_rows}
+use Rattle.dp_meaning.proofs.ModelLaws.{model_is, names_are}
+use Rattle.dp_text.specs.declared.fault.TextFault.{TextFault}
+use Rattle.dp_text.specs.declared.fault.TextFault.TheVariants.{At, Memory}
+use Rattle.dp_model.specs.declared.limit.TooLarge.{TooLarge}
+use Rattle.dp_text.specs.Reading.{Reads}
+use Rattle.dp_reader.specs.declared.build.Rows.{Rows}
+use Rattle.dp_reader.specs.declared.build.ReadModel.{ReadModel}
+use Rattle.dp_reader.specs.declared.fault.ModelFault.{ModelFault}
+use Rattle.dp_reader.specs.declared.fault.ModelFault.TheVariants as faults
+use Rattle.dp_meaning.specs.declared.why.Why.{Why}
+use Rattle.dp_reader.specs.Reading.{meant_model, ReadsModel, IsMeaning, told}
+use Rattle.dp_reader.specs.Repaired.{AreRepaired, ReadsRows, AreAllRows, ReadsAllRows}
+
+-- ---- the first rows that cannot be repaired
+
+pub start_stops : (end : ℕ) (text : Text) (e : TextFault) → ReadsRows (repair_all end (start_row text ∷ [])) (Err e)
+    → ReadsAllRows end text (Err e)
+unfolding model_of
+start_stops end text (At f) h = rw h refl
+start_stops end text Memory h = tt
+
+pub trans_stops : (end : ℕ) (text : Text) (x : rows.Repaired) (e : TextFault) → repair_all end (start_row text ∷ []) ≡ Ok x
+    → ReadsRows (repair_all end (trans_rows text)) (Err e) → ReadsAllRows end text (Err e)
+unfolding model_of
+trans_stops end text x (At f) g h = rw g (rw h refl)
+trans_stops end text x Memory g h = tt
+
+pub obs_stops : (end : ℕ) (text : Text) (x y : rows.Repaired) (e : TextFault) → repair_all end (start_row text ∷ []) ≡ Ok x
+    → repair_all end (trans_rows text) ≡ Ok y → ReadsRows (repair_all end (obs_rows text)) (Err e) → ReadsAllRows end text (Err e)
+unfolding model_of
+obs_stops end text x y (At f) g h k = rw g (rw h (rw k refl))
+obs_stops end text x y Memory g h k = tt
+
+-- ---- the model of all rows
+
+-- what the rows give
+abbrev pub built : Text → Rows → meaning.ReadModel
+built text rows = record {
+  model = record {
+    model = table_model text rows.start.cells.items rows.transitions.cells.items rows.observations.cells.items;
+    names = names_given text.header;
+  };
+  repaired = rows.start.count + rows.transitions.count + rows.observations.count;
+}
+
+pub all_rows_are : (end : ℕ) (text : Text) (rows : Rows) → AreAllRows end text rows → model_of end text ≡ Ok (built text rows)
+unfolding model_of
+all_rows_are end text rows are = rw are.first.is (rw are.trans.is (rw are.obs.is refl))
+
+pub means_built : (bytes : List ℕ) (text : Text) (r : meaning.ReadModel) → text_of bytes ≡ Ok text → passed_limit text ≡ None
+    → model_of (length bytes) text ≡ Ok r → meaning bytes ≡ Means r
+unfolding meaning
+means_built bytes text r says within is = rw says (rw within (rw is refl))
+
+-- what a model can be built from
+pub record CanBuild (text : Text) (rows : Rows) : Type 0 where
+  pub names : AreNames (names_given text.header)
+  pub model : IsModel (table_model text rows.start.cells.items rows.transitions.cells.items rows.observations.cells.items)
+  pub named : AreNamesOf (table_model text rows.start.cells.items rows.transitions.cells.items rows.observations.cells.items)
+      (names_given text.header)
+
+pub can_build : (bytes : List ℕ) (text : Text) (rows : Rows) → text_of bytes ≡ Ok text → passed_limit text ≡ None
+    → AreAllRows (length bytes) text rows → CanBuild text rows
+can_build bytes text rows says within are =
+    let means = means_built bytes text (built text rows) says within (all_rows_are (length bytes) text rows are) in
+    let is = model_is bytes (built text rows) means in
+    record { names = names_are bytes (built text rows) means; model = is.model; named = is.names }
+
+pub rows_built : (end : ℕ) (text : Text) (rows : Rows) (model : NamedModel) → AreAllRows end text rows → model ≡ (built text rows).model
+    → model_of end text ≡ Ok (record { model = model; repaired = (built text rows).repaired })
+rows_built end text rows model are e =
+    let with_model : NamedModel → Result meaning.ReadModel Fault = λ m. Ok (record { model = m; repaired = (built text rows).repaired }) in
+    all_rows_are end text rows are ∙ ap with_model (sym e)
+
+-- ---- the answer
+
+-- a fault of the text is what the file means
+pub text_fault : (bytes : List ℕ) (fault : TextFault) → Reads (text_of bytes) (Err fault) → IsMeaning (meaning bytes) (Err (told bytes fault))
+unfolding meaning
+text_fault bytes (At f) h = rw h refl
+text_fault bytes Memory h = tt
+
+-- the first limit that is passed
+pub text_passes : (bytes : List ℕ) (text : Text) (passed : TooLarge) → text_of bytes ≡ Ok text → passed_limit text ≡ Some passed
+    → meaning bytes ≡ Passes passed
+unfolding meaning
+text_passes bytes text passed says is = rw says (rw is refl)
+
+-- the model, or the fault of a row
+pub text_means : (bytes : List ℕ) (text : Text) (r : ReadModel) → text_of bytes ≡ Ok text → passed_limit text ≡ None
+    → ReadsModel (model_of (length bytes) text) (Ok r) → IsMeaning (meaning bytes) (Ok r)
+text_means bytes text r says within is = means_built bytes text _ says within is
+
+pub row_fault : (bytes : List ℕ) (text : Text) (fault : TextFault) → text_of bytes ≡ Ok text → passed_limit text ≡ None
+    → ReadsModel (model_of (length bytes) text) (Err fault) → IsMeaning (meaning bytes) (Err (told bytes fault))
+unfolding meaning
+row_fault bytes text (At f) says within h = rw says (rw within (rw h refl))
+row_fault bytes text Memory says within h = tt
+
+pub told_same : (bytes : List ℕ) (meant : Meaning) (fault : TextFault) (answer : ModelFault) → answer ≡ told bytes fault
+    → IsMeaning meant (Err (told bytes fault)) → IsMeaning meant (Err answer)
+told_same bytes meant fault answer e is = subst (λ f. IsMeaning meant (Err f)) (sym e) is
+
+-- ---- each answer by itself
+
+pub model_is_meant : (meant : Meaning) (r : Result ReadModel ModelFault) → IsMeaning meant r → IfOk r (λ x. meant ≡ Means (meant_model x))
+model_is_meant meant (Ok x) is = is
+model_is_meant meant (Err f) is = tt
+
+pub fault_is_meant : (meant : Meaning) (r : Result ReadModel ModelFault) → IsMeaning meant r → (line column : ℕ) (why : Why)
+    → r ≡ Err (faults.At line column why) → meant ≡ FaultAt (record { line = line; column = column }) why
+fault_is_meant meant r is line column why e = subst (IsMeaning meant) e is
+
+pub limit_is_meant : (meant : Meaning) (r : Result ReadModel ModelFault) → IsMeaning meant r → (passed : TooLarge)
+    → r ≡ Err (faults.TooLarge passed) → meant ≡ Passes passed
+limit_is_meant meant r is passed e = subst (IsMeaning meant) e is

@@ -1,0 +1,33 @@
+-- What reading a model file answers.
+use Rattle.std.specs.Prelude.{◌≡◌, ℕ, List, Result, Ok, Err}
+use Rattle.dp_lexer.specs.Bytes.{line_at, column_at}
+use Rattle.dp_meaning.specs.declared.why.Fault.{Fault}
+use Rattle.dp_meaning.specs.Meaning as meaning
+use Rattle.dp_meaning.specs.Meaning.{Meaning, Means, FaultAt, Passes}
+use Rattle.dp_text.specs.declared.fault.TextFault.{TextFault}
+use Rattle.dp_text.specs.declared.fault.TextFault.TheVariants as text
+use Rattle.dp_reader.specs.declared.build.ReadModel.{ReadModel}
+use Rattle.dp_reader.specs.declared.fault.ModelFault.{ModelFault}
+use Rattle.dp_reader.specs.declared.fault.ModelFault.TheVariants.{At, TooLarge, Memory}
+
+-- the model and the count as the definitions have them
+abbrev pub meant_model : ReadModel → meaning.ReadModel
+meant_model r = record { model = r.model; repaired = r.repaired }
+
+-- the model is what is meant, or the fault is, unless memory ran out
+abbrev pub ReadsModel : Result meaning.ReadModel Fault → Result ReadModel TextFault → Type 0
+ReadsModel meant (Ok r) = meant ≡ Ok (meant_model r)
+ReadsModel meant (Err (text.At fault)) = meant ≡ Err fault
+ReadsModel meant (Err text.Memory) = Unit {0}
+
+-- the answer is what the file means, unless memory ran out
+abbrev pub IsMeaning : Meaning → Result ReadModel ModelFault → Type 0
+IsMeaning meant (Ok r) = meant ≡ Means (meant_model r)
+IsMeaning meant (Err (At line column why)) = meant ≡ FaultAt (record { line = line; column = column }) why
+IsMeaning meant (Err (TooLarge passed)) = meant ≡ Passes passed
+IsMeaning meant (Err Memory) = Unit {0}
+
+-- the fault of a text with its place
+abbrev pub told : List ℕ → TextFault → ModelFault
+told bytes (text.At fault) = At (line_at bytes fault.at) (column_at bytes fault.at) fault.why
+told bytes text.Memory = Memory

@@ -1,0 +1,33 @@
+-- The repaired rows of a text.
+use Rattle.std.specs.Prelude.{◌≡◌, ℕ, ◌≤◌, ◌^◌, List, [], ◌∷◌, Result, Ok, Err}
+use Rattle.dp_meaning.specs.declared.text.Text.{Text}
+use Rattle.dp_meaning.specs.declared.why.Fault.{Fault}
+use Rattle.dp_meaning.specs.Rows as rows
+use Rattle.dp_meaning.specs.Meaning.{model_of}
+use Rattle.dp_text.specs.declared.fault.TextFault.{TextFault}
+use Rattle.dp_text.specs.declared.fault.TextFault.TheVariants.{At, Memory}
+use Rattle.dp_reader.specs.declared.repaired.Repaired.{Repaired}
+use Rattle.dp_reader.specs.declared.build.Rows.{Rows}
+
+-- the cells and the count are what is meant
+pub record AreRepaired (meant : Result rows.Repaired Fault) (read : Repaired) : Type 0 where
+  pub is : meant ≡ Ok (record { cells = read.cells.items; repaired = read.count })
+  pub few : read.count ≤ 2 ^ 16
+
+-- the rows are what is meant, or their fault is, unless memory ran out
+abbrev pub ReadsRows : Result rows.Repaired Fault → Result Repaired TextFault → Type 0
+ReadsRows meant (Ok read) = AreRepaired meant read
+ReadsRows meant (Err (At fault)) = meant ≡ Err fault
+ReadsRows meant (Err Memory) = Unit {0}
+
+-- the rows of the start, the transitions and the observations of a text
+pub record AreAllRows (end : ℕ) (text : Text) (read : Rows) : Type 0 where
+  pub first : AreRepaired (rows.repair_all end (rows.start_row text ∷ [])) read.start
+  pub trans : AreRepaired (rows.repair_all end (rows.trans_rows text)) read.transitions
+  pub obs : AreRepaired (rows.repair_all end (rows.obs_rows text)) read.observations
+
+-- all rows are what is meant, or the text's fault is, unless memory ran out
+abbrev pub ReadsAllRows : ℕ → Text → Result Rows TextFault → Type 0
+ReadsAllRows end text (Ok read) = AreAllRows end text read
+ReadsAllRows end text (Err (At fault)) = model_of end text ≡ Err fault
+ReadsAllRows end text (Err Memory) = Unit {0}

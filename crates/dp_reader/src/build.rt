@@ -1,0 +1,128 @@
+//! The model of a text, from its header and its tables.
+ghost use Rattle.std.specs.Prelude.{◌≡◌, ◌≤◌, ◌^◌, None, Ok, IfOk, length, map};
+ghost use Rattle.dp_spec.specs.Model.{IsModel};
+ghost use Rattle.dp_model.specs.Names.{AreNames};
+ghost use Rattle.dp_model.specs.Tables.{AreNamesOf};
+ghost use Rattle.dp_meaning.specs.Limits.{passed_limit};
+ghost use Rattle.dp_meaning.specs.Meaning.{IsSaid, names_given, rewards_of, table_model, text_of};
+ghost use Rattle.dp_meaning.specs.Meaning as meaning;
+ghost use Rattle.dp_meaning.specs.NameLists.{size_of};
+ghost use Rattle.dp_meaning.specs.Scales.{scales_of};
+ghost use Rattle.dp_meaning.specs.Text.{states_in};
+ghost use Rattle.dp_reader.specs.Repaired.{ReadsAllRows};
+ghost use Rattle.dp_reader.specs.Reading.{ReadsModel};
+
+use crate::lists::{all_names, names_in, sizes};
+use crate::repaired::{Repaired, observations, start, transitions};
+use dp_meaning::{Header, Text};
+use dp_model::{Cells, Items, Model, Names, Sizes};
+use dp_num::{Memory, Scales};
+use dp_tables::{rewards, states};
+use dp_text::TextFault;
+use std::alloc::Global;
+
+/// A model, and how many of the rows of its file were repaired to sum to 1.
+#[derive(Drop)]
+pub struct ReadModel {
+    pub model: Model,
+    pub repaired: u32,
+}
+
+/// The rows of chances of a model.
+#[derive(Drop)]
+pub(crate) struct Rows {
+    pub start: Repaired,
+    pub transitions: Repaired,
+    pub observations: Repaired,
+}
+
+/// The rows of all chances that the text gives, repaired.
+fn all_rows(alloc: Global, text: &Text, scales: Scales, end: u32) -> Result<Rows, TextFault>
+    requires said { IsSaid text.now }
+    requires within { passed_limit text.now ≡ None }
+    requires scales { scales ≡ scales_of text.now }
+    ensures { ReadsAllRows end text.now result }
+{
+    let start = match start(alloc, text, scales.start, end) {
+        Ok(rows) => rows,
+        Err(fault) => return Err(fault),
+    };
+    let transitions = match transitions(alloc, text, scales.trans, end) {
+        Ok(rows) => rows,
+        Err(fault) => return Err(fault),
+    };
+    let observations = match observations(alloc, text, scales.obs, end) {
+        Ok(rows) => rows,
+        Err(fault) => return Err(fault),
+    };
+    Ok(Rows {
+        start,
+        transitions,
+        observations,
+    })
+}
+
+/// How many states there are, and actions and observations of each agent.
+fn sizes_in(alloc: Global, text: &Text) -> Result<Sizes, Memory>
+    requires { passed_limit text.now ≡ None }
+    ensures { IfOk result (λ sizes. sizes ≡ record { states = states_in text.now; actions = map size_of text.now.header.actions; observations = map size_of text.now.header.observations }) }
+{
+    Ok(Sizes {
+        states: states(text),
+        actions: sizes(alloc, text.header.actions.as_slice())?,
+        observations: sizes(alloc, text.header.observations.as_slice())?,
+    })
+}
+
+/// The names that a header gives.
+fn names_of(alloc: Global, header: Header) -> Result<Names, Memory>
+    requires { AreNames (names_given header) }
+    ensures { IfOk result (λ names. names ≡ names_given header) }
+{
+    let agents = names_in(alloc, header.agents);
+    let states = names_in(alloc, header.states);
+    let actions = all_names(alloc, header.actions)?;
+    let observations = all_names(alloc, header.observations)?;
+    Ok(Names::of_lists(agents, states, actions, observations))
+}
+
+/// The model of a text whose rows of chances these are.
+fn build(alloc: Global, text: Text, scales: Scales, rows: Rows) -> Result<Model, Memory>
+    requires said { IsSaid text }
+    requires within { passed_limit text ≡ None }
+    requires scales { scales ≡ scales_of text }
+    requires names { AreNames (names_given text.header) }
+    requires model { IsModel (table_model text rows.start.cells.items rows.transitions.cells.items rows.observations.cells.items) }
+    requires named { AreNamesOf (table_model text rows.start.cells.items rows.transitions.cells.items rows.observations.cells.items) (names_given text.header) }
+    ensures { IfOk result (λ model. model ≡ record { model = table_model text rows.start.cells.items rows.transitions.cells.items rows.observations.cells.items; names = names_given text.header }) }
+{
+    let reward = rewards(alloc, &text, scales.reward)?;
+    let sizes = sizes_in(alloc, &text)?;
+    let names = names_of(alloc, text.header)?;
+    let cells = Cells {
+        start: Items::of(rows.start.cells),
+        trans: Items::of(rows.transitions.cells),
+        obs: Items::of(rows.observations.cells),
+        reward: Items::of(reward),
+    };
+    Ok(Model::build(sizes, names, scales, cells))
+}
+
+/// The model of a text that is within the limits, or the first fault of its rows.
+pub(crate) fn model_of(alloc: Global, bytes: &[u8], text: Text, scales: Scales) -> Result<ReadModel, TextFault>
+    requires short { length bytes.now ≤ 2 ^ 26 }
+    requires says { text_of bytes.now ≡ Ok text }
+    requires within { passed_limit text ≡ None }
+    requires scales { scales ≡ scales_of text }
+    ensures { ReadsModel (meaning.model_of (length bytes.now) text) result }
+{
+    let rows = match all_rows(alloc, &text, scales, bytes.len() as u32) {
+        Ok(rows) => rows,
+        Err(fault) => return Err(fault),
+    };
+    let repaired = rows.start.count + rows.transitions.count + rows.observations.count;
+    match build(alloc, text, scales, rows) {
+        Ok(model) => Ok(ReadModel { model, repaired }),
+        Err(Memory) => Err(TextFault::Memory),
+    }
+}
