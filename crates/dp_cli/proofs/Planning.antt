@@ -9,10 +9,10 @@ use Rattle.dp_model.specs.Limits.{first_passed}
 use Rattle.dp_model.specs.Horizons.{horizon_limits}
 use Rattle.dp_meaning.specs.declared.why.Why.{Why}
 use Rattle.dp_meaning.specs.Meaning.{Meaning, Place, Means, FaultAt, Passes, meaning}
-use Rattle.dp_reader.specs.declared.ReadModel.{ReadModel}
-use Rattle.dp_reader.specs.declared.ModelFault.{ModelFault}
-use Rattle.dp_reader.specs.declared.ModelFault.TheVariants as model_faults
-use Rattle.dp_reader.specs.ReadMeaning.{IsMeaning}
+use Rattle.dp_reader.specs.declared.build.ReadModel.{ReadModel}
+use Rattle.dp_reader.specs.declared.fault.ModelFault.{ModelFault}
+use Rattle.dp_reader.specs.declared.fault.ModelFault.TheVariants as model_faults
+use Rattle.dp_reader.specs.Reading.{IsMeaning}
 use Rattle.dp_cli.specs.declared.refusal.Refusal.{Refusal}
 use Rattle.dp_cli.specs.declared.refusal.Refusal.TheVariants as refusals
 use Rattle.dp_cli.specs.declared.status.Status.{Status}

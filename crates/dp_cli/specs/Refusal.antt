@@ -8,8 +8,8 @@ use Rattle.dp_model.specs.declared.limit.TooLarge.{TooLarge}
 use Rattle.dp_model.specs.Limits.{limit_word}
 use Rattle.dp_meaning.specs.declared.why.Why.{Why}
 use Rattle.dp_meaning.specs.Faults.{why_word}
-use Rattle.dp_reader.specs.declared.ModelFault.{ModelFault}
-use Rattle.dp_reader.specs.declared.ModelFault.TheVariants as model_faults
+use Rattle.dp_reader.specs.declared.fault.ModelFault.{ModelFault}
+use Rattle.dp_reader.specs.declared.fault.ModelFault.TheVariants as model_faults
 use Rattle.dp_words.specs.declared.job.WordFault.{WordFault}
 use Rattle.dp_words.specs.declared.job.WordFault.TheVariants as word_faults
 use Rattle.dp_cli.specs.declared.refusal.FileRole.{FileRole}
