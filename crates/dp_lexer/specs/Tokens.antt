@@ -67,10 +67,9 @@ tokens_from text zero at (b ∷ rest) =
 unfoldable pub tokens_of : List ℕ → Result (List Token) ℕ
 tokens_of text = tokens_from text 0 0 text
 
--- the fault is want of memory, or it names the first bad byte by its offset, and by its line and column
+-- the fault is want of memory, or it names the first bad byte by its offset
 abbrev pub IsFirstBadByte : List ℕ → TokenFault → Type 0
-IsFirstBadByte text (token_faults.BadByte at line column) =
-    (tokens_of text ≡ Err at) × (first_bad text ≡ Some at) × (line ≡ line_at text at) × (column ≡ column_at text at)
+IsFirstBadByte text (token_faults.BadByte at) = (tokens_of text ≡ Err at) × (first_bad text ≡ Some at)
 IsFirstBadByte text token_faults.Memory = Unit {0}
 
 -- the fault is want of memory, or it names the first bad byte by its line and column

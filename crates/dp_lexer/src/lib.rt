@@ -7,9 +7,11 @@ ghost use Rattle.dp_lexer.specs.Tokens.{tokens_of, IsFirstBadByte, NamesFirstBad
 
 mod laws;
 mod pieces;
+mod place;
 
 pub use crate::laws::{first_bad_byte_is_named, tokens_are_of_text};
-use crate::pieces::{Class, class_of, column_at, kind_of, more_of};
+use crate::pieces::{Class, class_of, kind_of, more_of};
+pub use crate::place::{column_at, line_at};
 use std::alloc::{AllocFailed, Global};
 
 /// The kinds of tokens.
@@ -46,11 +48,11 @@ pub enum LexFault {
     Memory,
 }
 
-/// Why a text has no tokens, with the offset of the byte.
+/// Why a text has no tokens, by the offset of the byte.
 #[derive(Clone, Copy, Debug, PartialEq, Eq)]
 pub enum TokenFault {
-    /// A byte as `LexFault` tells it, and its offset.
-    BadByte { at: u32, line: u32, column: u32 },
+    /// A byte as `LexFault` tells it, at this offset.
+    BadByte { at: u32 },
     /// Memory ran out.
     Memory,
 }
@@ -79,12 +81,15 @@ pub fn lex(alloc: Global, bytes: &[u8]) -> Result<Vec<Token>, LexFault>
 {
     match tokens_or_fault(alloc, bytes) {
         Ok(tokens) => Ok(tokens),
-        Err(TokenFault::BadByte { line, column, .. }) => Err(LexFault::BadByte { line, column }),
+        Err(TokenFault::BadByte { at }) => Err(LexFault::BadByte {
+            line: line_at(bytes, at),
+            column: column_at(bytes, at),
+        }),
         Err(TokenFault::Memory) => Err(LexFault::Memory),
     }
 }
 
-/// The tokens of a text, as `lex` gives them. A bad byte is told with its offset.
+/// The tokens of a text, as `lex` gives them. A bad byte is told by its offset.
 pub fn tokens_or_fault(alloc: Global, bytes: &[u8]) -> Result<Vec<Token>, TokenFault>
     requires { length bytes.now ≤ 2 ^ 26 }
     ensures tokens { IfOk result (λ tokens. tokens_of bytes.now ≡ Ok tokens.items) }
@@ -97,11 +102,7 @@ pub fn tokens_or_fault(alloc: Global, bytes: &[u8]) -> Result<Vec<Token>, TokenF
     while at < bytes.len() {
         let class = class_of(bytes[at]);
         if let Class::Bad = class {
-            return Err(TokenFault::BadByte {
-                at: at as u32,
-                line,
-                column: column_at(bytes, at),
-            });
+            return Err(TokenFault::BadByte { at: at as u32 });
         }
         let end = at + 1 + more_of(class, &bytes[at + 1..]);
         if let Some(kind) = kind_of(class, &bytes[at..end]) {

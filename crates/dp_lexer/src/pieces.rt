@@ -1,6 +1,6 @@
 //! The pieces of a text: runs, comments, and single bytes.
 ghost use Rattle.std.specs.Prelude.{◌≡◌, ◌+◌, ◌^◌, ◌≤◌, length};
-ghost use Rattle.std.specs.List.{prefix_len, suffix_len};
+ghost use Rattle.std.specs.List.{prefix_len};
 ghost use Rattle.dp_num.specs.Bytes as num;
 ghost use Rattle.dp_lexer.specs.Bytes as bytes;
 ghost use Rattle.dp_lexer.specs.Tokens as tokens;
@@ -53,14 +53,6 @@ fn comment_len(rest: &[u8]) -> usize
     rest.iter().take_while(|b| **b != b'\n').count()
 }
 
-/// How many bytes stand after the last line feed.
-fn last_line_len(text: &[u8]) -> usize
-    ensures is { result ≡ suffix_len bytes.is_no_line_feed text.now }
-    ensures within { result ≤ length text.now }
-{
-    text.iter().rev().take_while(|b| **b != b'\n').count()
-}
-
 /// How many of the bytes that follow belong to what begins at a byte of this class.
 pub(crate) fn more_of(class: Class, rest: &[u8]) -> usize
     ensures is { result ≡ tokens.more_of class rest.now }
@@ -87,13 +79,4 @@ pub(crate) fn kind_of(class: Class, text: &[u8]) -> Option<Kind>
         Class::Mark(kind) => Some(kind),
         _ => None,
     }
-}
-
-/// The column of the byte at an offset.
-pub(crate) fn column_at(text: &[u8], at: usize) -> u32
-    requires within { at ≤ length text.now }
-    requires short { length text.now ≤ 2 ^ 26 }
-    ensures { result ≡ bytes.column_at text.now at }
-{
-    1 + last_line_len(&text[..at]) as u32
 }

@@ -4,7 +4,6 @@
 mod build;
 mod fault;
 mod lists;
-mod place;
 mod read;
 mod repaired;
 

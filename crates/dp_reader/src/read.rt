@@ -6,8 +6,8 @@ ghost use Rattle.dp_meaning.specs.Meaning.{FaultAt, Means, Passes, meaning, text
 ghost use Rattle.dp_reader.specs.Reading.{IsMeaning, meant_model, told};
 
 use crate::build::model_of;
-use crate::place::{column_at, line_at};
 use crate::{ModelFault, ReadModel};
+use dp_lexer::{column_at, line_at};
 use dp_meaning::Text;
 use dp_tables::scales_within_limits;
 use dp_text::{TextFault, read_text};

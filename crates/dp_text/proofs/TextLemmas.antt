@@ -31,7 +31,7 @@ by_steps bytes = refl
 
 -- a text without tokens
 pub has_no_tokens : (bytes : List ℕ) (fault : TokenFault) → IsFirstBadByte bytes fault → Reads (text_of bytes) (Err (fault_of_lexer fault))
-has_no_tokens bytes (lexer.BadByte at line column) named =
+has_no_tokens bytes (lexer.BadByte at) named =
     by_steps bytes ∙ ap (λ (r : Result (List Token) ℕ). steps bytes (pieces_of_tokens bytes r)) named.0
 has_no_tokens bytes lexer.Memory named = tt
 

@@ -15,5 +15,5 @@ Reads meant (Err Memory) = Unit {0}
 
 -- a fault of the lexer as one of the text
 abbrev pub fault_of_lexer : TokenFault → TextFault
-fault_of_lexer (lexer.BadByte at line column) = At (record { at = at; why = BadByte })
+fault_of_lexer (lexer.BadByte at) = At (record { at = at; why = BadByte })
 fault_of_lexer lexer.Memory = Memory

@@ -41,7 +41,7 @@ impl From<TokenFault> for TextFault {
 
     fn from(fault: TokenFault) -> TextFault {
         match fault {
-            TokenFault::BadByte { at, .. } => TextFault::At(Fault {
+            TokenFault::BadByte { at } => TextFault::At(Fault {
                 at,
                 why: Why::BadByte,
             }),

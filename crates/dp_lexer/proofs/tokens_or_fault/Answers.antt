@@ -11,7 +11,7 @@ loop-at-init c = rw c.new-tokens.ensures.items (starts c.args.bytes.now)
 pub returns-in-Bad-clause-first_bad_byte : goal.returns-in-Bad-clause-first_bad_byte
 returns-in-Bad-clause-first_bad_byte c =
     let bad = is_bad c.loop-at.invariant c.loop-at-test.true (sym c.class_of-class.ensures ∙ c.in-Bad.is) in
-    (bad, sym (first_bad_byte_is_named c.args.bytes.now) ∙ ap result_err bad, c.loop-at.invariant.line_is, c.column_at.ensures)
+    (bad, sym (first_bad_byte_is_named c.args.bytes.now) ∙ ap result_err bad)
 
 -- what an iteration learns
 piece : (c : After-kind_of) → IsPiece c.args.bytes.now c.loop-at.at c.more_of.result c.class_of-class.result c.kind_of.result

@@ -1,10 +1,10 @@
-//! Where a byte of a file stands.
+//! Where a byte of a text stands.
 ghost use Rattle.std.specs.Prelude.{◌≡◌, ◌≤◌, ◌^◌, ◌+◌, length, take, count_by};
 ghost use Rattle.std.specs.List.{suffix_len};
 ghost use Rattle.dp_lexer.specs.Bytes as bytes;
 
 /// The line of the byte at an offset, counted from 1. Behind the text is the end of it.
-pub(crate) fn line_at(text: &[u8], at: u32) -> u32
+pub fn line_at(text: &[u8], at: u32) -> u32
     requires { length text.now ≤ 2 ^ 26 }
     ensures { result ≡ bytes.line_at text.now at }
 {
@@ -26,7 +26,7 @@ fn line_feeds(text: &[u8]) -> u32
 }
 
 /// The column of the byte at an offset, counted from 1 in bytes. Behind the text is the end of it.
-pub(crate) fn column_at(text: &[u8], at: u32) -> u32
+pub fn column_at(text: &[u8], at: u32) -> u32
     requires { length text.now ≤ 2 ^ 26 }
     ensures { result ≡ bytes.column_at text.now at }
 {
