@@ -1,6 +1,6 @@
 -- The model that a text means keeps what every model keeps.
-use Rattle.std.proofs.Common.{◌≡◌, ℕ, zero, suc, ◌*◌, ◌^◌, ◌<◌, ◌≤◌, Bool, true, false, List, [], ◌∷◌, length, get_or, map, refl, sym, subst, ◌∙◌, arith, pos, negsuc}
-use Rattle.std.specs.Prelude.{◌&&◌, nat_le, ℤ, unsigned_abs, Ok}
+use Rattle.std.proofs.Common.{◌≡◌, ℕ, zero, suc, ◌*◌, ◌^◌, ◌<◌, ◌≤◌, List, [], ◌∷◌, length, get_or, map, refl, sym, subst, ◌∙◌, arith, pos}
+use Rattle.std.specs.Prelude.{unsigned_abs, Ok}
 use Rattle.std.proofs.lemmas.List.{length-map}
 use Rattle.std.proofs.lemmas.Nat.{mul-le}
 use Rattle.dp_num.proofs.SignificandLaws.{some_tens}

@@ -1,11 +1,9 @@
 -- The row of the start.
-use Rattle.std.proofs.Common.{◌≡◌, ℕ, zero, suc, ◌+◌, ◌*◌, ◌/◌, ◌^◌, ◌<◌, true, List, [], ◌∷◌, ◌++◌, length, get_or, map, take, drop, refl, sym, ap, subst, ◌∙◌, arith}
+use Rattle.std.proofs.Common.{◌≡◌, ℕ, zero, suc, ◌+◌, ◌*◌, ◌<◌, true, List, [], ◌∷◌, ◌++◌, length, get_or, map, take, drop, refl, sym, ap, subst, ◌∙◌, arith}
 use Rattle.std.specs.Prelude.{sum, Option, Some, None, Result, Ok, Err}
 use Rattle.std.specs.List.{range_with_len}
 use Rattle.std.proofs.lemmas.List.{take_all}
 use Rattle.std.proofs.lemmas.List.FromFn.{length-map-range_with_len, map-range_with_len_more}
-use Rattle.dp_spec.specs.Model.{AreScales}
-use Rattle.dp_num.specs.declared.decimal.Decimal.{Decimal}
 use Rattle.dp_meaning.specs.declared.header.Start.{Start}
 use Rattle.dp_meaning.specs.declared.header.Start.TheVariants.{AnyState, OneState, StartRow}
 use Rattle.dp_meaning.specs.declared.text.Text.{Text}
@@ -17,7 +15,7 @@ use Rattle.dp_meaning.specs.Numbers.{is_chance}
 use Rattle.dp_meaning.specs.Rows.{Row, Repaired, start_chance, start_at, start_row, repair_all}
 use Rattle.dp_meaning.specs.Scales.{scales_of}
 use Rattle.dp_meaning.specs.Text.{states_in}
-use Rattle.dp_meaning.proofs.Each.{Each, all_from_each}
+use Rattle.dp_meaning.proofs.Each.{all_from_each}
 use Rattle.dp_meaning.proofs.ModelLaws.{text_is, scales_are}
 use Rattle.dp_meaning.proofs.ReadHeader.{IsStart}
 use Rattle.dp_meaning.proofs.TextLimits.{small}

@@ -1,7 +1,7 @@
 -- The start of a text.
 use Rattle.std.specs.Prelude.{◌≡◌, true, All}
 use Rattle.dp_meaning.specs.declared.header.Start.{Start}
-use Rattle.dp_meaning.specs.declared.header.Start.TheVariants.{AnyState, OneState, StartRow}
+use Rattle.dp_meaning.specs.declared.header.Start.TheVariants.{StartRow}
 use Rattle.dp_meaning.specs.Numbers.{is_chance}
 
 -- the numbers of a row of chances are chances

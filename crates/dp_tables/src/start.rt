@@ -38,13 +38,7 @@ fn start_chance(scale: u64, states: u32, start: &Start, state: u32) -> u64
 {
     match start {
         Start::AnyState => scale / u64::from(states),
-        Start::OneState(only) => {
-            if state == *only {
-                scale
-            } else {
-                0
-            }
-        }
+        Start::OneState(only) => { if state == *only { scale } else { 0 } }
         Start::StartRow(_, row) => match row.as_slice().get(state as usize) {
             Some(chance) => chance_over(scale, *chance),
             None => 0,
