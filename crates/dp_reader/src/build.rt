@@ -109,7 +109,12 @@ fn build(alloc: Global, text: Text, scales: Scales, rows: Rows) -> Result<Model,
 }
 
 /// The model of a text that is within the limits, or the first fault of its rows.
-pub(crate) fn model_of(alloc: Global, bytes: &[u8], text: Text, scales: Scales) -> Result<ReadModel, TextFault>
+pub(crate) fn model_of(
+    alloc: Global,
+    bytes: &[u8],
+    text: Text,
+    scales: Scales,
+) -> Result<ReadModel, TextFault>
     requires short { length bytes.now ≤ 2 ^ 26 }
     requires says { text_of bytes.now ≡ Ok text }
     requires within { passed_limit text ≡ None }

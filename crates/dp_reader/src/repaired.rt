@@ -33,7 +33,12 @@ pub(crate) fn start(alloc: Global, text: &Text, scale: u64, end: u32) -> Result<
 }
 
 /// The rows of the transitions.
-pub(crate) fn transitions(alloc: Global, text: &Text, scale: u64, end: u32) -> Result<Repaired, TextFault>
+pub(crate) fn transitions(
+    alloc: Global,
+    text: &Text,
+    scale: u64,
+    end: u32,
+) -> Result<Repaired, TextFault>
     requires said { IsSaid text.now }
     requires within { passed_limit text.now ≡ None }
     requires scale { scale ≡ (scales_of text.now).trans }
@@ -47,7 +52,12 @@ pub(crate) fn transitions(alloc: Global, text: &Text, scale: u64, end: u32) -> R
 }
 
 /// The rows of the observations.
-pub(crate) fn observations(alloc: Global, text: &Text, scale: u64, end: u32) -> Result<Repaired, TextFault>
+pub(crate) fn observations(
+    alloc: Global,
+    text: &Text,
+    scale: u64,
+    end: u32,
+) -> Result<Repaired, TextFault>
     requires said { IsSaid text.now }
     requires within { passed_limit text.now ≡ None }
     requires scale { scale ≡ (scales_of text.now).obs }
