@@ -81,7 +81,7 @@ struct Row<'a> {
     put: &'a str,
 }
 
-fn row<'a>(file: &'a [&'a str], horizon: &'a str, status: Status, put: &'a str) -> Row<'a> {
+fn call<'a>(file: &'a [&'a str], horizon: &'a str, status: Status, put: &'a str) -> Row<'a> {
     Row {
         file,
         horizon,
@@ -114,10 +114,10 @@ fn plans_over_one_step(rt: HostRuntime) -> Result<(), Fail> {
     ];
     let solo = solo_with(ONE_STATE, SOLO_CHANCES);
     for row in [
-        row(&TINY, "1", Status::Done, TINY_PLAN),
-        row(&TIGER, "1", Status::Done, TIGER_PLAN),
-        row(&solo, "1", Status::Done, SOLO_PLAN),
-        row(&costs, "1", Status::Done, COSTS_PLAN),
+        call(&TINY, "1", Status::Done, TINY_PLAN),
+        call(&TIGER, "1", Status::Done, TIGER_PLAN),
+        call(&solo, "1", Status::Done, SOLO_PLAN),
+        call(&costs, "1", Status::Done, COSTS_PLAN),
     ] {
         assert!(rt; is_kept(rt.alloc(), &row)?, "{:?}", row.put);
     }
@@ -134,17 +134,17 @@ O: * : uniform\n\
 O: 0 : 0 : 0.9999999999999999\n",
     );
     for row in [
-        row(&TIGER, "0", Status::Usage, "refused usage\n"),
+        call(&TIGER, "0", Status::Usage, "refused usage\n"),
         row(
             &TIGER,
             "11",
             Status::TooLarge,
             "refused large own-histories 4094\n",
         ),
-        row(&TIGER, "17", Status::TooLarge, "refused large horizon 17\n"),
-        row(&TIGER, "10", Status::Unbuilt, "refused unbuilt horizon\n"),
-        row(&TINY, "2", Status::Unbuilt, "refused unbuilt horizon\n"),
-        row(&outward, "1", Status::Unbuilt, "refused unbuilt outward\n"),
+        call(&TIGER, "17", Status::TooLarge, "refused large horizon 17\n"),
+        call(&TIGER, "10", Status::Unbuilt, "refused unbuilt horizon\n"),
+        call(&TINY, "2", Status::Unbuilt, "refused unbuilt horizon\n"),
+        call(&outward, "1", Status::Unbuilt, "refused unbuilt outward\n"),
     ] {
         assert!(rt; is_kept(rt.alloc(), &row)?, "{:?}", row.put);
     }
@@ -162,7 +162,7 @@ fn faults_of_models(rt: HostRuntime) -> Result<(), Fail> {
         (&same_states, "refused model line 4 column 11 double-name\n"),
         (&short_row, "refused model line 5 column 8 row-sum\n"),
     ] {
-        let row = row(file, "1", Status::BadModel, put);
+        let row = call(file, "1", Status::BadModel, put);
         assert!(rt; is_kept(rt.alloc(), &row)?, "{:?}", row.put);
     }
     Ok(())
@@ -173,7 +173,7 @@ fn faults_of_models(rt: HostRuntime) -> Result<(), Fail> {
 fn faults_and_their_places(rt: HostRuntime) -> Result<(), Fail> {
     for (text, put) in FAULTS {
         let file = [text];
-        let row = row(&file, "1", Status::BadModel, put);
+        let row = call(&file, "1", Status::BadModel, put);
         assert!(rt; is_kept(rt.alloc(), &row)?, "{put:?}");
     }
     Ok(())
@@ -183,7 +183,7 @@ fn faults_and_their_places(rt: HostRuntime) -> Result<(), Fail> {
 fn limits_on_models(rt: HostRuntime) -> Result<(), Fail> {
     for (text, put) in LIMITS {
         let file = [text];
-        let row = row(&file, "1", Status::TooLarge, put);
+        let row = call(&file, "1", Status::TooLarge, put);
         assert!(rt; is_kept(rt.alloc(), &row)?, "{put:?}");
     }
     Ok(())
@@ -228,6 +228,6 @@ fn a_model_that_is_too_long(rt: HostRuntime) -> Result<(), Fail> {
     shelf.hold(alloc, "model", &vec![in alloc; b' '; 67_108_865]?)?;
     let mut sink = MemSink::new(alloc, 400)?;
     assert_eq!(rt; run(alloc, &words, &mut shelf, &mut sink), Status::TooLarge);
-    assert!(rt; sink.bytes() == b"refused large model-bytes 67108865\n");
+    assert!(rt; sink.bytes() == b"refused large model-bytes 67108865\n".as_slice());
     Ok(())
 }
