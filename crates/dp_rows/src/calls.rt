@@ -135,7 +135,7 @@ O: 0 : 0 : 0.9999999999999999\n",
     );
     for row in [
         call(&TIGER, "0", Status::Usage, "refused usage\n"),
-        row(
+        call(
             &TIGER,
             "11",
             Status::TooLarge,
