@@ -4,7 +4,6 @@ ghost use Rattle.dp_spec.specs.JointNumbers.{product};
 ghost use Rattle.dp_meaning.specs.declared.header.Header as types;
 ghost use Rattle.dp_meaning.specs.Statements.{axes_of, axis_size};
 
-use crate::name_lists::size_of;
 use dp_meaning::{GivenList, Header, Table};
 use std::slice;
 
@@ -49,7 +48,7 @@ fn axis_size(axis: &[GivenList], most: u64) -> u64
 {
     let mut size = 1;
     for list in axis {
-        size = times(size, u64::from(size_of(list)), most);
+        size = times(size, u64::from(list.size()), most);
     }
     size
 }

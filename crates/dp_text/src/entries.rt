@@ -6,7 +6,7 @@ ghost use Rattle.dp_text.specs.EntrySteps as steps;
 ghost use Rattle.dp_text.specs.Reading.{Reads};
 
 use crate::fault::{TextFault, fault};
-use crate::name_lists::{find_in, size_of};
+use crate::name_lists::find_in;
 use crate::numbers::{Range, ended, number, numbers};
 use crate::pieces::{Piece, Pieces};
 use crate::words::{is_index, is_name, says};
@@ -66,10 +66,10 @@ pub(crate) fn start_of(
     };
     let start = if says(b"uniform", &piece) {
         any_state(&behind)
-    } else if is_one_state(size_of(states), &piece, &behind) {
+    } else if is_one_state(states.size(), &piece, &behind) {
         lone_state(states, &piece, &behind)
     } else {
-        return state_row(alloc, next, size_of(states), piece.at(), pieces);
+        return state_row(alloc, next, states.size(), piece.at(), pieces);
     };
     match start {
         Ok(start) => Ok(start),

@@ -9,7 +9,7 @@ use crate::document::Document;
 use crate::entries::{discount_of, is_cost, start_of};
 use crate::fault::{TextFault, fault};
 use crate::item::Item;
-use crate::name_lists::{name_list, name_lists, size_of};
+use crate::name_lists::{name_list, name_lists};
 use crate::pieces::Piece;
 use crate::words::says;
 use dp_meaning::{Entries, Entry, Fault, Header, ItemKind, Table, Why};
@@ -242,7 +242,7 @@ fn with_actions(alloc: Global, item: &Item, entries: Entries) -> Result<Entries,
         return Err(TextFault::At(fault(Why::Header, item.at())));
     }
     let agents = match &entries.agents {
-        Some(agents) => size_of(agents),
+        Some(agents) => agents.size(),
         None => return Err(TextFault::At(fault(Why::Header, item.at()))),
     };
     match name_lists(alloc, agents, item) {
@@ -262,7 +262,7 @@ fn with_observations(alloc: Global, item: &Item, entries: Entries) -> Result<Ent
         return Err(TextFault::At(fault(Why::Header, item.at())));
     }
     let agents = match &entries.agents {
-        Some(agents) => size_of(agents),
+        Some(agents) => agents.size(),
         None => return Err(TextFault::At(fault(Why::Header, item.at()))),
     };
     match name_lists(alloc, agents, item) {

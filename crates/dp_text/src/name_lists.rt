@@ -126,16 +126,6 @@ pub(crate) fn name_lists(
     }
 }
 
-/// How many things a list has.
-pub(crate) fn size_of(list: &GivenList) -> u32
-    ensures { result ≡ spec.size_of list.now }
-{
-    match list {
-        GivenList::Counted(size) => *size,
-        GivenList::Named(names) => names.len(),
-    }
-}
-
 /// The number of the thing of a list that a token names, by an index or by a name.
 #[tactic(auto, unfolding(dp_meaning::specs::NameLists::find_in))]
 pub(crate) fn find_in(list: &GivenList, piece: &Piece) -> Result<u32, Fault>
@@ -154,7 +144,7 @@ fn place_in(list: &GivenList, piece: &Piece) -> Option<u32>
     ensures { result ≡ spec.place_in list.now piece.now }
 {
     if is_index(piece) {
-        return index_below(size_of(list), piece);
+        return index_below(list.size(), piece);
     }
     match list {
         GivenList::Counted(_) => None,

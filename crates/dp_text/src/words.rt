@@ -1,7 +1,5 @@
 //! Tokens as words: names, indices and the words of the format.
 ghost use Rattle.std.specs.Prelude.{◌≡◌, ◌<◌, ◌^◌, ◌||◌, SomeIff, codes, true};
-ghost use Rattle.std.specs.Char.{is_ascii_digit};
-ghost use Rattle.std.specs.List.{list_all};
 ghost use Rattle.std.specs.Str.{bytes_eq};
 ghost use Rattle.dp_num.specs.DecimalShape.{is_index};
 ghost use Rattle.dp_num.specs.Names.{is_name, is_word};
@@ -51,18 +49,10 @@ fn is_reserved(text: &[u8]) -> bool
 }
 
 /// Whether a token is an index.
-#[tactic(auto, unfolding(dp_num::specs::DecimalShape::is_index))]
 pub(crate) fn is_index(piece: &Piece) -> bool
     ensures { result ≡ is_index piece.now.text }
 {
-    let text = piece.text();
-    !text.is_empty() && all_digits(text)
-}
-
-fn all_digits(text: &[u8]) -> bool
-    ensures { result ≡ list_all is_ascii_digit text.now }
-{
-    text.iter().all(|b| b.is_ascii_digit())
+    dp_num::is_index(piece.text())
 }
 
 /// The number that an index writes, where it is below `2^32`.
