@@ -5,16 +5,11 @@ pub mod Saturating
 pub mod FirstFields
 pub mod FieldLemmas
 pub mod HeaderLemmas
-pub mod ItemLemmas
 pub mod NameListLemmas
 pub mod NumberLemmas
 pub mod PartLemmas
-pub mod PieceLemmas
 pub mod WordLemmas
 pub mod ReadingLemmas
 pub mod StatementLemmas
 pub mod ValueLemmas
-pub mod LineLemmas
-pub mod ItemSpanLemmas
-pub mod DocumentLemmas
 pub mod TextLemmas

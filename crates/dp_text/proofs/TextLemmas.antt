@@ -12,7 +12,7 @@ use Rattle.dp_meaning.specs.Header.{header_of, no_entries}
 use Rattle.dp_meaning.specs.Statements.{statements_of}
 use Rattle.dp_meaning.specs.Meaning.{pieces_of_tokens, unless_lines, text_of}
 use Rattle.dp_text.specs.Reading.{Reads, fault_of_lexer}
-use Rattle.dp_text.specs.Documents.{with_end}
+use Rattle.dp_items.specs.Documents.{with_end}
 use Rattle.dp_text.specs.TextSteps.{text_of_items}
 
 -- the steps of reading a text of these pieces

@@ -3,11 +3,7 @@ pub mod GivenNumbers
 pub mod Reading
 pub mod LineFields
 pub mod FirstFields
-pub mod Tokens
-pub mod Lines
 pub mod NameListSteps
 pub mod EntrySteps
-pub mod ItemSpans
-pub mod Documents
 pub mod TextSteps
 pub mod HeaderSteps

@@ -6,7 +6,7 @@ use Rattle.dp_meaning.specs.Faults.{◌>>=◌}
 use Rattle.dp_meaning.specs.Header.{header_of, no_entries}
 use Rattle.dp_meaning.specs.Statements.{statements_of}
 use Rattle.dp_meaning.specs.Meaning.{unless_lines}
-use Rattle.dp_text.specs.Documents.{ItemsOfText}
+use Rattle.dp_items.specs.Documents.{ItemsOfText}
 
 -- the text that these items say
 unfoldable pub text_of_items : ItemsOfText → Result Text Fault

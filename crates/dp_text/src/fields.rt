@@ -3,7 +3,7 @@ ghost use Rattle.std.specs.Prelude.{◌≡◌, ◌<◌, IfSome, MatchOption, len
 ghost use Rattle.std.specs.List.{prefix_len};
 ghost use Rattle.dp_text.specs.FirstFields.{HasNoField, IsFirstField, is_colon_in, is_no_colon};
 
-use crate::pieces::Pieces;
+use dp_items::Pieces;
 use dp_lexer::Kind;
 use std::marker::Model;
 

@@ -5,13 +5,11 @@ ghost use Rattle.dp_meaning.specs.Items as spec_items;
 ghost use Rattle.dp_text.specs.HeaderSteps.{ReadsHeader, header_and};
 ghost use Rattle.dp_text.specs.Reading.{Reads};
 
-use crate::document::Document;
 use crate::entries::{discount_of, is_cost, start_of};
 use crate::fault::{TextFault, fault};
-use crate::item::Item;
 use crate::name_lists::{name_list, name_lists};
-use crate::pieces::Piece;
 use crate::words::says;
+use dp_items::{Document, Item, Piece};
 use dp_meaning::{Entries, Entry, Fault, Header, ItemKind, Table, Why};
 use std::alloc::Global;
 

@@ -2,18 +2,13 @@
 #![tactic(auto)]
 
 mod axes;
-mod document;
 mod entries;
 mod fault;
 mod fields;
 mod header;
-mod item;
-mod item_span;
-mod line;
 mod name_lists;
 mod numbers;
 mod parts;
-mod pieces;
 mod statements;
 mod text;
 mod values;

@@ -7,10 +7,9 @@ ghost use Rattle.dp_text.specs.NameListSteps.{counted, with_new_name};
 ghost use Rattle.dp_text.specs.Reading.{Reads};
 
 use crate::fault::{TextFault, fault};
-use crate::item::Item;
 use crate::numbers::ended;
-use crate::pieces::{Piece, Pieces};
 use crate::words::{index, is_index, is_name, text_of};
+use dp_items::{Item, Piece, Pieces};
 use dp_meaning::{Fault, GivenList, Why};
 use dp_model::{Items, NameList};
 use std::alloc::Global;

@@ -5,7 +5,7 @@ ghost use Rattle.dp_text.specs.Ranges.{is_in};
 ghost use Rattle.dp_text.specs.Reading.{Reads};
 
 use crate::fault::{TextFault, fault};
-use crate::pieces::{Piece, Pieces};
+use dp_items::{Piece, Pieces};
 use dp_meaning::{Fault, Why};
 use dp_model::Items;
 use dp_num::{Decimal, NumFault, read_decimal};

@@ -11,7 +11,7 @@ use crate::axes::{axis_at, axis_count};
 use crate::fault::{TextFault, fault};
 use crate::fields::{Field, first_field};
 use crate::name_lists::find_in;
-use crate::pieces::{Piece, Pieces};
+use dp_items::{Piece, Pieces};
 use dp_lexer::Kind;
 use dp_meaning::{Fault, GivenList, Header, Part, Table, Why};
 use dp_model::Items;

@@ -4,12 +4,11 @@ ghost use Rattle.dp_meaning.specs.Header as header_spec;
 ghost use Rattle.dp_meaning.specs.Statements as spec;
 ghost use Rattle.dp_text.specs.Reading.{Reads};
 
-use crate::document::Document;
 use crate::fault::{TextFault, fault};
 use crate::header::kind_of;
-use crate::item::Item;
 use crate::parts::line_fields;
 use crate::values::value_of;
+use dp_items::{Document, Item};
 use dp_meaning::{Header, ItemKind, Statement, Table, Why};
 use dp_model::Items;
 use std::alloc::Global;

@@ -4,10 +4,10 @@ ghost use Rattle.dp_meaning.specs.Meaning.{text_of};
 ghost use Rattle.dp_text.specs.Reading.{Reads};
 ghost use Rattle.dp_text.specs.TextSteps.{text_of_items};
 
-use crate::document::Document;
 use crate::fault::TextFault;
 use crate::header::read_header;
 use crate::statements::read_statements;
+use dp_items::Document;
 use dp_lexer::tokens_or_fault;
 use dp_meaning::Text;
 use std::alloc::Global;

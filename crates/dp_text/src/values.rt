@@ -10,8 +10,8 @@ ghost use Rattle.dp_text.specs.Reading.{Reads};
 use crate::axes::{axis_count, sizes_from};
 use crate::fault::{TextFault, fault};
 use crate::numbers::{Range, ended, numbers};
-use crate::pieces::{Piece, Pieces};
 use crate::words::says;
+use dp_items::{Piece, Pieces};
 use dp_meaning::{Header, Table, Value, Why};
 use std::alloc::Global;
 

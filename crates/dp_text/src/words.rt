@@ -5,7 +5,7 @@ ghost use Rattle.dp_num.specs.DecimalShape.{is_index};
 ghost use Rattle.dp_num.specs.Names.{is_name, is_word};
 ghost use Rattle.dp_meaning.specs.NameLists.{index, says};
 
-use crate::pieces::Piece;
+use dp_items::Piece;
 use dp_lexer::Kind;
 use std::str;
 

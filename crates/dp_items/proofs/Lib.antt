@@ -1,0 +1,5 @@
+pub mod ItemLemmas
+pub mod PieceLemmas
+pub mod LineLemmas
+pub mod ItemSpanLemmas
+pub mod DocumentLemmas

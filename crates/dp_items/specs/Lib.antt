@@ -1,0 +1,4 @@
+pub mod Tokens
+pub mod Lines
+pub mod ItemSpans
+pub mod Documents

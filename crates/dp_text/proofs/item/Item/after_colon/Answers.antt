@@ -1,5 +1,0 @@
-use Rattle.dp_text.proofs.ItemLemmas.{begins_with_two}
-use Rattle.dp_text.proofs.item.Item.after_colon.Goals as goal
-
-pub from-requires : goal.from-requires
-from-requires c = rw c.first_line.ensures (begins_with_two _ c.kept.ensures.begins)
