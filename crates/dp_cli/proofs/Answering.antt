@@ -23,6 +23,7 @@ use Rattle.dp_cli.specs.Job.{File, asks}
 use Rattle.dp_cli.specs.Planned.{PlansText}
 use Rattle.dp_cli.specs.Put.{PutsAnswer}
 use Rattle.dp_cli.specs.Run.{IsAnswerToFault, Answers, Runs}
+use Rattle.dp_cli.proofs.Replying.{answer_of_given}
 use Rattle.dp_cli.specs.Steps.{model_name, steps_of, answer_of, FetchesFile, PutsOutcome}
 
 -- a fault is answered by its refusal
@@ -88,12 +89,17 @@ pub asks_model : (job : Job) → asks (Some job) [] ≡ Some (record { name = mo
 asks_model (Plan model horizon nodes look merge order) = refl
 
 -- A job that has been given its model asks for no more, and answers by its plan.
-pub replies_plan : (job : Job) (text : List ℕ) (outcome : Result (Vec ℕ Global) Refusal) {shelf : ShelfView} → PlansText (steps_of job) text outcome
-    → Answers (Some job) (text ∷ []) shelf shelf (answer_of outcome)
-replies_plan (Plan model horizon nodes look merge order) text (Ok bytes) h = Answers.replies refl h
-replies_plan (Plan model horizon nodes look merge order) text (Err refusals.Usage) h = Answers.replies refl h
-replies_plan (Plan model horizon nodes look merge order) text (Err (refusals.BadModel line column why)) h = Answers.replies refl h
-replies_plan (Plan model horizon nodes look merge order) text (Err (refusals.Read role)) h = Answers.replies refl h
-replies_plan (Plan model horizon nodes look merge order) text (Err (refusals.TooLarge passed)) h = Answers.replies refl h
-replies_plan (Plan model horizon nodes look merge order) text (Err (refusals.Unbuilt part)) h = Answers.replies refl h
-replies_plan (Plan model horizon nodes look merge order) text (Err refusals.Memory) h = Answers.wants_memory
+pub replies_plan : (job : Job) (text : List ℕ) (outcome : Result (Vec ℕ Global) Refusal) {shelf : ShelfView}
+    → PlansText (steps_of job) text outcome → Answers (Some job) (text ∷ []) shelf shelf (answer_of outcome)
+replies_plan (Plan model horizon nodes look merge order) text outcome h = by outcome h
+  where
+    by : (outcome : Result (Vec ℕ Global) Refusal) {shelf : ShelfView} → PlansText horizon text outcome
+        → Answers (Some (Plan model horizon nodes look merge order)) (text ∷ []) shelf shelf (answer_of outcome)
+    by (Err refusals.Memory) h = Answers.wants_memory
+    by (Ok bytes) h = Answers.replies refl (answer_of_given _ _ (Ok bytes) h (λ e. cc))
+    by (Err refusals.Usage) h = Answers.replies refl (answer_of_given _ _ (Err refusals.Usage) h (λ e. cc))
+    by (Err (refusals.BadModel line column why)) h =
+        Answers.replies refl (answer_of_given _ _ (Err (refusals.BadModel line column why)) h (λ e. cc))
+    by (Err (refusals.Read role)) h = Answers.replies refl (answer_of_given _ _ (Err (refusals.Read role)) h (λ e. cc))
+    by (Err (refusals.TooLarge passed)) h = Answers.replies refl (answer_of_given _ _ (Err (refusals.TooLarge passed)) h (λ e. cc))
+    by (Err (refusals.Unbuilt part)) h = Answers.replies refl (answer_of_given _ _ (Err (refusals.Unbuilt part)) h (λ e. cc))

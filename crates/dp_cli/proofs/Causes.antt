@@ -20,6 +20,7 @@ use Rattle.dp_cli.specs.Put.{status_after}
 use Rattle.dp_cli.specs.Run.{IsAnswerToFault, Answers, Runs}
 use Rattle.dp_cli.specs.Causes.{LogsFirstOf, LastFailed}
 use Rattle.dp_cli.proofs.Planning.{no_read_fault, no_usage, plan_status}
+use Rattle.dp_cli.proofs.Replying.{status_of}
 
 -- a job leaves what the shelf holds, and which fetches fail
 pub contents_unchanged : {job : Option Job} {texts : List (List ℕ)} {old new : ShelfView} {answer : Answer} → Answers job texts old new answer
@@ -82,10 +83,10 @@ logs_files answers = logs_left answers
 -- A read fault is answered where the last of them failed
 
 reply_status : (job : Option Job) (texts : List (List ℕ)) (answer : Answer) → IsReply job texts answer → answer.status ≢ ReadFault
-reply_status None texts answer h = λ e. cc
-reply_status (Some (Plan model horizon nodes look merge order)) [] answer h = absurd h
-reply_status (Some (Plan model horizon nodes look merge order)) (text ∷ []) answer h = plan_status horizon (meaning text) answer ReadFault h no_read_fault
-reply_status (Some (Plan model horizon nodes look merge order)) (text ∷ next ∷ texts) answer h = absurd h
+reply_status None texts answer h = λ e. let usage = status_of h in cc
+reply_status (Some (Plan model horizon nodes look merge order)) [] answer h = absurd h.1
+reply_status (Some (Plan model horizon nodes look merge order)) (text ∷ []) answer h = plan_status horizon (meaning text) _ answer ReadFault h no_read_fault
+reply_status (Some (Plan model horizon nodes look merge order)) (text ∷ next ∷ texts) answer h = absurd h.1
 
 later_failed : {old between new : List Entry} (entry : Entry) → between ≡ old ++ entry ∷ [] → LastFailed between new → LastFailed old new
 later_failed entry logged h = record {
@@ -164,13 +165,13 @@ given_reply : (job : Option Job) (first : List ℕ) (texts : List (List ℕ)) (a
     → answer.status ≢ statuses.Usage
 given_reply None first texts answer reply some = λ e. some refl
 given_reply (Some (Plan model horizon nodes look merge order)) first [] answer reply some =
-    plan_status horizon (meaning first) answer statuses.Usage reply no_usage
-given_reply (Some (Plan model horizon nodes look merge order)) first (next ∷ texts) answer reply some = absurd reply
+    plan_status horizon (meaning first) _ answer statuses.Usage reply no_usage
+given_reply (Some (Plan model horizon nodes look merge order)) first (next ∷ texts) answer reply some = absurd reply.1
 
 -- words that are answered with no file give no job
 first_reply : (job : Option Job) (answer : Answer) → IsReply job [] answer → job ≡ None
 first_reply None answer reply = refl
-first_reply (Some (Plan model horizon nodes look merge order)) answer reply = absurd reply
+first_reply (Some (Plan model horizon nodes look merge order)) answer reply = absurd reply.1
 
 given_no_usage : {job : Option Job} {first : List ℕ} {texts : List (List ℕ)} {old new : ShelfView} {answer : Answer} → Answers job (first ∷ texts) old new answer
     → job ≢ None → answer.status ≢ statuses.Usage

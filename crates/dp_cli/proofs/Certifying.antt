@@ -4,55 +4,40 @@ use Rattle.dp_io.specs.FetchLaws.{fetch_answer}
 use Rattle.dp_io.specs.Shelf.{Contents}
 use Rattle.dp_io.specs.Sink.{SinkView, Puts}
 use Rattle.dp_io.specs.declared.sink.SinkFailed.{SinkFailed}
-use Rattle.dp_io.specs.declared.shelf.FetchFault.{FetchFault}
-use Rattle.dp_io.specs.declared.shelf.FetchFault.TheVariants.{Failed, TooLong, Memory}
 use Rattle.dp_plan.proofs.BestConstants.{best_constant_claims_hold, best_constant_is_valid}
 use Rattle.dp_plan.specs.ConstantCertificate.{constant_certificate}
 use Rattle.dp_words.specs.declared.job.Job.{Job}
 use Rattle.dp_words.specs.declared.job.Job.TheVariants.{Plan}
 use Rattle.dp_words.specs.declared.job.OrderWord.{OrderWord}
-use Rattle.dp_cli.specs.declared.refusal.FileRole.{FileRole}
 use Rattle.dp_cli.specs.declared.refusal.FileRole.TheVariants.{Model}
 use Rattle.dp_cli.specs.declared.status.Status.{Status}
 use Rattle.dp_cli.specs.declared.status.Status.TheVariants as statuses
 use Rattle.dp_cli.specs.Answer.{Answer}
 use Rattle.dp_cli.specs.Certified.{CertifiesFor, IsCertified, PutsCertificateOf}
 use Rattle.dp_cli.specs.Job.{File, IsReply}
-use Rattle.dp_meaning.specs.Meaning.{Meaning, Means, FaultAt, Passes, meaning}
-use Rattle.dp_cli.specs.ModelText.{model_meant}
-use Rattle.dp_cli.proofs.Planning.{plan_done}
-use Rattle.dp_cli.specs.Planned.{IsPlanOf, IsPlanReply}
+use Rattle.dp_meaning.specs.Meaning.{meaning}
+use Rattle.dp_cli.proofs.Refusing.{after_file}
+use Rattle.dp_cli.proofs.Replying.{done_work, not_done, status_of}
+use Rattle.dp_cli.specs.Planned.{IsPlanOf, IsPlanOfText, plan_refusal}
 use Rattle.dp_cli.specs.Put.{status_after}
-use Rattle.dp_cli.specs.Refusal.{fetch_refusal, most_bytes, refusal_status}
+use Rattle.dp_cli.specs.Refusal.{fetch_refusal, most_bytes}
 use Rattle.dp_cli.specs.Run.{IsToldAnswer, RunsAsTold}
 use Rattle.dp_spec.specs.Model as models
 
--- no refusal of a fetch is done
-not_done : (role : FileRole) (fault : FetchFault) → refusal_status (fetch_refusal role fault) ≢ statuses.Done
-not_done role Failed e = cc
-not_done role (TooLong count) e = cc
-not_done role Memory e = cc
-
 module _ (contents : Contents) (model : List ℕ) (horizon nodes look : ℕ) (merge : Bool) (order : OrderWord) where
-  after_model : {number : ℕ} {text : List ℕ} {answer : Answer} → IsToldAnswer contents (Some (Plan model horizon nodes look merge order)) number (text ∷ []) answer
-      → IsReply (Some (Plan model horizon nodes look merge order)) (text ∷ []) answer
-  after_model (IsToldAnswer.replies asked reply) = reply
-  after_model (IsToldAnswer.refuses file fault asked told) = cc
-  after_model (IsToldAnswer.goes_on file text asked told rest) = cc
-
   -- A plan that is done was given the file of its model, and answered it.
   done_plan : {number : ℕ} {answer : Answer} → IsToldAnswer contents (Some (Plan model horizon nodes look merge order)) number [] answer → answer.status ≡ statuses.Done
       → (text : List ℕ) × (fetch_answer contents number model (most_bytes Model) ≡ Ok text) × (IsReply (Some (Plan model horizon nodes look merge order)) (text ∷ []) answer)
   done_plan (IsToldAnswer.replies asked reply) e = cc
-  done_plan (IsToldAnswer.refuses file fault asked told) e = absurd (not_done file.role fault e)
+  done_plan (IsToldAnswer.refuses file fault asked told) e = absurd (not_done (fetch_refusal file.role fault) e)
   done_plan {number} {answer} (IsToldAnswer.goes_on file text asked told rest) e =
       let wanted : File = record { name = model; role = Model } in
       let same : file ≡ wanted = cc in
-      (text, rw same at told, after_model rest)
+      (text, rw same at told, after_file contents model horizon nodes look merge order rest)
 
 -- the text of the best constant policy's certificate certifies for its model
-plan_certifies : (m : models.Model) (answer : Answer) → IsPlanOf m answer → CertifiesFor m answer.text
-plan_certifies m answer h = record {
+plan_certifies : (m : models.Model) (bytes : List ℕ) → IsPlanOf m bytes → CertifiesFor m bytes
+plan_certifies m bytes h = record {
   certificate = constant_certificate m h.text.action;
   spelled = h.text.spelled;
   valid = best_constant_is_valid m h.text.action h.is_model h.exact_mode h.text.best;
@@ -65,26 +50,20 @@ done_puts : (old new : SinkView) (answer : Answer) (reply : Result (Unit {0}) Si
 done_puts old new answer (Ok done) result put ended e = (sym ended ∙ e, put)
 done_puts old new answer (Err fault) result put ended e = cc
 
--- what is put where the file's bytes have that meaning
-certificate_of_reply : (contents : Contents) (number : ℕ) (name file : List ℕ) (old new : SinkView) (answer : Answer) (horizon : ℕ) (meant : Meaning)
-    → fetch_answer contents number name (most_bytes Model) ≡ Ok file → meaning file ≡ meant → IsPlanReply horizon meant answer
-    → answer.status ≡ statuses.Done → Puts {T = Unit {0}} {E = SinkFailed} old new answer.text (Ok tt) → PutsCertificateOf contents number name old new
-certificate_of_reply contents number name file old new answer horizon (FaultAt place why) given is reply done put =
-    absurd (let status = ap (λ (a : Answer). a.status) reply in cc)
-certificate_of_reply contents number name file old new answer horizon (Passes passed) given is reply done put =
-    absurd (let status = ap (λ (a : Answer). a.status) reply in cc)
-certificate_of_reply contents number name file old new answer horizon (Means read) given is reply done put =
-    let plan = plan_done read.model.model horizon answer reply done in
-    record {
-      file = file;
-      given = given;
-      model = read.model.model;
-      meant = ap model_meant is;
-      is_model = plan.is_model;
-      bytes = answer.text;
-      put = put;
-      certified = plan_certifies read.model.model answer plan;
-    }
+-- what is put of a plan of the model that the file means
+puts_plan : (contents : Contents) (number : ℕ) (name file : List ℕ) (old new : SinkView) (bytes : List ℕ)
+    → fetch_answer contents number name (most_bytes Model) ≡ Ok file → IsPlanOfText file bytes
+    → Puts {T = Unit {0}} {E = SinkFailed} old new bytes (Ok tt) → PutsCertificateOf contents number name old new
+puts_plan contents number name file old new bytes given h put = record {
+  file = file;
+  given = given;
+  model = h.model;
+  meant = h.meant;
+  is_model = h.plan.is_model;
+  bytes = bytes;
+  put = put;
+  certified = plan_certifies h.model bytes h.plan;
+}
 
 -- A job that is done put a certificate whose claims hold.
 certified : (contents : Contents) (number : ℕ) (job : Option Job) (old new : SinkView) (result : Status) → RunsAsTold contents number job old new result → result ≡ statuses.Done
@@ -95,8 +74,8 @@ certified contents number (Some (Plan model horizon nodes look merge order)) old
     ⊎_elim
     (λ told.
     let given = done_plan contents model horizon nodes look merge order told puts.0 in
-    certificate_of_reply contents number model given.0 old new h.answer horizon (meaning given.0) given.1 refl given.2 puts.0 puts.1)
-    (λ memory. absurd (let status = sym puts.0 ∙ ap (λ (a : Answer). a.status) memory in cc))
+    puts_plan contents number model given.0 old new h.answer.text given.1 (done_work (plan_refusal horizon (meaning given.0)) _ h.answer given.2 puts.0) puts.1)
+    (λ memory. absurd (let status = sym puts.0 ∙ status_of memory in cc))
     h.determined
 
 -- the same over a shelf that may tell its contents

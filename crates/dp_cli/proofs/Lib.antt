@@ -1,6 +1,7 @@
 mod Answering
 mod Causes
 mod Certifying
-mod Faulty
 mod Planning
+mod Refusing
+mod Replying
 mod Told

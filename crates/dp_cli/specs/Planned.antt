@@ -1,53 +1,57 @@
 -- What a plan answers.
-use Rattle.std.specs.Prelude.{◌≡◌, ℕ, ◌<◌, Bool, true, false, nat_lt, List, Option, Some, None, Result, Ok, Err, Vec}
+use Rattle.std.specs.Prelude.{◌≡◌, ℕ, true, nat_lt, if◌then◌else◌, List, Option, Some, None, Result, Vec}
 use Rattle.std.specs.declared.alloc.Global.{Global}
-use Rattle.dp_spec.specs.Mode.{IsWithin, is_exact_mode}
+use Rattle.dp_spec.specs.Mode.{is_exact_mode}
 use Rattle.dp_spec.specs.Model.{IsModel, Model}
 use Rattle.dp_model.specs.declared.limit.TooLarge.{TooLarge}
 use Rattle.dp_model.specs.Limits.{first_passed}
 use Rattle.dp_model.specs.Horizons.{horizon_limits}
 use Rattle.dp_meaning.specs.Meaning.{Meaning, Means, FaultAt, Passes, meaning}
 use Rattle.dp_plan.specs.ConstantCertificate.{IsBestConstantText}
+use Rattle.dp_cli.specs.declared.refusal.UnbuiltPart.{UnbuiltPart}
 use Rattle.dp_cli.specs.declared.refusal.UnbuiltPart.TheVariants.{Horizon, Outward}
 use Rattle.dp_cli.specs.declared.refusal.Refusal.{Refusal}
 use Rattle.dp_cli.specs.declared.refusal.Refusal.TheVariants as refusals
-use Rattle.dp_cli.specs.declared.status.Status.TheVariants.{Done}
-use Rattle.dp_cli.specs.Answer.{Answer, done, refused}
+use Rattle.dp_cli.specs.Answer.{GivesText}
+use Rattle.dp_cli.specs.ModelText.{model_of_text}
 
--- The answer is the text of the certificate of the best constant policy of a model, in exact mode: the policy that always does the
+-- what a plan over so many steps needs that is not built yet: more than one step, or outward mode
+abbrev pub unbuilt_part : Model → ℕ → Option UnbuiltPart
+unbuilt_part m horizon = if nat_lt 1 horizon then Some Horizon else if is_exact_mode m horizon then None else Some Outward
+
+-- a limit that is passed comes before what is not built yet
+abbrev pub refusal_by : Option TooLarge → Option UnbuiltPart → Option Refusal
+refusal_by (Some passed) part = Some (refusals.TooLarge passed)
+refusal_by None (Some part) = Some (refusals.Unbuilt part)
+refusal_by None None = None
+
+-- why a model is not planned over so many steps
+abbrev pub horizon_refusal : Model → ℕ → Option Refusal
+horizon_refusal m horizon = refusal_by (first_passed (horizon_limits m horizon)) (unbuilt_part m horizon)
+
+-- why a file that means that is not planned over so many steps
+abbrev pub plan_refusal : ℕ → Meaning → Option Refusal
+plan_refusal horizon (FaultAt place why) = Some (refusals.BadModel place.line place.column why)
+plan_refusal horizon (Passes passed) = Some (refusals.TooLarge passed)
+plan_refusal horizon (Means read) = horizon_refusal read.model.model horizon
+
+-- The bytes are the text of the certificate of the best constant policy of a model, in exact mode: the policy that always does the
 -- least joint action among those of greatest value, whose value is both ends of the interval and the one leaf of the tree.
-pub record IsPlanOf (m : Model) (answer : Answer) : Type 0 where
+pub record IsPlanOf (m : Model) (bytes : List ℕ) : Type 0 where
   pub is_model : IsModel m
   pub exact_mode : is_exact_mode m 1 ≡ true
-  pub status : answer.status ≡ Done
-  pub text : IsBestConstantText m answer.text
+  pub text : IsBestConstantText m bytes
 
--- One step is planned in exact mode; more steps, and outward mode, are not built yet.
-abbrev pub IsBuiltPlan : Model → (is_long is_exact : Bool) → Answer → Type 0
-IsBuiltPlan m true is_exact answer = answer ≡ refused (refusals.Unbuilt Horizon)
-IsBuiltPlan m false false answer = answer ≡ refused (refusals.Unbuilt Outward)
-IsBuiltPlan m false true answer = IsPlanOf m answer
+-- A file means a model, and the bytes are a plan of it.
+pub record IsPlanOfText (file bytes : List ℕ) : Type 0 where
+  pub model : Model
+  pub meant : model_of_text file ≡ Some model
+  pub plan : IsPlanOf model bytes
 
--- the limits of the horizon are tried before
-abbrev pub IsPlanWithin : Model → ℕ → Option TooLarge → Answer → Type 0
-IsPlanWithin m horizon (Some passed) answer = answer ≡ refused (refusals.TooLarge passed)
-IsPlanWithin m horizon None answer = IsBuiltPlan m (nat_lt 1 horizon) (is_exact_mode m horizon) answer
-
--- what is answered to a plan over so many steps where a file's bytes mean that
-abbrev pub IsPlanReply : ℕ → Meaning → Answer → Type 0
-IsPlanReply horizon (FaultAt place why) answer = answer ≡ refused (refusals.BadModel place.line place.column why)
-IsPlanReply horizon (Passes passed) answer = answer ≡ refused (refusals.TooLarge passed)
-IsPlanReply horizon (Means read) answer =
-    let m = read.model.model in IsPlanWithin m horizon (first_passed (horizon_limits m horizon)) answer
-
--- the text of a plan for a model, or why there is none; memory may run out over each
+-- the text of a plan for a model, or why there is none
 abbrev pub PlansModel : ℕ → Model → Result (Vec ℕ Global) Refusal → Type 0
-PlansModel horizon m (Ok text) = IsPlanWithin m horizon (first_passed (horizon_limits m horizon)) (done text.items)
-PlansModel horizon m (Err refusals.Memory) = Unit {0}
-PlansModel horizon m (Err refusal) = IsPlanWithin m horizon (first_passed (horizon_limits m horizon)) (refused refusal)
+PlansModel horizon m result = GivesText (horizon_refusal m horizon) (λ bytes. IsPlanOf m bytes) result
 
--- the text of a plan for the model of these bytes, or why there is none; memory may run out over each
+-- the text of a plan for the model of a file, or why there is none
 abbrev pub PlansText : ℕ → List ℕ → Result (Vec ℕ Global) Refusal → Type 0
-PlansText horizon bytes (Ok text) = IsPlanReply horizon (meaning bytes) (done text.items)
-PlansText horizon bytes (Err refusals.Memory) = Unit {0}
-PlansText horizon bytes (Err refusal) = IsPlanReply horizon (meaning bytes) (refused refusal)
+PlansText horizon file result = GivesText (plan_refusal horizon (meaning file)) (λ bytes. IsPlanOfText file bytes) result

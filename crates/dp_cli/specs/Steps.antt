@@ -1,5 +1,5 @@
 -- The steps of a call, one function of the code each.
-use Rattle.std.specs.Prelude.{◌≡◌, ℕ, ◌⊎◌, List, Result, Ok, Err, Vec}
+use Rattle.std.specs.Prelude.{◌≡◌, ℕ, List, Result, Ok, Err, Vec}
 use Rattle.std.specs.declared.alloc.Global.{Global}
 use Rattle.dp_io.specs.declared.shelf.FetchFault.{FetchFault}
 use Rattle.dp_io.specs.Shelf.{ShelfView, Fetches}
@@ -12,7 +12,7 @@ use Rattle.dp_cli.specs.declared.status.Status.{Status}
 use Rattle.dp_cli.specs.Refusal.{most_bytes, fetch_refusal}
 use Rattle.dp_cli.specs.Answer.{Answer, refused, done}
 use Rattle.dp_cli.specs.Job.{File}
-use Rattle.dp_cli.specs.Put.{PutsAnswer}
+use Rattle.dp_cli.specs.Put.{PutsAnswer, PutsOrMemory}
 
 -- the model that a job is about
 abbrev pub model_name : Job → List ℕ
@@ -32,10 +32,6 @@ abbrev pub FetchesFile : ShelfView → ShelfView → File → Result (Vec ℕ Gl
 FetchesFile old new file (Ok text) = Fetches old new file.name (most_bytes file.role) (Ok text)
 FetchesFile old new file (Err refusal) =
     (fault : FetchFault) × (Fetches old new file.name (most_bytes file.role) (Err fault)) × (refusal ≡ fetch_refusal file.role fault)
-
--- the put of a line with a number in it, over which memory may run out
-abbrev pub PutsOrMemory : SinkView → SinkView → Refusal → Status → Type 0
-PutsOrMemory old new refusal result = PutsAnswer old new (refused refusal) result ⊎ PutsAnswer old new (refused refusals.Memory) result
 
 -- the put of a refusal's line
 abbrev pub PutsRefusal : SinkView → SinkView → Refusal → Status → Type 0

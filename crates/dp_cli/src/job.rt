@@ -20,7 +20,8 @@ pub fn do_words<S: Shelf>(
     words: &[String],
     shelf: &mut S,
 ) -> Result<Vec<u8>, Refusal>
-    ensures { Answers (job_of (map string_bytes words.now)) [] (S.view shelf.old) (S.view shelf.new) (answer_of result) }
+    ensures { Answers (job_of (map string_bytes words.now)) []
+        (S.view shelf.old) (S.view shelf.new) (answer_of result) }
 {
     let job = read_words(alloc, words)?;
     do_job(alloc, &job, shelf)
@@ -89,7 +90,8 @@ fn fetch<S: Shelf>(
     role: FileRole,
     name: &Name,
 ) -> Result<Vec<u8>, Refusal>
-    ensures fetched { FetchesFile (S.view shelf.old) (S.view shelf.new) (record { name = name.now; role = role }) result }
+    ensures fetched { FetchesFile (S.view shelf.old) (S.view shelf.new)
+        (record { name = name.now; role = role }) result }
     ensures limit { IfOk result (λ text. length text.items ≤ most_bytes role) }
 {
     match shelf.fetch(alloc, name.text(), role.most_bytes()) {

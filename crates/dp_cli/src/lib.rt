@@ -4,9 +4,10 @@
 
 ghost use Rattle.std.specs.Prelude.{◌≡◌, ◌≢◌, ◌+◌, ◌<◌, ◌^◌, ◌↔◌, None, length, map, string_bytes, IfSome};
 ghost use Rattle.dp_words.specs.Words.{job_of};
-ghost use Rattle.dp_cli.specs.Causes.{HasFaultyModel, LogsFirstOf, LastFailed};
+ghost use Rattle.dp_cli.specs.Causes.{first_refusal, LogsFirstOf, LastFailed, status_by};
 ghost use Rattle.dp_cli.specs.Certified.{IsCertified};
 ghost use Rattle.dp_cli.specs.Job.{files_of};
+ghost use Rattle.dp_cli.specs.Put.{PutsOrMemory};
 ghost use Rattle.dp_cli.specs.Run.{Runs, RunsAsTold};
 
 mod job;
@@ -45,14 +46,21 @@ pub fn run<S: Shelf, W: Sink>(alloc: Global, words: &[String], shelf: &mut S, ou
     ensures certified { result ≡ Status.Done → IfSome (S.view shelf.old).told (λ contents. IsCertified contents
         (length (S.view shelf.old).log) (job_of (map string_bytes words.now)) (W.view out.old) (W.view out.new)) }
 
+    // The exact cause of every status, and the line of every refusal, over such a shelf.
+    ensures cause { result ≢ Status.WriteFault → result ≢ Status.NoMemory →
+        IfSome (S.view shelf.old).told (λ contents. result ≡ status_by
+        (first_refusal contents (length (S.view shelf.old).log) (job_of (map string_bytes words.now)))) }
+    ensures refused { IfSome (S.view shelf.old).told (λ contents.
+        IfSome (first_refusal contents (length (S.view shelf.old).log) (job_of (map string_bytes words.now)))
+        (λ refusal. PutsOrMemory (W.view out.old) (W.view out.new) refusal result)) }
+
     // Plain facts that follow from these.
-    ensures fetched { LogsFirstOf (files_of (job_of (map string_bytes words.now))) (S.view shelf.old).log (S.view shelf.new).log }
+    ensures fetched { LogsFirstOf (files_of (job_of (map string_bytes words.now)))
+        (S.view shelf.old).log (S.view shelf.new).log }
     ensures unchanged { (S.view shelf.new).told ≡ (S.view shelf.old).told }
     ensures one_put { (W.view out.new).puts ≡ (W.view out.old).puts + 1 }
     ensures usage { result ≢ Status.WriteFault → result ≢ Status.NoMemory →
         ((result ≡ Status.Usage) ↔ (job_of (map string_bytes words.now) ≡ None)) }
-    ensures bad_model { result ≢ Status.WriteFault → result ≢ Status.NoMemory → IfSome (S.view shelf.old).told (λ contents.
-        (result ≡ Status.BadModel) ↔ HasFaultyModel contents (length (S.view shelf.old).log) (job_of (map string_bytes words.now))) }
     ensures read_fault { result ≢ Status.WriteFault →
         ((result ≡ Status.ReadFault) ↔ LastFailed (S.view shelf.old).log (S.view shelf.new).log) }
     ensures write_fault { (result ≡ Status.WriteFault) ↔ ((W.view out.old).faults < (W.view out.new).faults) }

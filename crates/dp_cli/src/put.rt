@@ -47,8 +47,11 @@ fn put_refusal<W: Sink>(alloc: Global, out: &mut W, refusal: Refusal) -> Status
 // Puts a line that took memory, or tells that there was none.
 fn put_line<W: Sink>(out: &mut W, status: Status, line: Result<String, Memory>) -> Status
     requires { (W.view out.old).puts < 2 ^ 63 }
-    ensures line { IfOk line (λ line. PutsAnswer (W.view out.old) (W.view out.new) (record { status = status; text = string_bytes line }) result) }
-    ensures memory { IfErr line (λ _. PutsAnswer (W.view out.old) (W.view out.new) (refused Refusal.Memory) result) }
+    ensures line { IfOk line
+        (λ line. PutsAnswer (W.view out.old) (W.view out.new)
+        (record { status = status; text = string_bytes line }) result) }
+    ensures memory { IfErr line
+        (λ _. PutsAnswer (W.view out.old) (W.view out.new) (refused Refusal.Memory) result) }
 {
     match line {
         Ok(line) => put(out, status, line.as_bytes()),

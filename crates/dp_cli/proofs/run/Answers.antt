@@ -1,7 +1,7 @@
 use Rattle.dp_cli.proofs.Answering.{runs_by}
 use Rattle.dp_cli.proofs.Causes.{contents_unchanged, logs_files, read_fault_runs, usage_runs}
 use Rattle.dp_cli.proofs.Certifying.{certified_as_told}
-use Rattle.dp_cli.proofs.Faulty.{bad_model_as_told}
+use Rattle.dp_cli.proofs.Refusing.{cause_as_told, refused_as_told}
 use Rattle.dp_cli.proofs.Told.{runs_as_told}
 use Rattle.dp_cli.proofs.run.Goals as goal
 
@@ -26,6 +26,9 @@ returns-clause-certified g c = certified_as_told _ _ _ _ _ _ (runs_as_told _ _ _
 pub returns-clause-usage : goal.returns-clause-usage
 returns-clause-usage g c = usage_runs (runs_by c.do_words-outcome.result c.do_words-outcome.ensures c.put_outcome.ensures)
 
-pub returns-clause-bad_model : goal.returns-clause-bad_model
-returns-clause-bad_model g c = λ no_fault found.
-    bad_model_as_told _ _ _ _ _ _ (runs_as_told _ _ _ _ _ _ (runs_by c.do_words-outcome.result c.do_words-outcome.ensures c.put_outcome.ensures)) no_fault found
+pub returns-clause-cause : goal.returns-clause-cause
+returns-clause-cause g c = λ no_fault found.
+    cause_as_told _ _ _ _ _ _ (runs_as_told _ _ _ _ _ _ (runs_by c.do_words-outcome.result c.do_words-outcome.ensures c.put_outcome.ensures)) no_fault found
+
+pub returns-clause-refused : goal.returns-clause-refused
+returns-clause-refused g c = refused_as_told _ _ _ _ _ _ (runs_as_told _ _ _ _ _ _ (runs_by c.do_words-outcome.result c.do_words-outcome.ensures c.put_outcome.ensures))
