@@ -16,7 +16,7 @@ use Rattle.dp_cli.specs.Answer.{Answer}
 use Rattle.dp_cli.specs.Certified.{CertifiesFor, IsCertified, PutsCertificateOf}
 use Rattle.dp_cli.specs.Job.{File, IsReply}
 use Rattle.dp_meaning.specs.Meaning.{meaning}
-use Rattle.dp_cli.proofs.Refusing.{after_file}
+use Rattle.dp_cli.proofs.Refusing.{after_file, usage_answered}
 use Rattle.dp_cli.proofs.Replying.{done_work, not_done, status_of}
 use Rattle.dp_cli.specs.Planned.{IsPlanOf, IsPlanOfText, plan_refusal}
 use Rattle.dp_cli.specs.Put.{status_after}
@@ -36,9 +36,10 @@ module _ (contents : Contents) (model : List ℕ) (horizon nodes look : ℕ) (me
       (text, rw same at told, after_file contents model horizon nodes look merge order rest)
 
 -- the text of the best constant policy's certificate certifies for its model
-plan_certifies : (m : models.Model) (bytes : List ℕ) → IsPlanOf m bytes → CertifiesFor m bytes
-plan_certifies m bytes h = record {
+plan_certifies : (m : models.Model) (horizon : ℕ) (bytes : List ℕ) → IsPlanOf m horizon bytes → CertifiesFor m horizon bytes
+plan_certifies m horizon bytes h = record {
   certificate = constant_certificate m h.text.action;
+  over = sym h.one_step;
   spelled = h.text.spelled;
   valid = best_constant_is_valid m h.text.action h.is_model h.exact_mode h.text.best;
   claims = best_constant_claims_hold m h.text.action h.is_model h.exact_mode h.text.best;
@@ -51,10 +52,10 @@ done_puts old new answer (Ok done) result put ended e = (sym ended ∙ e, put)
 done_puts old new answer (Err fault) result put ended e = cc
 
 -- what is put of a plan of the model that the file means
-puts_plan : (contents : Contents) (number : ℕ) (name file : List ℕ) (old new : SinkView) (bytes : List ℕ)
-    → fetch_answer contents number name (most_bytes Model) ≡ Ok file → IsPlanOfText file bytes
-    → Puts {T = Unit {0}} {E = SinkFailed} old new bytes (Ok tt) → PutsCertificateOf contents number name old new
-puts_plan contents number name file old new bytes given h put = record {
+puts_plan : (contents : Contents) (number : ℕ) (name file : List ℕ) (horizon : ℕ) (old new : SinkView) (bytes : List ℕ)
+    → fetch_answer contents number name (most_bytes Model) ≡ Ok file → IsPlanOfText file horizon bytes
+    → Puts {T = Unit {0}} {E = SinkFailed} old new bytes (Ok tt) → PutsCertificateOf contents number name horizon old new
+puts_plan contents number name file horizon old new bytes given h put = record {
   file = file;
   given = given;
   model = h.model;
@@ -62,19 +63,24 @@ puts_plan contents number name file old new bytes given h put = record {
   is_model = h.plan.is_model;
   bytes = bytes;
   put = put;
-  certified = plan_certifies h.model bytes h.plan;
+  certified = plan_certifies h.model horizon bytes h.plan;
 }
 
 -- A job that is done put a certificate whose claims hold.
 certified : (contents : Contents) (number : ℕ) (job : Option Job) (old new : SinkView) (result : Status) → RunsAsTold contents number job old new result → result ≡ statuses.Done
     → IsCertified contents number job old new
-certified contents number None old new result h done = tt
+certified contents number None old new result h done =
+    let puts = done_puts old new h.answer h.puts.reply result h.puts.put h.puts.ended done in
+    ⊎_elim
+    (λ told. absurd (let status = sym puts.0 ∙ status_of (usage_answered told) in cc))
+    (λ memory. absurd (let status = sym puts.0 ∙ status_of memory in cc))
+    h.determined
 certified contents number (Some (Plan model horizon nodes look merge order)) old new result h done =
     let puts = done_puts old new h.answer h.puts.reply result h.puts.put h.puts.ended done in
     ⊎_elim
     (λ told.
     let given = done_plan contents model horizon nodes look merge order told puts.0 in
-    puts_plan contents number model given.0 old new h.answer.text given.1 (done_work (plan_refusal horizon (meaning given.0)) _ h.answer given.2 puts.0) puts.1)
+    puts_plan contents number model given.0 horizon old new h.answer.text given.1 (done_work (plan_refusal horizon (meaning given.0)) _ h.answer given.2 puts.0) puts.1)
     (λ memory. absurd (let status = sym puts.0 ∙ status_of memory in cc))
     h.determined
 

@@ -57,7 +57,7 @@ module _ (contents : Contents) (model : List ℕ) (horizon nodes look : ℕ) (me
       let same : file ≡ wanted = cc in
       plan_answer horizon _ _ answer (rw same at told) (answer_as (plan_refusal horizon (meaning text)) _ _ answer (λ text plan. tt) (after_file rest))
 
-usage_answered : {contents : Contents} {number : ℕ} {answer : Answer} → IsToldAnswer contents None number [] answer
+pub usage_answered : {contents : Contents} {number : ℕ} {answer : Answer} → IsToldAnswer contents None number [] answer
     → answer ≡ refused refusals.Usage
 usage_answered (IsToldAnswer.replies asked reply) = reply
 usage_answered (IsToldAnswer.refuses file fault asked told) = cc

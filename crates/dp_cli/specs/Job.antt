@@ -36,7 +36,7 @@ refusal_of _ texts = None
 -- The text that a job puts that has been given these texts and is not refused. It is a relation,
 -- since some commands leave a choice.
 abbrev pub IsWork : Option Job → List (List ℕ) → List ℕ → Type 0
-IsWork (Some (Plan model horizon nodes look merge order)) (text ∷ []) bytes = IsPlanOfText text bytes
+IsWork (Some (Plan model horizon nodes look merge order)) (text ∷ []) bytes = IsPlanOfText text horizon bytes
 IsWork _ texts bytes = ⊥
 
 -- What a job may answer when it has been given these texts and asks for no more. Want of memory is

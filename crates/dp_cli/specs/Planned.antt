@@ -35,23 +35,25 @@ plan_refusal horizon (FaultAt place why) = Some (refusals.BadModel place.line pl
 plan_refusal horizon (Passes passed) = Some (refusals.TooLarge passed)
 plan_refusal horizon (Means read) = horizon_refusal read.model.model horizon
 
--- The bytes are the text of the certificate of the best constant policy of a model, in exact mode: the policy that always does the
--- least joint action among those of greatest value, whose value is both ends of the interval and the one leaf of the tree.
-pub record IsPlanOf (m : Model) (bytes : List ℕ) : Type 0 where
+-- The bytes are the text of the certificate of the best constant policy of a model over one step, in exact mode: the policy that
+-- always does the least joint action among those of greatest value, whose value is both ends of the interval and the one leaf of
+-- the tree.
+pub record IsPlanOf (m : Model) (horizon : ℕ) (bytes : List ℕ) : Type 0 where
   pub is_model : IsModel m
+  pub one_step : horizon ≡ 1
   pub exact_mode : is_exact_mode m 1 ≡ true
   pub text : IsBestConstantText m bytes
 
--- A file means a model, and the bytes are a plan of it.
-pub record IsPlanOfText (file bytes : List ℕ) : Type 0 where
+-- A file means a model, and the bytes are a plan of it over so many steps.
+pub record IsPlanOfText (file : List ℕ) (horizon : ℕ) (bytes : List ℕ) : Type 0 where
   pub model : Model
   pub meant : model_of_text file ≡ Some model
-  pub plan : IsPlanOf model bytes
+  pub plan : IsPlanOf model horizon bytes
 
 -- the text of a plan for a model, or why there is none
 abbrev pub PlansModel : ℕ → Model → Result (Vec ℕ Global) Refusal → Type 0
-PlansModel horizon m result = GivesText (horizon_refusal m horizon) (λ bytes. IsPlanOf m bytes) result
+PlansModel horizon m result = GivesText (horizon_refusal m horizon) (λ bytes. IsPlanOf m horizon bytes) result
 
 -- the text of a plan for the model of a file, or why there is none
 abbrev pub PlansText : ℕ → List ℕ → Result (Vec ℕ Global) Refusal → Type 0
-PlansText horizon file result = GivesText (plan_refusal horizon (meaning file)) (λ bytes. IsPlanOfText file bytes) result
+PlansText horizon file result = GivesText (plan_refusal horizon (meaning file)) (λ bytes. IsPlanOfText file horizon bytes) result
