@@ -27,20 +27,23 @@ use Rattle.dp_cli.proofs.Replying.{answer_of_given}
 use Rattle.dp_cli.specs.Steps.{model_name, steps_of, answer_of, FetchesFile, PutsOutcome}
 
 -- a fault is answered by its refusal
-answer_to_fault : (role : FileRole) (fault : FetchFault) → IsAnswerToFault role fault (refused (fetch_refusal role fault))
+answer_to_fault : (role : FileRole) (fault : FetchFault)
+    → IsAnswerToFault role fault (refused (fetch_refusal role fault))
 answer_to_fault role Failed = refl
 answer_to_fault role (TooLong count) = inl refl
 answer_to_fault role Memory = refl
 
 -- A job that asked for a file, and was given a refusal, answers it.
-pub refuses_file : {job : Option Job} {texts : List (List ℕ)} {old new : ShelfView} (file : File) (refusal : Refusal) → asks job texts ≡ Some file
+pub refuses_file : {job : Option Job} {texts : List (List ℕ)} {old new : ShelfView} (file : File) (refusal : Refusal)
+    → asks job texts ≡ Some file
     → FetchesFile old new file (Err refusal) → Answers job texts old new (refused refusal)
 refuses_file {job} {texts} {old} {new} file refusal asked fetched =
     subst (λ (r : Refusal). Answers job texts old new (refused r)) (sym fetched.2)
     (Answers.refuses file fetched.0 asked fetched.1 (answer_to_fault file.role fetched.0))
 
 -- Memory may run out over each answer but that of a fetch that failed.
-pub or_memory : {job : Option Job} {texts : List (List ℕ)} {old new : ShelfView} {answer : Answer} → Answers job texts old new answer
+pub or_memory : {job : Option Job} {texts : List (List ℕ)} {old new : ShelfView} {answer : Answer}
+    → Answers job texts old new answer
     → answer.status ≢ statuses.ReadFault → Answers job texts old new (refused refusals.Memory)
 or_memory (Answers.replies asked reply) h = Answers.wants_memory
 or_memory (Answers.refuses file Failed asked fetched why) h = absurd (h (ap (λ (a : Answer). a.status) why))
@@ -57,17 +60,22 @@ refuses_words {job} {shelf} word_faults.Usage none =
 refuses_words word_faults.Memory none = Answers.wants_memory
 
 -- a line that took memory is put, or the line that tells that there was none
-pub puts_line : {old new : SinkView} {status result : Status} (text : List ℕ) (line : Result (String Global) MemoryFault)
-    → IfOk line (λ l. string_bytes l ≡ text) → IfOk line (λ l. PutsAnswer old new (record { status = status; text = string_bytes l }) result)
+pub puts_line : {old new : SinkView} {status result : Status} (text : List ℕ)
+    (line : Result (String Global) MemoryFault)
+    → IfOk line (λ l. string_bytes l ≡ text)
+    → IfOk line (λ l. PutsAnswer old new (record { status = status; text = string_bytes l }) result)
     → IfErr line (λ _. PutsAnswer old new (refused refusals.Memory) result)
-    → PutsAnswer old new (record { status = status; text = text }) result ⊎ PutsAnswer old new (refused refusals.Memory) result
+    → PutsAnswer old new (record { status = status; text = text }) result
+    ⊎ PutsAnswer old new (refused refusals.Memory) result
 puts_line {old} {new} {status} {result} text (Ok line) is puts none =
     inl (subst (λ (t : List ℕ). PutsAnswer old new (record { status = status; text = t }) result) is puts)
 puts_line text (Err memory) is puts none = inr none
 
 -- An outcome that is put is what the job answers.
-pub runs_by : {job : Option Job} {shelf shelf' : ShelfView} {sink sink' : SinkView} {result : Status} (outcome : Result (Vec ℕ Global) Refusal)
-    → Answers job [] shelf shelf' (answer_of outcome) → PutsOutcome sink sink' outcome result → Runs job shelf shelf' sink sink' result
+pub runs_by : {job : Option Job} {shelf shelf' : ShelfView} {sink sink' : SinkView} {result : Status}
+    (outcome : Result (Vec ℕ Global) Refusal)
+    → Answers job [] shelf shelf' (answer_of outcome) → PutsOutcome sink sink' outcome result
+    → Runs job shelf shelf' sink sink' result
 runs_by (Ok text) answers puts = record { answer = done text.items; answers = answers; puts = puts }
 runs_by (Err refusals.Usage) answers puts = record { answer = refused refusals.Usage; answers = answers; puts = puts }
 runs_by (Err (refusals.BadModel line column why)) answers puts =

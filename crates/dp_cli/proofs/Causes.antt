@@ -23,7 +23,8 @@ use Rattle.dp_cli.proofs.Planning.{no_read_fault, no_usage, plan_status}
 use Rattle.dp_cli.proofs.Replying.{status_of}
 
 -- a job leaves what the shelf holds, and which fetches fail
-pub contents_unchanged : {job : Option Job} {texts : List (List ℕ)} {old new : ShelfView} {answer : Answer} → Answers job texts old new answer
+pub contents_unchanged : {job : Option Job} {texts : List (List ℕ)} {old new : ShelfView} {answer : Answer}
+    → Answers job texts old new answer
     → new.told ≡ old.told
 contents_unchanged (Answers.replies asked reply) = refl
 contents_unchanged (Answers.refuses file fault asked fetched why) = fetched.unchanged
@@ -43,24 +44,28 @@ asks_next None texts file text asked = cc
 asks_next (Some (Plan model horizon nodes look merge order)) [] file text asked = cc
 asks_next (Some (Plan model horizon nodes look merge order)) (first ∷ texts) file text asked = cc
 
-one_fetched : {old new : List Entry} {files left : List (List ℕ)} (entry : Entry) → files ≡ entry.name ∷ left → new ≡ old ++ entry ∷ []
+one_fetched : {old new : List Entry} {files left : List (List ℕ)} (entry : Entry) → files ≡ entry.name ∷ left
+    → new ≡ old ++ entry ∷ []
     → LogsFirstOf files old new
 one_fetched {old} {new} {files} {left} entry next logged = record { fetched = entry ∷ []; appended = logged; rest = left; names = next }
 
 none_fetched : {old new : List Entry} {files : List (List ℕ)} → new ≡ old ++ [] → LogsFirstOf files old new
 none_fetched {old} {new} {files} logged = record { fetched = []; appended = logged; rest = files; names = refl }
 
-fault_fetched : {old new : ShelfView} {files left : List (List ℕ)} {name : List ℕ} {most : ℕ} (fault : FetchFault) → files ≡ name ∷ left
+fault_fetched : {old new : ShelfView} {files left : List (List ℕ)} {name : List ℕ} {most : ℕ} (fault : FetchFault)
+    → files ≡ name ∷ left
     → Fetches old new name most (Err fault) → LogsFirstOf files old.log new.log
 fault_fetched faults.Failed next fetched = one_fetched _ next fetched.logged
 fault_fetched (faults.TooLong count) next fetched = one_fetched _ next fetched.logged
 fault_fetched faults.Memory next fetched = none_fetched fetched.logged
 
 -- an entry, and what is appended after it
-after_entry : (old between new more : List Entry) (entry : Entry) → new ≡ between ++ more → between ≡ old ++ entry ∷ [] → new ≡ old ++ entry ∷ more
+after_entry : (old between new more : List Entry) (entry : Entry) → new ≡ between ++ more
+    → between ≡ old ++ entry ∷ [] → new ≡ old ++ entry ∷ more
 after_entry old between new more entry grown logged = grown ∙ ap (λ (log : List Entry). log ++ more) logged ∙ append_assoc old (entry ∷ []) more
 
-more_fetched : {old between new : List Entry} {files left : List (List ℕ)} (entry : Entry) → files ≡ entry.name ∷ left → between ≡ old ++ entry ∷ []
+more_fetched : {old between new : List Entry} {files left : List (List ℕ)} (entry : Entry) → files ≡ entry.name ∷ left
+    → between ≡ old ++ entry ∷ []
     → LogsFirstOf left between new → LogsFirstOf files old new
 more_fetched {old} {between} {new} {files} {left} entry next logged h =
     record {
@@ -70,38 +75,44 @@ more_fetched {old} {between} {new} {files} {left} entry next logged h =
       names = next ∙ ap (λ (names : List (List ℕ)). entry.name ∷ names) h.names;
     }
 
-logs_left : {job : Option Job} {texts : List (List ℕ)} {old new : ShelfView} {answer : Answer} → Answers job texts old new answer
+logs_left : {job : Option Job} {texts : List (List ℕ)} {old new : ShelfView} {answer : Answer}
+    → Answers job texts old new answer
     → LogsFirstOf (files_left job texts) old.log new.log
 logs_left (Answers.replies asked reply) = none_fetched (sym (append-nil _))
 logs_left {job} {texts} (Answers.refuses file fault asked fetched why) = fault_fetched fault (asks_next job texts file [] asked) fetched
 logs_left {job} {texts} (Answers.goes_on file text asked fetched rest) = more_fetched _ (asks_next job texts file text.items asked) fetched.logged (logs_left rest)
 logs_left Answers.wants_memory = none_fetched (sym (append-nil _))
 
-pub logs_files : {job : Option Job} {old new : ShelfView} {answer : Answer} → Answers job [] old new answer → LogsFirstOf (files_of job) old.log new.log
+pub logs_files : {job : Option Job} {old new : ShelfView} {answer : Answer} → Answers job [] old new answer
+    → LogsFirstOf (files_of job) old.log new.log
 logs_files answers = logs_left answers
 
 -- A read fault is answered where the last of them failed
 
-reply_status : (job : Option Job) (texts : List (List ℕ)) (answer : Answer) → IsReply job texts answer → answer.status ≢ ReadFault
+reply_status : (job : Option Job) (texts : List (List ℕ)) (answer : Answer) → IsReply job texts answer
+    → answer.status ≢ ReadFault
 reply_status None texts answer h = λ e. let usage = status_of h in cc
 reply_status (Some (Plan model horizon nodes look merge order)) [] answer h = absurd h.1
 reply_status (Some (Plan model horizon nodes look merge order)) (text ∷ []) answer h = plan_status horizon (meaning text) _ answer ReadFault h no_read_fault
 reply_status (Some (Plan model horizon nodes look merge order)) (text ∷ next ∷ texts) answer h = absurd h.1
 
-later_failed : {old between new : List Entry} (entry : Entry) → between ≡ old ++ entry ∷ [] → LastFailed between new → LastFailed old new
+later_failed : {old between new : List Entry} (entry : Entry) → between ≡ old ++ entry ∷ [] → LastFailed between new
+    → LastFailed old new
 later_failed entry logged h = record {
   before = entry ∷ h.before;
   name = h.name;
   appended = after_entry _ _ _ _ entry h.appended logged;
 }
 
-fault_failed : {old new : ShelfView} {name : List ℕ} {most : ℕ} (answer : Answer) (role : FileRole) (fault : FetchFault) → Fetches old new name most (Err fault)
+fault_failed : {old new : ShelfView} {name : List ℕ} {most : ℕ} (answer : Answer) (role : FileRole)
+    (fault : FetchFault) → Fetches old new name most (Err fault)
     → IsAnswerToFault role fault answer → answer.status ≡ ReadFault → LastFailed old.log new.log
 fault_failed {name = name} answer role faults.Failed fetched why e = record { before = []; name = name; appended = fetched.logged }
 fault_failed answer role (faults.TooLong count) fetched why e = ⊎_elim (λ is. cc) (λ is. cc) why
 fault_failed answer role faults.Memory fetched why e = cc
 
-pub read_fault_failed : {job : Option Job} {texts : List (List ℕ)} {old new : ShelfView} {answer : Answer} → Answers job texts old new answer
+pub read_fault_failed : {job : Option Job} {texts : List (List ℕ)} {old new : ShelfView} {answer : Answer}
+    → Answers job texts old new answer
     → answer.status ≡ ReadFault → LastFailed old.log new.log
 read_fault_failed (Answers.replies asked reply) e = absurd (reply_status _ _ _ reply e)
 read_fault_failed (Answers.refuses file fault asked fetched why) e = fault_failed _ file.role fault fetched why e
@@ -119,7 +130,8 @@ last_counts {old} {new} h =
     ap fault_count h.appended ∙ count_more old (h.before ++ last) ∙ ap (λ (n : ℕ). fault_count old + n) (count_more h.before last) in
     omega arith
 
-fault_counts : {old new : ShelfView} {name : List ℕ} {most : ℕ} (answer : Answer) (role : FileRole) (fault : FetchFault) → Fetches old new name most (Err fault)
+fault_counts : {old new : ShelfView} {name : List ℕ} {most : ℕ} (answer : Answer) (role : FileRole)
+    (fault : FetchFault) → Fetches old new name most (Err fault)
     → IsAnswerToFault role fault answer → fault_count old.log < fault_count new.log → answer.status ≡ ReadFault
 fault_counts answer role faults.Failed fetched why h = ap (λ (a : Answer). a.status) why
 fault_counts {old} answer role (faults.TooLong count) fetched why h =
@@ -129,7 +141,8 @@ fault_counts {old} answer role faults.Memory fetched why h =
     let same = ap fault_count fetched.logged ∙ count_more old.log _ in
     absurd (omega arith)
 
-count_read_fault : {job : Option Job} {texts : List (List ℕ)} {old new : ShelfView} {answer : Answer} → Answers job texts old new answer
+count_read_fault : {job : Option Job} {texts : List (List ℕ)} {old new : ShelfView} {answer : Answer}
+    → Answers job texts old new answer
     → fault_count old.log < fault_count new.log → answer.status ≡ ReadFault
 count_read_fault (Answers.replies asked reply) h = absurd (omega arith)
 count_read_fault (Answers.refuses file fault asked fetched why) h = fault_counts _ file.role fault fetched why h
@@ -138,16 +151,19 @@ count_read_fault {old = old} (Answers.goes_on file text asked fetched rest) h =
     count_read_fault rest (omega arith)
 count_read_fault Answers.wants_memory h = absurd (omega arith)
 
-pub failed_read_fault : {job : Option Job} {texts : List (List ℕ)} {old new : ShelfView} {answer : Answer} → Answers job texts old new answer
+pub failed_read_fault : {job : Option Job} {texts : List (List ℕ)} {old new : ShelfView} {answer : Answer}
+    → Answers job texts old new answer
     → LastFailed old.log new.log → answer.status ≡ ReadFault
 failed_read_fault answers h = count_read_fault answers (last_counts h)
 
 -- the status of a call whose put did not fail
-pub kept_status : (reply : Result (Unit {0}) SinkFailed) (status result : Status) → result ≡ status_after reply status → result ≢ statuses.WriteFault → result ≡ status
+pub kept_status : (reply : Result (Unit {0}) SinkFailed) (status result : Status) → result ≡ status_after reply status
+    → result ≢ statuses.WriteFault → result ≡ status
 kept_status (Ok done) status result ended h = ended
 kept_status (Err fault) status result ended h = absurd (h ended)
 
-pub read_fault_runs : {job : Option Job} {shelf shelf' : ShelfView} {sink sink' : SinkView} {result : Status} → Runs job shelf shelf' sink sink' result
+pub read_fault_runs : {job : Option Job} {shelf shelf' : ShelfView} {sink sink' : SinkView} {result : Status}
+    → Runs job shelf shelf' sink sink' result
     → result ≢ statuses.WriteFault → (result ≡ ReadFault) ↔ LastFailed shelf.log shelf'.log
 read_fault_runs h no_fault =
     let kept = kept_status h.puts.reply _ _ h.puts.ended no_fault in
@@ -155,13 +171,15 @@ read_fault_runs h no_fault =
 
 -- ---- a fault of usage is answered exactly where the words give no job
 
-fault_no_usage : (role : FileRole) (fault : FetchFault) (answer : Answer) → IsAnswerToFault role fault answer → answer.status ≢ statuses.Usage
+fault_no_usage : (role : FileRole) (fault : FetchFault) (answer : Answer) → IsAnswerToFault role fault answer
+    → answer.status ≢ statuses.Usage
 fault_no_usage role faults.Failed answer why = λ e. cc
 fault_no_usage role (faults.TooLong count) answer why = λ e. ⊎_elim (λ is. cc) (λ is. cc) why
 fault_no_usage role faults.Memory answer why = λ e. cc
 
 -- a job that was given its file replies no fault of usage
-given_reply : (job : Option Job) (first : List ℕ) (texts : List (List ℕ)) (answer : Answer) → IsReply job (first ∷ texts) answer → job ≢ None
+given_reply : (job : Option Job) (first : List ℕ) (texts : List (List ℕ)) (answer : Answer)
+    → IsReply job (first ∷ texts) answer → job ≢ None
     → answer.status ≢ statuses.Usage
 given_reply None first texts answer reply some = λ e. some refl
 given_reply (Some (Plan model horizon nodes look merge order)) first [] answer reply some =
@@ -173,7 +191,8 @@ first_reply : (job : Option Job) (answer : Answer) → IsReply job [] answer →
 first_reply None answer reply = refl
 first_reply (Some (Plan model horizon nodes look merge order)) answer reply = absurd reply.1
 
-given_no_usage : {job : Option Job} {first : List ℕ} {texts : List (List ℕ)} {old new : ShelfView} {answer : Answer} → Answers job (first ∷ texts) old new answer
+given_no_usage : {job : Option Job} {first : List ℕ} {texts : List (List ℕ)} {old new : ShelfView} {answer : Answer}
+    → Answers job (first ∷ texts) old new answer
     → job ≢ None → answer.status ≢ statuses.Usage
 given_no_usage {job} {first} {texts} (Answers.replies asked reply) some = given_reply job first texts _ reply some
 given_no_usage (Answers.refuses file fault asked fetched why) some = fault_no_usage file.role fault _ why
@@ -184,19 +203,22 @@ asks_some : (job : Option Job) (texts : List (List ℕ)) (file : File) → asks 
 asks_some None texts file asked = λ e. cc
 asks_some (Some job) texts file asked = λ e. cc
 
-usage_no_job : {job : Option Job} {old new : ShelfView} {answer : Answer} → Answers job [] old new answer → answer.status ≡ statuses.Usage → job ≡ None
+usage_no_job : {job : Option Job} {old new : ShelfView} {answer : Answer} → Answers job [] old new answer
+    → answer.status ≡ statuses.Usage → job ≡ None
 usage_no_job {job} (Answers.replies asked reply) e = first_reply job _ reply
 usage_no_job (Answers.refuses file fault asked fetched why) e = absurd (fault_no_usage file.role fault _ why e)
 usage_no_job {job} (Answers.goes_on file text asked fetched rest) e = absurd (given_no_usage rest (asks_some job [] file asked) e)
 usage_no_job Answers.wants_memory e = cc
 
-no_job_usage : {old new : ShelfView} {answer : Answer} → Answers None [] old new answer → answer.status ≢ statuses.NoMemory → answer.status ≡ statuses.Usage
+no_job_usage : {old new : ShelfView} {answer : Answer} → Answers None [] old new answer
+    → answer.status ≢ statuses.NoMemory → answer.status ≡ statuses.Usage
 no_job_usage (Answers.replies asked reply) some = ap (λ (a : Answer). a.status) reply
 no_job_usage (Answers.refuses file fault asked fetched why) some = absurd (asks_some None [] file asked refl)
 no_job_usage (Answers.goes_on file text asked fetched rest) some = absurd (asks_some None [] file asked refl)
 no_job_usage Answers.wants_memory some = absurd (some refl)
 
-pub usage_runs : {job : Option Job} {shelf shelf' : ShelfView} {sink sink' : SinkView} {result : Status} → Runs job shelf shelf' sink sink' result
+pub usage_runs : {job : Option Job} {shelf shelf' : ShelfView} {sink sink' : SinkView} {result : Status}
+    → Runs job shelf shelf' sink sink' result
     → result ≢ statuses.WriteFault → result ≢ statuses.NoMemory → (result ≡ statuses.Usage) ↔ (job ≡ None)
 usage_runs {job} {shelf} {shelf'} {sink} {sink'} {result} h no_fault found =
     let kept = kept_status h.puts.reply _ _ h.puts.ended no_fault in (

@@ -26,7 +26,9 @@ use Rattle.dp_spec.specs.Model as models
 
 module _ (contents : Contents) (model : List ℕ) (horizon nodes look : ℕ) (merge : Bool) (order : OrderWord) where
   -- A plan that is done was given the file of its model, and answered it.
-  done_plan : {number : ℕ} {answer : Answer} → IsToldAnswer contents (Some (Plan model horizon nodes look merge order)) number [] answer → answer.status ≡ statuses.Done
+  done_plan : {number : ℕ} {answer : Answer}
+      → IsToldAnswer contents (Some (Plan model horizon nodes look merge order)) number [] answer
+      → answer.status ≡ statuses.Done
       → (text : List ℕ) × (fetch_answer contents number model (most_bytes Model) ≡ Ok text) × (IsReply (Some (Plan model horizon nodes look merge order)) (text ∷ []) answer)
   done_plan (IsToldAnswer.replies asked reply) e = cc
   done_plan (IsToldAnswer.refuses file fault asked told) e = absurd (not_done (fetch_refusal file.role fault) e)
@@ -36,7 +38,8 @@ module _ (contents : Contents) (model : List ℕ) (horizon nodes look : ℕ) (me
       (text, rw same at told, after_file contents model horizon nodes look merge order rest)
 
 -- the text of the best constant policy's certificate certifies for its model
-plan_certifies : (m : models.Model) (horizon : ℕ) (bytes : List ℕ) → IsPlanOf m horizon bytes → CertifiesFor m horizon bytes
+plan_certifies : (m : models.Model) (horizon : ℕ) (bytes : List ℕ) → IsPlanOf m horizon bytes
+    → CertifiesFor m horizon bytes
 plan_certifies m horizon bytes h = record {
   certificate = constant_certificate m h.text.action;
   over = sym h.one_step;
@@ -46,7 +49,8 @@ plan_certifies m horizon bytes h = record {
 }
 
 -- a call that is done did not fail to put its answer
-done_puts : (old new : SinkView) (answer : Answer) (reply : Result (Unit {0}) SinkFailed) (result : Status) → Puts old new answer.text reply → result ≡ status_after reply answer.status → result ≡ statuses.Done
+done_puts : (old new : SinkView) (answer : Answer) (reply : Result (Unit {0}) SinkFailed) (result : Status)
+    → Puts old new answer.text reply → result ≡ status_after reply answer.status → result ≡ statuses.Done
     → (answer.status ≡ statuses.Done) × (Puts {T = Unit {0}} {E = SinkFailed} old new answer.text (Ok tt))
 done_puts old new answer (Ok done) result put ended e = (sym ended ∙ e, put)
 done_puts old new answer (Err fault) result put ended e = cc
@@ -54,7 +58,8 @@ done_puts old new answer (Err fault) result put ended e = cc
 -- what is put of a plan of the model that the file means
 puts_plan : (contents : Contents) (number : ℕ) (name file : List ℕ) (horizon : ℕ) (old new : SinkView) (bytes : List ℕ)
     → fetch_answer contents number name (most_bytes Model) ≡ Ok file → IsPlanOfText file horizon bytes
-    → Puts {T = Unit {0}} {E = SinkFailed} old new bytes (Ok tt) → PutsCertificateOf contents number name horizon old new
+    → Puts {T = Unit {0}} {E = SinkFailed} old new bytes (Ok tt)
+    → PutsCertificateOf contents number name horizon old new
 puts_plan contents number name file horizon old new bytes given h put = record {
   file = file;
   given = given;
@@ -67,7 +72,8 @@ puts_plan contents number name file horizon old new bytes given h put = record {
 }
 
 -- A job that is done put a certificate whose claims hold.
-certified : (contents : Contents) (number : ℕ) (job : Option Job) (old new : SinkView) (result : Status) → RunsAsTold contents number job old new result → result ≡ statuses.Done
+certified : (contents : Contents) (number : ℕ) (job : Option Job) (old new : SinkView) (result : Status)
+    → RunsAsTold contents number job old new result → result ≡ statuses.Done
     → IsCertified contents number job old new
 certified contents number None old new result h done =
     let puts = done_puts old new h.answer h.puts.reply result h.puts.put h.puts.ended done in
@@ -86,6 +92,7 @@ certified contents number (Some (Plan model horizon nodes look merge order)) old
 
 -- the same over a shelf that may tell its contents
 pub certified_as_told : (told : Option Contents) (number : ℕ) (job : Option Job) (old new : SinkView) (result : Status)
-    → IfSome told (λ contents. RunsAsTold contents number job old new result) → result ≡ statuses.Done → IfSome told (λ contents. IsCertified contents number job old new)
+    → IfSome told (λ contents. RunsAsTold contents number job old new result) → result ≡ statuses.Done
+    → IfSome told (λ contents. IsCertified contents number job old new)
 certified_as_told None number job old new result h done = tt
 certified_as_told (Some contents) number job old new result h done = certified contents number job old new result h done

@@ -27,7 +27,8 @@ refused_model horizon bytes (model_faults.TooLarge passed) is = ap (plan_refusal
 refused_model horizon bytes model_faults.Memory is = tt
 
 -- what is answered to the model that the bytes mean
-pub planned : (horizon : ℕ) (bytes : List ℕ) (read : ReadModel) (result : Result (Vec ℕ Global) Refusal) → IsMeaning (meaning bytes) (Ok read)
+pub planned : (horizon : ℕ) (bytes : List ℕ) (read : ReadModel) (result : Result (Vec ℕ Global) Refusal)
+    → IsMeaning (meaning bytes) (Ok read)
     → PlansModel horizon read.model.model result → PlansText horizon bytes result
 planned horizon bytes read result is h =
     gives_as result (sym (ap (plan_refusal horizon) is))
@@ -48,7 +49,8 @@ no_read_fault = record { done = λ e. cc; bad_model = λ e. cc; too_large = λ e
 pub no_usage : IsNoPlanStatus statuses.Usage
 no_usage = record { done = λ e. cc; bad_model = λ e. cc; too_large = λ e. cc; unbuilt = λ e. cc }
 
-horizon_status : (passed : Option TooLarge) (part : Option UnbuiltPart) (IsText : List ℕ → Type 0) (answer : Answer) (status : Status)
+horizon_status : (passed : Option TooLarge) (part : Option UnbuiltPart) (IsText : List ℕ → Type 0) (answer : Answer)
+    (status : Status)
     → IsAnswerOf (refusal_by passed part) IsText answer → IsNoPlanStatus status → answer.status ≢ status
 horizon_status (Some passed) part IsText answer status h other e = other.too_large (sym (status_of h) ∙ e)
 horizon_status None (Some part) IsText answer status h other e = other.unbuilt (sym (status_of h) ∙ e)

@@ -39,7 +39,8 @@ module _ (contents : Contents) (model : List ℕ) (horizon nodes look : ℕ) (me
   plan_job = Some (Plan model horizon nodes look merge order)
 
   -- what is answered where the file of the model is given
-  pub after_file : {number : ℕ} {text : List ℕ} {answer : Answer} → IsToldAnswer contents plan_job number (text ∷ []) answer
+  pub after_file : {number : ℕ} {text : List ℕ} {answer : Answer}
+      → IsToldAnswer contents plan_job number (text ∷ []) answer
       → IsReply plan_job (text ∷ []) answer
   after_file (IsToldAnswer.replies asked reply) = reply
   after_file (IsToldAnswer.refuses file fault asked told) = cc
@@ -64,13 +65,15 @@ usage_answered (IsToldAnswer.refuses file fault asked told) = cc
 usage_answered (IsToldAnswer.goes_on file text asked told rest) = cc
 
 -- What the contents determine is the first refusal, or the work where there is none.
-answered : (contents : Contents) (number : ℕ) (job : Option Job) (answer : Answer) → IsToldAnswer contents job number [] answer
+answered : (contents : Contents) (number : ℕ) (job : Option Job) (answer : Answer)
+    → IsToldAnswer contents job number [] answer
     → IsRefused (first_refusal contents number job) answer
 answered contents number None answer told = usage_answered told
 answered contents number (Some (Plan model horizon nodes look merge order)) answer told =
     plan_answered contents model horizon nodes look merge order told
 
-cause : (contents : Contents) (number : ℕ) (job : Option Job) (old new : SinkView) (result : Status) → RunsAsTold contents number job old new result
+cause : (contents : Contents) (number : ℕ) (job : Option Job) (old new : SinkView) (result : Status)
+    → RunsAsTold contents number job old new result
     → result ≢ statuses.WriteFault → result ≢ statuses.NoMemory → result ≡ status_by (first_refusal contents number job)
 cause contents number job old new result h no_fault found =
     let kept = kept_status h.puts.reply _ _ h.puts.ended no_fault in
@@ -80,8 +83,10 @@ cause contents number job old new result h no_fault found =
     h.determined
 
 -- the line of an answer that is refused so
-puts_refusal : (refusal : Option Refusal) (answer : Answer) (old new : SinkView) (result : Status) → PutsAnswer old new answer result
-    → IsRefused refusal answer ⊎ (answer ≡ refused refusals.Memory) → IfSome refusal (λ r. PutsOrMemory old new r result)
+puts_refusal : (refusal : Option Refusal) (answer : Answer) (old new : SinkView) (result : Status)
+    → PutsAnswer old new answer result
+    → IsRefused refusal answer ⊎ (answer ≡ refused refusals.Memory)
+    → IfSome refusal (λ r. PutsOrMemory old new r result)
 puts_refusal None answer old new result puts h = tt
 puts_refusal (Some refusal) answer old new result puts h =
     ⊎_elim
@@ -89,7 +94,8 @@ puts_refusal (Some refusal) answer old new result puts h =
     (λ memory. inr (subst (λ (a : Answer). PutsAnswer old new a result) memory puts))
     h
 
-refused_line : (contents : Contents) (number : ℕ) (job : Option Job) (old new : SinkView) (result : Status) → RunsAsTold contents number job old new result
+refused_line : (contents : Contents) (number : ℕ) (job : Option Job) (old new : SinkView) (result : Status)
+    → RunsAsTold contents number job old new result
     → IfSome (first_refusal contents number job) (λ refusal. PutsOrMemory old new refusal result)
 refused_line contents number job old new result h =
     puts_refusal (first_refusal contents number job) h.answer old new result h.puts
@@ -97,7 +103,8 @@ refused_line contents number job old new result h =
 
 -- the same over a shelf that may tell its contents
 pub cause_as_told : (told : Option Contents) (number : ℕ) (job : Option Job) (old new : SinkView) (result : Status)
-    → IfSome told (λ contents. RunsAsTold contents number job old new result) → result ≢ statuses.WriteFault → result ≢ statuses.NoMemory
+    → IfSome told (λ contents. RunsAsTold contents number job old new result) → result ≢ statuses.WriteFault
+    → result ≢ statuses.NoMemory
     → IfSome told (λ contents. result ≡ status_by (first_refusal contents number job))
 cause_as_told None number job old new result h no_fault found = tt
 cause_as_told (Some contents) number job old new result h no_fault found = cause contents number job old new result h no_fault found

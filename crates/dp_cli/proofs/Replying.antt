@@ -13,7 +13,8 @@ pub status_of : {answer other : Answer} → answer ≡ other → answer.status �
 status_of e = ap (λ (a : Answer). a.status) e
 
 -- what code gives says so of an equal refusal, and of every kind of text that follows
-pub gives_as : {old new : Option Refusal} {Old New : List ℕ → Type 0} (result : Result (Vec ℕ Global) Refusal) → old ≡ new
+pub gives_as : {old new : Option Refusal} {Old New : List ℕ → Type 0} (result : Result (Vec ℕ Global) Refusal)
+    → old ≡ new
     → ((text : List ℕ) → Old text → New text) → GivesText old Old result → GivesText new New result
 gives_as (Ok text) same to h = (sym same ∙ h.0, to text.items h.1)
 gives_as (Err refusals.Usage) same to h = sym same ∙ h
@@ -40,13 +41,15 @@ answer_of_given refusal IsText (Err (refusals.Unbuilt part)) h found = refused_s
 answer_of_given refusal IsText (Err refusals.Memory) h found = absurd (found refl)
 
 -- an answer says so of every kind of text that follows
-pub answer_as : (refusal : Option Refusal) (Old New : List ℕ → Type 0) (answer : Answer) → ((text : List ℕ) → Old text → New text)
+pub answer_as : (refusal : Option Refusal) (Old New : List ℕ → Type 0) (answer : Answer)
+    → ((text : List ℕ) → Old text → New text)
     → IsAnswerOf refusal Old answer → IsAnswerOf refusal New answer
 answer_as (Some refusal) Old New answer to h = h
 answer_as None Old New answer to h = (h.0, to answer.text h.1)
 
 -- the status of an answer
-pub answer_status : (refusal : Option Refusal) (IsText : List ℕ → Type 0) (answer : Answer) → IsAnswerOf refusal IsText answer
+pub answer_status : (refusal : Option Refusal) (IsText : List ℕ → Type 0) (answer : Answer)
+    → IsAnswerOf refusal IsText answer
     → answer.status ≡ status_by refusal
 answer_status (Some refusal) IsText answer h = status_of h
 answer_status None IsText answer h = h.0
@@ -60,7 +63,8 @@ not_done (refusals.Unbuilt part) = λ e. cc
 not_done refusals.Memory = λ e. cc
 
 -- a command that is done did its work
-pub done_work : (refusal : Option Refusal) (IsText : List ℕ → Type 0) (answer : Answer) → IsAnswerOf refusal IsText answer
+pub done_work : (refusal : Option Refusal) (IsText : List ℕ → Type 0) (answer : Answer)
+    → IsAnswerOf refusal IsText answer
     → answer.status ≡ statuses.Done → IsText answer.text
 done_work (Some refusal) IsText answer h e = absurd (not_done refusal (sym (status_of h) ∙ e))
 done_work None IsText answer h e = h.1

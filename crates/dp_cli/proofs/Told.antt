@@ -26,7 +26,8 @@ fault_answer role Failed answer h = inl h
 fault_answer role (TooLong count) answer h = h
 fault_answer role Memory answer h = inl h
 
-told_fault : {contents : Contents} {job : Option Job} {number : ℕ} {texts : List (List ℕ)} {answer : Answer} (file : File) (fault : FetchFault)
+told_fault : {contents : Contents} {job : Option Job} {number : ℕ} {texts : List (List ℕ)} {answer : Answer}
+    (file : File) (fault : FetchFault)
     → asks job texts ≡ Some file → fetch_answer contents number file.name (most_bytes file.role) ≡ Err fault
     → IsAnswerToFault file.role fault answer → IsTold contents job number texts answer
 told_fault {contents} {job} {number} {texts} {answer} file fault asked told why =
@@ -36,13 +37,15 @@ told_fault {contents} {job} {number} {texts} {answer} file fault asked told why 
     (fault_answer file.role fault answer why)
 
 -- want of memory in a fetch
-memory_fault : (role : FileRole) (fault : FetchFault) (answer : Answer) → fault ≡ Memory → IsAnswerToFault role fault answer → answer ≡ refused refusals.Memory
+memory_fault : (role : FileRole) (fault : FetchFault) (answer : Answer) → fault ≡ Memory
+    → IsAnswerToFault role fault answer → answer ≡ refused refusals.Memory
 memory_fault role Failed answer is why = cc
 memory_fault role (TooLong count) answer is why = cc
 memory_fault role Memory answer is why = why
 
 -- a job answers what the contents determine
-pub told_answer : {contents : Contents} {job : Option Job} {texts : List (List ℕ)} {old new : ShelfView} {answer : Answer} → Answers job texts old new answer
+pub told_answer : {contents : Contents} {job : Option Job} {texts : List (List ℕ)} {old new : ShelfView}
+    {answer : Answer} → Answers job texts old new answer
     → old.told ≡ Some contents → IsTold contents job (length old.log) texts answer
 told_answer (Answers.replies asked reply) is = inl (IsToldAnswer.replies asked reply)
 told_answer {contents} {job} {texts} {old} {new} {answer} (Answers.refuses file fault asked fetched why) is =
@@ -61,12 +64,15 @@ told_answer {contents} {job} {texts} {old} {new} {answer} (Answers.goes_on {betw
     (told_fetch old between contents file.name (most_bytes file.role) (Ok text) is fetched)
 told_answer Answers.wants_memory is = inr refl
 
-by_told : (told : Option Contents) (job : Option Job) (shelf shelf' : ShelfView) (sink sink' : SinkView) (result : Status) → shelf.told ≡ told
-    → Runs job shelf shelf' sink sink' result → IfSome told (λ contents. RunsAsTold contents (length shelf.log) job sink sink' result)
+by_told : (told : Option Contents) (job : Option Job) (shelf shelf' : ShelfView) (sink sink' : SinkView)
+    (result : Status) → shelf.told ≡ told
+    → Runs job shelf shelf' sink sink' result
+    → IfSome told (λ contents. RunsAsTold contents (length shelf.log) job sink sink' result)
 by_told None job shelf shelf' sink sink' result is h = tt
 by_told (Some contents) job shelf shelf' sink sink' result is h = record { answer = h.answer; determined = told_answer h.answers is; puts = h.puts }
 
 -- What a call does over any shelf says what it answers over one that tells its contents.
-pub runs_as_told : (job : Option Job) (shelf shelf' : ShelfView) (sink sink' : SinkView) (result : Status) → Runs job shelf shelf' sink sink' result
+pub runs_as_told : (job : Option Job) (shelf shelf' : ShelfView) (sink sink' : SinkView) (result : Status)
+    → Runs job shelf shelf' sink sink' result
     → IfSome shelf.told (λ contents. RunsAsTold contents (length shelf.log) job sink sink' result)
 runs_as_told job shelf shelf' sink sink' result h = by_told shelf.told job shelf shelf' sink sink' result refl h

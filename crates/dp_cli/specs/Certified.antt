@@ -14,7 +14,8 @@ use Rattle.dp_cli.specs.declared.refusal.FileRole.TheVariants as roles
 use Rattle.dp_cli.specs.ModelText.{model_of_text}
 use Rattle.dp_cli.specs.Refusal.{most_bytes}
 
--- The bytes are the text of a certificate over so many steps that is valid for the model, and what it claims is so: the value of
+-- The bytes are the text of a certificate over so many steps that is valid for the model, and what it claims is so:
+-- the value of
 -- its policy lies in its interval, and no joint policy is worth more than the upper end.
 pub record CertifiesFor (m : Model) (horizon : ℕ) (bytes : List ℕ) : Type 0 where
   pub certificate : Certificate
@@ -23,7 +24,8 @@ pub record CertifiesFor (m : Model) (horizon : ℕ) (bytes : List ℕ) : Type 0 
   pub valid : IsValid m certificate
   pub claims : ClaimsHold m certificate
 
--- The file of that name was given, its bytes mean a model, and one put that did not fail was of bytes that certify for this model.
+-- The file of that name was given, its bytes mean a model, and one put that did not fail was of bytes that certify
+-- for this model.
 pub record PutsCertificateOf (contents : Contents) (number : ℕ) (name : List ℕ) (horizon : ℕ) (old new : SinkView) : Type 0 where
   pub file : List ℕ
   pub given : fetch_answer contents number name (most_bytes roles.Model) ≡ Ok file

@@ -66,7 +66,8 @@ large_line passed = codes "refused large " ++ limit_word passed.what ++ codes " 
 -- what is wrong with a model, and where
 abbrev pub model_line : ℕ → ℕ → Why → List ℕ
 model_line line column why =
-    codes "refused model line " ++ (decimal line ++ (codes " column " ++ (decimal column ++ (codes " " ++ (why_word why ++ codes "\n")))))
+    codes "refused model line " ++ (decimal line ++ (codes " column " ++ (decimal column
+    ++ (codes " " ++ (why_word why ++ codes "\n")))))
 
 -- the number of the fetch that failed
 abbrev pub read_line : FileRole → List ℕ

@@ -19,21 +19,26 @@ use Rattle.dp_cli.specs.Put.{PutsAnswer}
 -- number in it, so memory may run out over it; that of a fetch that failed takes no memory.
 abbrev pub IsAnswerToFault : FileRole → FetchFault → Answer → Type 0
 IsAnswerToFault role fetch_faults.Failed answer = answer ≡ refused (refusals.Read role)
-IsAnswerToFault role (fetch_faults.TooLong count) answer = (answer ≡ refused (long_file role count)) ⊎ (answer ≡ refused refusals.Memory)
+IsAnswerToFault role (fetch_faults.TooLong count) answer =
+    (answer ≡ refused (long_file role count)) ⊎ (answer ≡ refused refusals.Memory)
 IsAnswerToFault role fetch_faults.Memory answer = answer ≡ refused refusals.Memory
 
 -- How a job that has been given these texts goes on over a shelf, and what it answers in the end.
 pub data Answers (job : Option Job) : List (List ℕ) → ShelfView → ShelfView → Answer → Type 0 where
   -- It asks for nothing more, and replies.
-  replies : {texts : List (List ℕ)} {shelf : ShelfView} {answer : Answer} → asks job texts ≡ None → IsReply job texts answer
+  replies : {texts : List (List ℕ)} {shelf : ShelfView} {answer : Answer} → asks job texts ≡ None
+      → IsReply job texts answer
       → Answers job texts shelf shelf answer
   -- It asks for a file that is not given.
-  refuses : {texts : List (List ℕ)} {shelf shelf' : ShelfView} {answer : Answer} (file : File) (fault : FetchFault) → asks job texts ≡ Some file
+  refuses : {texts : List (List ℕ)} {shelf shelf' : ShelfView} {answer : Answer} (file : File) (fault : FetchFault)
+      → asks job texts ≡ Some file
       → Fetches shelf shelf' file.name (most_bytes file.role) (Err fault) → IsAnswerToFault file.role fault answer
       → Answers job texts shelf shelf' answer
   -- It asks for a file that is given, and goes on.
-  goes_on : {texts : List (List ℕ)} {shelf between shelf' : ShelfView} {answer : Answer} (file : File) (text : Vec ℕ Global) → asks job texts ≡ Some file
-      → Fetches shelf between file.name (most_bytes file.role) (Ok text) → Answers job (texts ++ text.items ∷ []) between shelf' answer
+  goes_on : {texts : List (List ℕ)} {shelf between shelf' : ShelfView} {answer : Answer} (file : File)
+      (text : Vec ℕ Global) → asks job texts ≡ Some file
+      → Fetches shelf between file.name (most_bytes file.role) (Ok text)
+      → Answers job (texts ++ text.items ∷ []) between shelf' answer
       → Answers job texts shelf shelf' answer
   -- Memory runs out.
   wants_memory : {texts : List (List ℕ)} {shelf : ShelfView} → Answers job texts shelf shelf (refused refusals.Memory)
@@ -55,7 +60,8 @@ pub data IsToldAnswer (contents : Contents) (job : Option Job) : ℕ → List (L
       → fetch_answer contents number file.name (most_bytes file.role) ≡ Err fault
       → IsToldAnswer contents job number texts (refused (fetch_refusal file.role fault))
   -- It asks for a file that is given, and goes on.
-  goes_on : {number : ℕ} {texts : List (List ℕ)} {answer : Answer} (file : File) (text : List ℕ) → asks job texts ≡ Some file
+  goes_on : {number : ℕ} {texts : List (List ℕ)} {answer : Answer} (file : File) (text : List ℕ)
+      → asks job texts ≡ Some file
       → fetch_answer contents number file.name (most_bytes file.role) ≡ Ok text
       → IsToldAnswer contents job (number + 1) (texts ++ text ∷ []) answer
       → IsToldAnswer contents job number texts answer

@@ -31,7 +31,8 @@ answer_of (Err refusal) = refused refusal
 abbrev pub FetchesFile : ShelfView → ShelfView → File → Result (Vec ℕ Global) Refusal → Type 0
 FetchesFile old new file (Ok text) = Fetches old new file.name (most_bytes file.role) (Ok text)
 FetchesFile old new file (Err refusal) =
-    (fault : FetchFault) × (Fetches old new file.name (most_bytes file.role) (Err fault)) × (refusal ≡ fetch_refusal file.role fault)
+    (fault : FetchFault) × (Fetches old new file.name (most_bytes file.role) (Err fault))
+    × (refusal ≡ fetch_refusal file.role fault)
 
 -- the put of a refusal's line
 abbrev pub PutsRefusal : SinkView → SinkView → Refusal → Status → Type 0

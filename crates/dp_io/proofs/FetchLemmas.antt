@@ -9,7 +9,8 @@ use Rattle.dp_io.specs.Shelf.{Contents, IsAsTold, IsWithin, fault_count, entries
 use Rattle.dp_io.specs.FetchLaws.{RisesWith, FaultsRiseWithFailed, ToldFetchIsDetermined, fetched, fetch_of_held, fetch_answer}
 
 -- the count of faults grows by that of the appended entries
-rises : (before : ℕ) (name : List ℕ) (result : Result (Vec ℕ Global) FetchFault) → RisesWith before (before + fault_count (entries_of name result)) result
+rises : (before : ℕ) (name : List ℕ) (result : Result (Vec ℕ Global) FetchFault)
+    → RisesWith before (before + fault_count (entries_of name result)) result
 rises before name (Ok bytes) = record { failed = λ e. cc; risen = λ h. absurd (omega arith); never_falls = omega arith }
 rises before name (Err faults.Failed) = record { failed = λ e. omega arith; risen = λ h. refl; never_falls = omega arith }
 rises before name (Err (faults.TooLong k)) = record { failed = λ e. cc; risen = λ h. absurd (omega arith); never_falls = omega arith }
@@ -26,11 +27,13 @@ given : (bytes : List ℕ) (most : ℕ) → length bytes ≤ most → fetch_of_h
 given bytes most short = grind (arith, nat_tests)
 
 -- bytes that are more than that are counted
-counted : (bytes : List ℕ) (most k : ℕ) → length bytes ≡ k → most < k → fetch_of_held (Some bytes) most ≡ Err (faults.TooLong k)
+counted : (bytes : List ℕ) (most k : ℕ) → length bytes ≡ k → most < k
+    → fetch_of_held (Some bytes) most ≡ Err (faults.TooLong k)
 counted bytes most k is long = grind (arith, nat_tests)
 
 -- a fetch that answers by the contents answers what they determine
-determined : (contents : Contents) (number : ℕ) (name : List ℕ) (most : ℕ) (result : Result (Vec ℕ Global) FetchFault) → IsWithin most result → IsAsTold contents number name result
+determined : (contents : Contents) (number : ℕ) (name : List ℕ) (most : ℕ) (result : Result (Vec ℕ Global) FetchFault)
+    → IsWithin most result → IsAsTold contents number name result
     → (result ≡ Err faults.Memory) ⊎ (fetched result ≡ fetch_answer contents number name most)
 determined contents number name most (Ok bytes) short h = inr (rw (h.0, h.1) (sym (given bytes.items most short)))
 determined contents number name most (Err faults.Failed) any h = inr (rw h refl)

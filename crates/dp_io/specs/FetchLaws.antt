@@ -29,7 +29,8 @@ fetch_of_held (Some bytes) most = if nat_lt most (length bytes) then Err (faults
 -- The answer that the contents determine for the fetch of this number and name. A name that holds
 -- nothing and is not to fail leaves only want of memory.
 abbrev pub fetch_answer : Contents → ℕ → List ℕ → ℕ → Result (List ℕ) FetchFault
-fetch_answer contents number name most = if contents.fails number name then Err faults.Failed else fetch_of_held (contents.held name) most
+fetch_answer contents number name most =
+    if contents.fails number name then Err faults.Failed else fetch_of_held (contents.held name) most
 
 -- Where the contents are told, they determine what a fetch answers, want of memory aside.
 abbrev pub ToldFetchIsDetermined : Type 0

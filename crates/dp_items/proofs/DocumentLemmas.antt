@@ -22,7 +22,8 @@ use Rattle.dp_items.proofs.PieceLemmas.{pieces_of_tokens}
 abbrev pub kept_tokens : List Token → List Token
 kept_tokens tokens = filter (λ t. is_no_line_end t.kind) tokens
 
-pub kept_are_pieces : (bytes : List ℕ) (tokens : List Token) → ArePiecesOf bytes tokens → ArePiecesOf bytes (kept_tokens tokens)
+pub kept_are_pieces : (bytes : List ℕ) (tokens : List Token) → ArePiecesOf bytes tokens
+    → ArePiecesOf bytes (kept_tokens tokens)
 kept_are_pieces bytes tokens are = record {
   each = All-filter (λ t. is_no_line_end t.kind) (IsPieceOf bytes) tokens are.each;
   in_order = AllPairs-filter (λ a b. a.end ≤ b.start) (λ t. is_no_line_end t.kind) tokens are.in_order;
@@ -30,7 +31,8 @@ kept_are_pieces bytes tokens are = record {
 }
 
 -- the pieces of the tokens that are kept are the pieces that are kept
-pub pieces_of_kept : (bytes : List ℕ) (tokens : List Token) → pieces_of_text bytes (kept_tokens tokens) ≡ kept_pieces (pieces_of_text bytes tokens)
+pub pieces_of_kept : (bytes : List ℕ) (tokens : List Token)
+    → pieces_of_text bytes (kept_tokens tokens) ≡ kept_pieces (pieces_of_text bytes tokens)
 pieces_of_kept bytes [] = refl
 pieces_of_kept bytes (t ∷ ts) = chosen (is_no_line_end t.kind) ∙ ap (λ (l : List Piece). cond (is_no_line_end t.kind) (piece_of bytes t ∷ l) l) (pieces_of_kept bytes ts)
   where
@@ -40,12 +42,14 @@ pieces_of_kept bytes (t ∷ ts) = chosen (is_no_line_end t.kind) ∙ ap (λ (l :
     chosen false = refl
 
 module _ (bytes : List ℕ) (tokens : List Token) (lines : List LineSpan) where
-  pub lines_are_one_run : AreLinesOf (length bytes) (pieces_of_text bytes tokens) lines → AreOneRun 0 lines (length (pieces_of_text bytes (kept_tokens tokens)))
+  pub lines_are_one_run : AreLinesOf (length bytes) (pieces_of_text bytes tokens) lines
+      → AreOneRun 0 lines (length (pieces_of_text bytes (kept_tokens tokens)))
   lines_are_one_run are = subst (λ (l : List Piece). AreOneRun 0 lines (length l)) (sym (pieces_of_kept bytes tokens)) are.one_run
 
   module _ (items : ItemSpans) (lines_are : AreLinesOf (length bytes) (pieces_of_text bytes tokens) lines)
       (items_are : AreItemsOf (length bytes) (pieces_of_text bytes (kept_tokens tokens)) lines items) where
-    pub is_document : AreTokensOf bytes tokens → length bytes ≤ 2 ^ 26 → IsDocument bytes (kept_tokens tokens) lines items (length bytes)
+    pub is_document : AreTokensOf bytes tokens → length bytes ≤ 2 ^ 26
+        → IsDocument bytes (kept_tokens tokens) lines items (length bytes)
     is_document are h = record {
       pieces = kept_are_pieces bytes tokens (pieces_of_tokens bytes tokens h are);
       one_run = lines_are_one_run lines_are;
@@ -60,19 +64,23 @@ module _ (bytes : List ℕ) (tokens : List Token) (lines : List LineSpan) where
         ∙ ap (λ (l : List Piece). items_of (length bytes) (map (line_of l) lines)) (pieces_of_kept bytes tokens)
         ∙ ap (items_of (length bytes)) lines_are.lines)
 
-pub get_mapped : {X Y : Type 0} (f : X → Y) (xs : List X) (i : ℕ) (d : X) → i < length xs → slice_get (map f xs) i ≡ Some (f (get_or xs i d))
+pub get_mapped : {X Y : Type 0} (f : X → Y) (xs : List X) (i : ℕ) (d : X) → i < length xs
+    → slice_get (map f xs) i ≡ Some (f (get_or xs i d))
 get_mapped f [] i d h = absurd (omega arith)
 get_mapped f (x ∷ xs) zero d h = refl
 get_mapped f (x ∷ xs) (suc i) d h = get_mapped f xs i d (omega arith)
 
-pub first_line_stands : (end : ℕ) (pieces : List Piece) (lines : List LineSpan) (before : ℕ) (d : LineSpan) → before ≢ 0 → before ≤ length lines
-    → unless_lines end (map (line_of pieces) (take before lines)) ≡ fault Expected (first_at end (line_of pieces (get_or lines 0 d)).pieces)
+pub first_line_stands : (end : ℕ) (pieces : List Piece) (lines : List LineSpan) (before : ℕ) (d : LineSpan)
+    → before ≢ 0 → before ≤ length lines
+    → unless_lines end (map (line_of pieces) (take before lines))
+    ≡ fault Expected (first_at end (line_of pieces (get_or lines 0 d)).pieces)
 first_line_stands end pieces lines zero d some h = absurd (some refl)
 first_line_stands end pieces [] (suc n) d some h = absurd (omega arith)
 first_line_stands end pieces (line ∷ lines) (suc n) d some h = refl
 
 -- the item at a place, put together from its stretch
-pub item_there : (pieces : List Piece) (lines : List LineSpan) (items : List ItemSpan) (place : ℕ) (span : ItemSpan) (first : LineSpan) (item : Item)
+pub item_there : (pieces : List Piece) (lines : List LineSpan) (items : List ItemSpan) (place : ℕ) (span : ItemSpan)
+    (first : LineSpan) (item : Item)
     → place < length items → All (IsItemSpan pieces lines) items
     → span ≡ get_or items place span → first ≡ get_or lines span.line first
     → item ≡ item_of pieces first (more_of lines span) span.next

@@ -12,7 +12,8 @@ use Rattle.dp_items.specs.Lines.{line_of, item_of, AreOneRun, IsItem}
 -- ---- stretches of a list
 
 -- two stretches, one behind the other
-pub stretches : {X : Type 0} (xs : List X) (a b c : ℕ) → a ≤ b → b ≤ c → slice_range xs a b ++ slice_range xs b c ≡ slice_range xs a c
+pub stretches : {X : Type 0} (xs : List X) (a b c : ℕ) → a ≤ b → b ≤ c
+    → slice_range xs a b ++ slice_range xs b c ≡ slice_range xs a c
 stretches {X} xs a b c a_b b_c =
     let whole : c - a ≡ (b - a) + (c - b) = omega arith in
     let there : a + (b - a) ≡ b = omega arith in
@@ -32,7 +33,8 @@ run_ahead from (span ∷ spans) past run =
     let rest = run_ahead span.past spans past run.1 in omega arith
 
 -- a line of a run is a stretch
-pub run_at : (from : ℕ) (spans : List LineSpan) (past i : ℕ) (d : LineSpan) → AreOneRun from spans past → i < length spans
+pub run_at : (from : ℕ) (spans : List LineSpan) (past i : ℕ) (d : LineSpan) → AreOneRun from spans past
+    → i < length spans
     → ((get_or spans i d).first < (get_or spans i d).past) × ((get_or spans i d).past ≤ past)
 run_at from [] past i d run h = absurd (omega arith)
 run_at from (span ∷ spans) past zero d run h =
@@ -85,7 +87,8 @@ module _ (pieces : List Piece) (first : LineSpan) (more : List LineSpan) (past n
 
 -- a line by its place
 pub line_by_place : (pieces : List Piece) (spans : List LineSpan) (i : ℕ) (d : LineSpan) → i < length spans
-    → slice_get (map pieces_of (map (line_of pieces) spans)) i ≡ Some (slice_range pieces (get_or spans i d).first (get_or spans i d).past)
+    → slice_get (map pieces_of (map (line_of pieces) spans)) i
+    ≡ Some (slice_range pieces (get_or spans i d).first (get_or spans i d).past)
 line_by_place pieces [] i d h = absurd (omega arith)
 line_by_place pieces (span ∷ spans) zero d h = refl
 line_by_place pieces (span ∷ spans) (suc i) d h = line_by_place pieces spans i d (omega arith)

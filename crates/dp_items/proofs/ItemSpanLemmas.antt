@@ -113,7 +113,8 @@ module _ (end : ℕ) (pieces : List Piece) (lines : List LineSpan) where
       }
 
       -- the items with this line in front
-      in_front : (b : Bool) → begins_item (slice_range pieces line.first line.past) ≡ b → items_of end (map (line_of pieces) (drop at lines))
+      in_front : (b : Bool) → begins_item (slice_range pieces line.first line.past) ≡ b
+          → items_of end (map (line_of pieces) (drop at lines))
           ≡ with_line end b (line_of pieces line) (gathered (slice_range lines (at + 1) before) (map (item_in pieces lines) (reverse spans)))
       unfolding items_of
       in_front b e =
@@ -121,7 +122,8 @@ module _ (end : ℕ) (pieces : List Piece) (lines : List LineSpan) where
           ∙ ap (λ v. with_line end v (line_of pieces line) (items_of end (map (line_of pieces) (drop (at + 1) lines)))) e
           ∙ ap (with_line end b (line_of pieces line)) so_far.items
 
-      pub begins : begins_item (slice_range pieces line.first line.past) ≡ true → first_at end (slice_range pieces line.first line.past) ≤ 2 ^ 26
+      pub begins : begins_item (slice_range pieces line.first line.past) ≡ true
+          → first_at end (slice_range pieces line.first line.past) ≤ 2 ^ 26
           → AreItemsFrom at at line.first (first_at end (slice_range pieces line.first line.past)) (spans ++ span ∷ [])
       begins b limit =
           let last : reverse (spans ++ span ∷ []) ≡ span ∷ reverse spans = reverse-append spans (span ∷ []) in
@@ -138,7 +140,8 @@ module _ (end : ℕ) (pieces : List Piece) (lines : List LineSpan) where
                 ∙ ap (λ (l : List ItemSpan). gathered (slice_range lines at at) (map (item_in pieces lines) l)) (sym last);
           }
 
-      pub goes_on : begins_item (slice_range pieces line.first line.past) ≡ false → AreItemsFrom at before past next spans
+      pub goes_on : begins_item (slice_range pieces line.first line.past) ≡ false
+          → AreItemsFrom at before past next spans
       goes_on b =
           let in_order = so_far.in_order in
           let more : before - at ≡ suc (before - (at + 1)) = omega arith in

@@ -19,11 +19,13 @@ onto_none : (lines : List Line) → onto [] lines ≡ lines
 onto_none [] = refl
 onto_none (line ∷ lines) = refl
 
-onto_more : (pieces : List Piece) (p : Piece) (lines : List Line) → onto pieces (onto (p ∷ []) lines) ≡ onto (pieces ++ p ∷ []) lines
+onto_more : (pieces : List Piece) (p : Piece) (lines : List Line)
+    → onto pieces (onto (p ∷ []) lines) ≡ onto (pieces ++ p ∷ []) lines
 onto_more pieces p [] = refl
 onto_more pieces p (line ∷ lines) = ap (λ (l : List Piece). record { pieces = l; ends = line.ends } ∷ lines) (sym (append_assoc pieces (p ∷ []) line.pieces))
 
-other_piece : (k : Kind) (p : Piece) (lines : List Line) → (k ≡ LineEnd → ⊥) → with_piece k p lines ≡ onto (p ∷ []) lines
+other_piece : (k : Kind) (p : Piece) (lines : List Line) → (k ≡ LineEnd → ⊥)
+    → with_piece k p lines ≡ onto (p ∷ []) lines
 other_piece LineEnd p lines other = absurd (other refl)
 other_piece Word p [] other = refl
 other_piece Word p (line ∷ lines) other = refl
@@ -59,7 +61,8 @@ none_left [] (suc i) e = refl
 none_left (x ∷ xs) zero e = absurd (cc)
 none_left (x ∷ xs) (suc i) e = none_left xs i e
 
-one_stretch : (b : Bool) (from : ℕ) (span : LineSpan) → nat_lt span.first span.past ≡ b → from ≡ span.first → span.first ≤ span.past
+one_stretch : (b : Bool) (from : ℕ) (span : LineSpan) → nat_lt span.first span.past ≡ b → from ≡ span.first
+    → span.first ≤ span.past
     → span.ends ≤ 2 ^ 26 → AreOneRun from (cond b (span ∷ []) []) span.past
 one_stretch true from span test run h limit = (record { first = sym run; some = grind (arith, nat_tests); limit = limit }, refl)
 one_stretch false from span test run h limit = grind (arith, nat_tests)
@@ -69,7 +72,8 @@ none_of None other = refl
 none_of (Some x) other = absurd (other x refl)
 
 -- one more stretch, unless it is empty
-run_push : (from : ℕ) (spans : List LineSpan) (span : LineSpan) → AreOneRun from spans span.first → span.first ≤ span.past → span.ends ≤ 2 ^ 26
+run_push : (from : ℕ) (spans : List LineSpan) (span : LineSpan) → AreOneRun from spans span.first
+    → span.first ≤ span.past → span.ends ≤ 2 ^ 26
     → AreOneRun from (spans ++ unless_empty span) span.past
 run_push from [] span run h limit = one_stretch (nat_lt span.first span.past) from span refl run h limit
 run_push from (s ∷ spans) span run h limit = (run.0, run_push s.past spans span run.1 h limit)
@@ -103,7 +107,8 @@ module _ (end : ℕ) (pieces : List Piece) where
 
   -- a line is dropped where its stretch is empty
   shown : (span : LineSpan) (others : List Line) → span.past ≤ length kept
-      → filter has_pieces (line_of kept span ∷ others) ≡ map (line_of kept) (unless_empty span) ++ filter has_pieces others
+      → filter has_pieces (line_of kept span ∷ others)
+      ≡ map (line_of kept) (unless_empty span) ++ filter has_pieces others
   shown span others h =
       let long : length (slice_range kept span.first span.past) ≡ span.past - span.first =
       omega (arith, length-take (span.past - span.first) (drop span.first kept), length-drop span.first kept) in
@@ -116,9 +121,11 @@ module _ (end : ℕ) (pieces : List Piece) where
       chosen false = refl
 
   -- the lines so far with one that ends here
-  closes : (spans : List LineSpan) (span : LineSpan) (at : ℕ) (others : List Line) → AreLinesSoFar spans span.first span.past at
+  closes : (spans : List LineSpan) (span : LineSpan) (at : ℕ) (others : List Line)
+      → AreLinesSoFar spans span.first span.past at
       → lines_of end (drop at pieces) ≡ record { pieces = []; ends = span.ends } ∷ others
-      → map (line_of kept) (spans ++ unless_empty span) ++ filter has_pieces others ≡ filter has_pieces (lines_of end pieces)
+      → map (line_of kept) (spans ++ unless_empty span) ++ filter has_pieces others
+      ≡ filter has_pieces (lines_of end pieces)
   closes spans span at others so_far is =
       let now : List Piece = slice_range kept span.first span.past in
       let first : onto (slice_range kept span.first span.past) (lines_of end (drop at pieces)) ≡ line_of kept span ∷ others =
@@ -129,7 +136,8 @@ module _ (end : ℕ) (pieces : List Piece) where
       ∙ ap (λ (l : List Line). map (line_of kept) spans ++ filter has_pieces l) (sym first)
       ∙ so_far.so_far
 
-  pub ends_line : (spans : List LineSpan) (span : LineSpan) (at : ℕ) (p : Piece) → AreLinesSoFar spans span.first span.past at
+  pub ends_line : (spans : List LineSpan) (span : LineSpan) (at : ℕ) (p : Piece)
+      → AreLinesSoFar spans span.first span.past at
       → slice_get pieces at ≡ Some p → p.kind ≡ LineEnd → span.ends ≡ p.at → p.at < 2 ^ 26
       → AreLinesSoFar (spans ++ unless_empty span) span.past span.past (at + 1)
   unfolding lines_of

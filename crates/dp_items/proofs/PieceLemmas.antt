@@ -26,12 +26,14 @@ fit bytes low (t ∷ ts) h each in_order above =
     omega arith
 
 -- a text has no more pieces than bytes
-pub no_more_than_bytes : {bytes : List ℕ} {tokens : List Token} → ArePiecesOf bytes tokens → length tokens ≤ length bytes
+pub no_more_than_bytes : {bytes : List ℕ} {tokens : List Token} → ArePiecesOf bytes tokens
+    → length tokens ≤ length bytes
 no_more_than_bytes {bytes} {tokens} are =
     let fits = fit bytes 0 tokens (omega arith) are.each are.in_order (λ k d l. omega arith) in omega arith
 
 -- the tokens of a text of at most 2^26 bytes are pieces of it
-pub pieces_of_tokens : (bytes : List ℕ) (tokens : List Token) → length bytes ≤ 2 ^ 26 → AreTokensOf bytes tokens → ArePiecesOf bytes tokens
+pub pieces_of_tokens : (bytes : List ℕ) (tokens : List Token) → length bytes ≤ 2 ^ 26 → AreTokensOf bytes tokens
+    → ArePiecesOf bytes tokens
 pieces_of_tokens bytes tokens h are = record {
   each = λ k d l. let t = are.each k d l in record { some = t.some; within = t.within; kind = t.kind };
   in_order = are.in_order;

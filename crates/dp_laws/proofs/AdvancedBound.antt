@@ -26,19 +26,23 @@ use Rattle.dp_laws.proofs.HistorySums.{int_history_sum_ext, int_history_sum_grou
 use Rattle.std.proofs.lemmas.Bool.{eqb-true}
 
 -- with look k + 1 a joint action earns its reward and the look-ahead with look k of what follows
-pub action_look_ahead_is : (m : Model) (r : ℕ) (w : ℕ → ℕ) (a k : ℕ) → action_look_ahead m r w a (suc k) ≡ weighted_reward m r w a +ℤ int_sum (joint_observations m) (λ o. look_ahead m r (weights_after m w a o) k)
+pub action_look_ahead_is : (m : Model) (r : ℕ) (w : ℕ → ℕ) (a k : ℕ)
+    → action_look_ahead m r w a (suc k)
+      ≡ weighted_reward m r w a +ℤ int_sum (joint_observations m) (λ o. look_ahead m r (weights_after m w a o) k)
 unfolding action_look_ahead
 action_look_ahead_is m r w a k = let e : suc k - 1 ≡ k = omega arith in rw e
 
 -- the greatest of some joint actions is at most the look-ahead with one step less of look
-some_actions_le : (m : Model) → IsModel m → (r k : ℕ) (w : ℕ → ℕ) (xs : List ℕ) (a : ℕ) → IsIn a xs → ((x : ℕ) → IsIn x xs → IsIn x (numbers_below (joint_actions m))) →
+some_actions_le : (m : Model) → IsModel m → (r k : ℕ) (w : ℕ → ℕ) (xs : List ℕ) (a : ℕ) → IsIn a xs
+    → ((x : ℕ) → IsIn x xs → IsIn x (numbers_below (joint_actions m))) →
     greatest (λ x. action_look_ahead m r w x (suc k)) xs ≤ℤ look_ahead m (suc r) w k
 some_actions_le m ok r k w xs a some part =
     zle_trans _ _ _ (greatest_of_part _ xs (numbers_below (joint_actions m)) (some_in a xs some) part)
     (zle_trans _ _ _ (zle_of _ _ (greatest_ext _ _ (numbers_below (joint_actions m)) (λ x i. action_look_ahead_is m r w x k)))
     (longer_look_le m ok (suc r) k (suc k) w (omega arith)))
 
-agreeing_part : (m : Model) (F : Front) (C x : ℕ) → IsIn x (agreeing_actions m F C) → IsIn x (numbers_below (joint_actions m))
+agreeing_part : (m : Model) (F : Front) (C x : ℕ) → IsIn x (agreeing_actions m F C)
+    → IsIn x (numbers_below (joint_actions m))
 unfolding agreeing_actions
 agreeing_part m F C x h = (filter-IsIn _ x (numbers_below (joint_actions m)) h).0
 
@@ -66,7 +70,8 @@ module _ (m : Model) (h : ℕ) (F : Front) (front : IsFront m h F) where
   N = product (class_counts F.agents)
 
   -- the rewards of the stage's chosen actions, by joint classes
-  stage_rewards : (r : ℕ) → int_history_sum (joint_observations m) F.stage (λ H. weighted_reward m r (history_weight m (fixed_joint_action m G) H) (fixed_joint_action m G H))
+  stage_rewards : (r : ℕ)
+      → int_history_sum (joint_observations m) F.stage (λ H. weighted_reward m r (history_weight m (fixed_joint_action m G) H) (fixed_joint_action m G H))
       ≡ int_sum N (λ C. weighted_reward m r (class_weight m F C) (chosen_joint_action m F C))
   unfolding class_weight
   stage_rewards r =
@@ -106,7 +111,8 @@ module _ (m : Model) (h : ℕ) (F : Front) (front : IsFront m h F) where
       ∙ int_sum_ext N _ _ (λ C hC. int_sum_ext O _ _ (λ o ho. ap (λ w. look_ahead m (suc r) w k) (λ j s. pair_weight m h F front C o s hC ho j)))))
 
   -- the chosen joint actions are among those that agree
-  chosen_under : IsModel m → (r look : ℕ) → int_sum N (λ C. action_look_ahead m r (class_weight m F C) (chosen_joint_action m F C) look)
+  chosen_under : IsModel m → (r look : ℕ)
+      → int_sum N (λ C. action_look_ahead m r (class_weight m F C) (chosen_joint_action m F C) look)
       ≤ℤ int_sum N (λ C. greatest (λ a. action_look_ahead m r (class_weight m F C) a look) (agreeing_actions m F C))
   chosen_under ok r look = int_sum_le N _ _ (λ C p. le_greatest (λ a. action_look_ahead m r (class_weight m F C) a look) (chosen_joint_action m F C) (agreeing_actions m F C) (chosen_action_agrees m ok h F front C p))
 
@@ -114,7 +120,8 @@ regroup : (e w o t b : ℤ) → w +ℤ o ≡ t → t ≤ℤ b → ((e +ℤ w) +�
 regroup e w o t b same le = omega (arith, ints)
 
 -- a bound with a look of at least 1 does not grow by advancing
-pub advanced_bound_le : (m : Model) → IsModel m → (h r look : ℕ) (F : Front) → IsFront m h F → F.stage < h → is_complete F.agents ≡ true → 0 < look →
+pub advanced_bound_le : (m : Model) → IsModel m → (h r look : ℕ) (F : Front) → IsFront m h F → F.stage < h
+    → is_complete F.agents ≡ true → 0 < look →
     bound_of m r (advanced_front m F) look ≤ℤ bound_of m (suc r) F look
 advanced_bound_le m ok h r zero F front lt all some = absurd (omega arith)
 advanced_bound_le m ok h zero (suc k) F front lt all some =

@@ -27,16 +27,19 @@ use Rattle.dp_laws.proofs.HistorySums.{nat_history_sum_ext}
 
 -- ---- the lists of all agents
 -- each own history of the stage has a class
-pub classes_below : {f : ℕ} {bs ns : List ℕ} {ds : List AgentFront} → AreAgentFronts f bs ns ds → (xs : List ℕ) → Within ns f xs → AreBelow (class_counts ds) (own_classes ds xs)
+pub classes_below : {f : ℕ} {bs ns : List ℕ} {ds : List AgentFront} → AreAgentFronts f bs ns ds → (xs : List ℕ)
+    → Within ns f xs → AreBelow (class_counts ds) (own_classes ds xs)
 classes_below no_agents xs h = tt
 classes_below (and_agent k ks) [] h = absurd h
 classes_below (and_agent k ks) (x ∷ xs) h = (k.class_below x h.0, classes_below ks xs h.1)
 
-pub as_many_agents : {f : ℕ} {bs ns : List ℕ} {ds : List AgentFront} → AreAgentFronts f bs ns ds → length ns ≡ length (class_counts ds)
+pub as_many_agents : {f : ℕ} {bs ns : List ℕ} {ds : List AgentFront} → AreAgentFronts f bs ns ds
+    → length ns ≡ length (class_counts ds)
 as_many_agents no_agents = refl
 as_many_agents (and_agent k ks) = let e = as_many_agents ks in omega arith
 
-pub counts_advanced : {f : ℕ} {bs ns : List ℕ} {ds : List AgentFront} → AreAgentFronts f bs ns ds → class_counts (advanced_agents ns f ds) ≡ pair_counts (class_counts ds) ns
+pub counts_advanced : {f : ℕ} {bs ns : List ℕ} {ds : List AgentFront} → AreAgentFronts f bs ns ds
+    → class_counts (advanced_agents ns f ds) ≡ pair_counts (class_counts ds) ns
 unfolding advanced_agent
 counts_advanced no_agents = refl
 counts_advanced {f} (and_agent {n = n} {ns = ns} {d = d} {ds = ds} k ks) =
@@ -45,13 +48,16 @@ counts_advanced {f} (and_agent {n = n} {ns = ns} {d = d} {ds = ds} k ks) =
     let rest = counts_advanced ks in
     λ j. here j ∷ rest j
 
-class_step : (n f x p : ℕ) (cs : List ℕ) → x < n ^ f → p < n → get_or (map (λ x. get_or cs (x / n) 0 * n + x % n) (range_with_len 0 (n ^ suc f))) (x * n + p) 0 ≡ get_or cs x 0 * n + p
+class_step : (n f x p : ℕ) (cs : List ℕ) → x < n ^ f → p < n
+    → get_or (map (λ x. get_or cs (x / n) 0 * n + x % n) (range_with_len 0 (n ^ suc f))) (x * n + p) 0
+      ≡ get_or cs x 0 * n + p
 class_step n f x p cs h g =
     let first : (x * n + p) / n ≡ x = div-mul-add x n p g in
     let rest : (x * n + p) % n ≡ p = mod-mul-add x n p g in
     new_class n f (x * n + p) cs (next_history_below x n f p h g) ∙ (rw (first, rest))
 
-pub classes_advanced : {f : ℕ} {bs ns : List ℕ} {ds : List AgentFront} → AreAgentFronts f bs ns ds → (xs ps : List ℕ) → Within ns f xs → AreBelow ns ps →
+pub classes_advanced : {f : ℕ} {bs ns : List ℕ} {ds : List AgentFront} → AreAgentFronts f bs ns ds → (xs ps : List ℕ)
+    → Within ns f xs → AreBelow ns ps →
     own_classes (advanced_agents ns f ds) (next_own_histories ns xs ps) ≡ next_own_histories ns (own_classes ds xs) ps
 unfolding advanced_agent
 classes_advanced no_agents xs ps h g = refl
@@ -62,7 +68,8 @@ classes_advanced {f} (and_agent {n = n} {d = d} k ks) (x ∷ xs) (p ∷ ps) h g 
     let rest = classes_advanced ks xs ps h.1 g.1 in
     λ j. here j ∷ rest j
 
-pub fixed_before : {f : ℕ} {bs ns : List ℕ} {ds : List AgentFront} → AreAgentFronts f bs ns ds → (t : ℕ) (xs : List ℕ) → t < f → fixed_actions (advanced_agents ns f ds) t xs ≡ fixed_actions ds t xs
+pub fixed_before : {f : ℕ} {bs ns : List ℕ} {ds : List AgentFront} → AreAgentFronts f bs ns ds → (t : ℕ) (xs : List ℕ)
+    → t < f → fixed_actions (advanced_agents ns f ds) t xs ≡ fixed_actions ds t xs
 unfolding advanced_agent
 fixed_before no_agents t xs p = refl
 fixed_before (and_agent k ks) t [] p = refl
@@ -72,7 +79,8 @@ fixed_before {f} (and_agent {n = n} {d = d} k ks) t (x ∷ xs) p =
     let rest = fixed_before ks t xs p in
     λ j. get_or (here j) x 0 ∷ rest j
 
-pub fixed_at : {f : ℕ} {bs ns : List ℕ} {ds : List AgentFront} → AreAgentFronts f bs ns ds → (xs : List ℕ) → Within ns f xs → fixed_actions (advanced_agents ns f ds) f xs ≡ actions_for ds (own_classes ds xs)
+pub fixed_at : {f : ℕ} {bs ns : List ℕ} {ds : List AgentFront} → AreAgentFronts f bs ns ds → (xs : List ℕ)
+    → Within ns f xs → fixed_actions (advanced_agents ns f ds) f xs ≡ actions_for ds (own_classes ds xs)
 unfolding advanced_agent
 fixed_at no_agents xs h = refl
 fixed_at (and_agent k ks) [] h = absurd h
@@ -84,7 +92,8 @@ fixed_at {f} (and_agent {n = n} {d = d} k ks) (x ∷ xs) h =
     λ j. here j ∷ rest j
 
 -- a test of pairs as two tests
-pub both_tests : (u v p p' q q' x y : ℕ) → (u ≡ v → (p ≡ p') × (q ≡ q')) → (p ≡ p' → q ≡ q' → u ≡ v) → (p ≡ p' → x ≡ y) → cond (eqb u v) x 0 ≡ cond (eqb q q') (cond (eqb p p') y 0) 0
+pub both_tests : (u v p p' q q' x y : ℕ) → (u ≡ v → (p ≡ p') × (q ≡ q')) → (p ≡ p' → q ≡ q' → u ≡ v)
+    → (p ≡ p' → x ≡ y) → cond (eqb u v) x 0 ≡ cond (eqb q q') (cond (eqb p p') y 0) 0
 both_tests u v p p' q q' x y apart together same =
     elim (cases_eq u v) [
       | inl e ↦ let parts = apart e in equal (e, parts.0, parts.1, same parts.0)
@@ -108,18 +117,21 @@ module _ (m : Model) (h : ℕ) (F : Front) (front : IsFront m h F) where
   abbrev G : Front
   G = advanced_front m F
 
-  pub class_in_range : (H : List ℕ) → IsJointHistory (joint_observations m) F.stage H → joint_class m F H < product (class_counts F.agents)
+  pub class_in_range : (H : List ℕ) → IsJointHistory (joint_observations m) F.stage H
+      → joint_class m F H < product (class_counts F.agents)
   unfolding joint_class joint_observations
   class_in_range H p = joint_number_below _ _ (classes_below front.agents _ (own_histories_within m.observations F.stage H p))
 
-  pub action_before : (t : ℕ) (H : List ℕ) → t < F.stage → IsJointHistory (joint_observations m) t H → fixed_joint_action m F H ≡ fixed_joint_action m G H
+  pub action_before : (t : ℕ) (H : List ℕ) → t < F.stage → IsJointHistory (joint_observations m) t H
+      → fixed_joint_action m F H ≡ fixed_joint_action m G H
   unfolding fixed_joint_action
   action_before t H lt p =
       let lt' : length H < F.stage = subst (λ (n : ℕ). n < F.stage) (sym (history_length _ t H p)) lt in
       ap (joint_number m.actions) (sym (fixed_before front.agents (length H) (own_histories m.observations H) lt'))
 
   -- at the stage itself the chosen one is done
-  pub action_at : (H : List ℕ) → IsJointHistory (joint_observations m) F.stage H → fixed_joint_action m G H ≡ chosen_joint_action m F (joint_class m F H)
+  pub action_at : (H : List ℕ) → IsJointHistory (joint_observations m) F.stage H
+      → fixed_joint_action m G H ≡ chosen_joint_action m F (joint_class m F H)
   unfolding fixed_joint_action chosen_joint_action joint_class joint_observations
   action_at H p =
       let xs = own_histories m.observations H in
@@ -127,7 +139,8 @@ module _ (m : Model) (h : ℕ) (F : Front) (front : IsFront m h F) where
       ap (λ (t : ℕ). joint_number m.actions (fixed_actions G.agents t xs)) (history_length _ F.stage H p)
       ∙ ap (joint_number m.actions) (fixed_at front.agents xs w ∙ ap (actions_for F.agents) (sym (parts_of-joint_number _ _ (classes_below front.agents xs w))))
 
-  pub weight_same_to : (t : ℕ) (H : List ℕ) → t < suc F.stage → IsJointHistory (joint_observations m) t H → history_weight m (fixed_joint_action m F) H ≡ history_weight m (fixed_joint_action m G) H
+  pub weight_same_to : (t : ℕ) (H : List ℕ) → t < suc F.stage → IsJointHistory (joint_observations m) t H
+      → history_weight m (fixed_joint_action m F) H ≡ history_weight m (fixed_joint_action m G) H
   weight_same_to zero [] lt p = refl
   weight_same_to zero (o ∷ H) lt p = absurd p
   weight_same_to (suc t) [] lt p = absurd p
@@ -137,7 +150,8 @@ module _ (m : Model) (h : ℕ) (F : Front) (front : IsFront m h F) where
       λ j. weights_after m (weights j) (action j) o
 
   -- the weights of the joint histories of the stage stay
-  pub weight_same : (H : List ℕ) → IsJointHistory (joint_observations m) F.stage H → history_weight m (fixed_joint_action m F) H ≡ history_weight m (fixed_joint_action m G) H
+  pub weight_same : (H : List ℕ) → IsJointHistory (joint_observations m) F.stage H
+      → history_weight m (fixed_joint_action m F) H ≡ history_weight m (fixed_joint_action m G) H
   weight_same H p = weight_same_to F.stage H (omega arith) p
 
   -- ---- joint classes are pairs

@@ -27,7 +27,8 @@ agrees_with_own : (o : Option ℕ) → agrees o (unwrap_or o 0) ≡ true
 agrees_with_own None = refl
 agrees_with_own (Some b) = grind (arith, nat_tests)
 
-chosen_agree : (ds : List AgentFront) (cs : List ℕ) → AreBelow (class_counts ds) cs → all_agree ds cs (actions_for ds cs) ≡ true
+chosen_agree : (ds : List AgentFront) (cs : List ℕ) → AreBelow (class_counts ds) cs
+    → all_agree ds cs (actions_for ds cs) ≡ true
 chosen_agree [] cs h = refl
 chosen_agree (d ∷ ds) [] h = absurd h
 chosen_agree (d ∷ ds) (c ∷ cs) h = both_true (agrees_with_own (get_or d.chosen c None)) (chosen_agree ds cs h.1)
@@ -36,7 +37,8 @@ own_below : (b : ℕ) (o : Option ℕ) → 0 < b → ((a : ℕ) → o ≡ Some a
 own_below b None p h = p
 own_below b (Some a) p h = h a refl
 
-chosen_below : {f : ℕ} {bs ns : List ℕ} {ds : List AgentFront} → AreAgentFronts f bs ns ds → 0 < product bs → (cs : List ℕ) → AreBelow (class_counts ds) cs → AreBelow bs (actions_for ds cs)
+chosen_below : {f : ℕ} {bs ns : List ℕ} {ds : List AgentFront} → AreAgentFronts f bs ns ds → 0 < product bs
+    → (cs : List ℕ) → AreBelow (class_counts ds) cs → AreBelow bs (actions_for ds cs)
 chosen_below no_agents p cs h = tt
 chosen_below (and_agent k ks) p [] h = absurd h
 chosen_below (and_agent {b = b} {d = d} k ks) p (c ∷ cs) h =
@@ -47,7 +49,8 @@ unfoldable pub chosen_joint_action : Model → Front → ℕ → ℕ
 chosen_joint_action m F C = joint_number m.actions (actions_for F.agents (parts_of (class_counts F.agents) C))
 
 -- it agrees
-pub chosen_action_agrees : (m : Model) → IsModel m → (h : ℕ) (F : Front) → IsFront m h F → (C : ℕ) → C < product (class_counts F.agents) → IsIn (chosen_joint_action m F C) (agreeing_actions m F C)
+pub chosen_action_agrees : (m : Model) → IsModel m → (h : ℕ) (F : Front) → IsFront m h F → (C : ℕ)
+    → C < product (class_counts F.agents) → IsIn (chosen_joint_action m F C) (agreeing_actions m F C)
 unfolding agreeing_actions joint_actions chosen_joint_action
 chosen_action_agrees m ok h F front C p =
     let cs = parts_of (class_counts F.agents) C in
@@ -57,14 +60,16 @@ chosen_action_agrees m ok h F front C p =
     (ap (all_agree F.agents cs) (parts_of-joint_number m.actions _ actions_in) ∙ chosen_agree F.agents cs inside)
 
 -- ---- after a choice
-agrees_without : (os : List (Option ℕ)) (c a e x : ℕ) → get_or os c None ≡ None → agrees (get_or (set os c (Some a)) e None) x ≡ true → agrees (get_or os e None) x ≡ true
+agrees_without : (os : List (Option ℕ)) (c a e x : ℕ) → get_or os c None ≡ None
+    → agrees (get_or (set os c (Some a)) e None) x ≡ true → agrees (get_or os e None) x ≡ true
 agrees_without os c a e x free h =
     elim (cases_eq c e) [
       | inl same ↦ ap (λ o. agrees o x) (ap (λ z. get_or os z None) (sym same) ∙ free)
       | inr ne ↦ ap (λ o. agrees o x) (sym (get_or-set_other os c e (Some a) None (λ z. ne (sym z)))) ∙ h
     ]
 
-pub agree_without : (i c a : ℕ) (ds : List AgentFront) (cs xs : List ℕ) → IsUnassigned i c ds → all_agree (with_choice i c a ds) cs xs ≡ true → all_agree ds cs xs ≡ true
+pub agree_without : (i c a : ℕ) (ds : List AgentFront) (cs xs : List ℕ) → IsUnassigned i c ds
+    → all_agree (with_choice i c a ds) cs xs ≡ true → all_agree ds cs xs ≡ true
 agree_without i c a [] cs xs free h = refl
 agree_without zero c a (d ∷ ds) [] xs free h = h
 agree_without (suc i) c a (d ∷ ds) [] xs free h = h

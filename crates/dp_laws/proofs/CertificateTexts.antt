@@ -43,8 +43,10 @@ mutual
   unfolding bytes_of
 
   -- the lines of the nodes determine the tree, and what follows them
-  node_lines_injective : (T U : BoundTree) → AllAllowed (node_lines T) → AllAllowed (node_lines U) → (more others : List Line)
-      → map bytes_of (node_lines T ++ more) ≡ map bytes_of (node_lines U ++ others) → (T ≡ U) × (map bytes_of more ≡ map bytes_of others)
+  node_lines_injective : (T U : BoundTree) → AllAllowed (node_lines T) → AllAllowed (node_lines U)
+      → (more others : List Line)
+      → map bytes_of (node_lines T ++ more) ≡ map bytes_of (node_lines U ++ others)
+      → (T ≡ U) × (map bytes_of more ≡ map bytes_of others)
   node_lines_injective (leaf x) (leaf y) p q more others e =
       let bound = line_text_injective leaf_form (x ∷ []) (y ∷ []) (assumption) p.0 q.0 (first_of_list _ _ _ _ e) in
       (ap leaf (number_at 0 _ _ bound), rest_of_list _ _ _ _ e)
@@ -69,8 +71,10 @@ mutual
       (rw (agent, first, second, child.0) refl, child.1)
 
   -- the same of equally many children
-  children_lines_injective : (ks ls : BoundTrees) → child_count ks ≡ child_count ls → AllAllowed (children_lines ks) → AllAllowed (children_lines ls) → (more others : List Line)
-      → map bytes_of (children_lines ks ++ more) ≡ map bytes_of (children_lines ls ++ others) → (ks ≡ ls) × (map bytes_of more ≡ map bytes_of others)
+  children_lines_injective : (ks ls : BoundTrees) → child_count ks ≡ child_count ls → AllAllowed (children_lines ks)
+      → AllAllowed (children_lines ls) → (more others : List Line)
+      → map bytes_of (children_lines ks ++ more) ≡ map bytes_of (children_lines ls ++ others)
+      → (ks ≡ ls) × (map bytes_of more ≡ map bytes_of others)
   children_lines_injective no_bound_trees no_bound_trees count p q more others e = (refl, e)
   children_lines_injective no_bound_trees (more_bound_trees l ls) count p q more others e = absurd (omega (arith, count))
   children_lines_injective (more_bound_trees k ks) no_bound_trees count p q more others e = absurd (omega (arith, count))
@@ -110,14 +114,16 @@ tree_are_lines : (T : BoundTree) → AllAllowed (node_lines T) → AreLines (tre
 tree_are_lines T allowed = ((assumption, tt), AreLines-append (node_lines T) (fixed_line end_form ∷ []) (nodes_are_lines T allowed) ((assumption, tt), tt))
 
 -- what is allowed of a certificate's tree
-nodes_allowed : (m : Model) (bytes : List ℕ) (c : Certificate) → IsCertificateText m bytes c → AllAllowed (node_lines c.tree)
+nodes_allowed : (m : Model) (bytes : List ℕ) (c : Certificate) → IsCertificateText m bytes c
+    → AllAllowed (node_lines c.tree)
 nodes_allowed m bytes c text =
     let behind_head = text.allowed.1.1.1.1.1.1.1.1.1 in
     let behind_policy = AllAllowed-parts (agent_lines 0 (policy_rows m.actions m.observations c.horizon c.policy)) (tree_lines c.tree) behind_head in
     (AllAllowed-parts (node_lines c.tree) (fixed_line end_form ∷ []) behind_policy.1.1).0
 
 -- the lines of the text of a certificate are lines
-certificate_are_lines : (m : Model) → IsModel m → (bytes : List ℕ) (c : Certificate) → IsCertificateText m bytes c → AreLines (certificate_lines m.actions m.observations c)
+certificate_are_lines : (m : Model) → IsModel m → (bytes : List ℕ) (c : Certificate) → IsCertificateText m bytes c
+    → AreLines (certificate_lines m.actions m.observations c)
 certificate_are_lines m is bytes c text =
     let agents = is.sizes.agents_limit in
     let a = text.allowed in (
@@ -152,17 +158,21 @@ certificate_are_lines m is bytes c text =
     )
 
 -- a line with one number determines it
-plain_line_injective : (word : List ℕ) (low high m n : ℕ) → HasItems (fixed word ∷ plain low high ∷ []) → Allows (fixed word ∷ plain low high ∷ []) (pos m ∷ []) → Allows (fixed word ∷ plain low high ∷ []) (pos n ∷ [])
-    → line_text (fixed word ∷ plain low high ∷ []) (pos m ∷ []) ≡ line_text (fixed word ∷ plain low high ∷ []) (pos n ∷ []) → m ≡ n
+plain_line_injective : (word : List ℕ) (low high m n : ℕ) → HasItems (fixed word ∷ plain low high ∷ [])
+    → Allows (fixed word ∷ plain low high ∷ []) (pos m ∷ []) → Allows (fixed word ∷ plain low high ∷ []) (pos n ∷ [])
+    → line_text (fixed word ∷ plain low high ∷ []) (pos m ∷ [])
+    ≡ line_text (fixed word ∷ plain low high ∷ []) (pos n ∷ []) → m ≡ n
 plain_line_injective word low high m n are p q e = pos_injective m n (number_at 0 _ _ (line_text_injective (fixed word ∷ plain low high ∷ []) (pos m ∷ []) (pos n ∷ []) are p q e))
 
 -- the same of a signed number
-signed_line_injective : (word : List ℕ) (y z : ℤ) → HasItems (signed_form word) → Allows (signed_form word) (y ∷ []) → Allows (signed_form word) (z ∷ [])
+signed_line_injective : (word : List ℕ) (y z : ℤ) → HasItems (signed_form word) → Allows (signed_form word) (y ∷ [])
+    → Allows (signed_form word) (z ∷ [])
     → line_text (signed_form word) (y ∷ []) ≡ line_text (signed_form word) (z ∷ []) → y ≡ z
 signed_line_injective word y z are p q e = number_at 0 _ _ (line_text_injective (signed_form word) (y ∷ []) (z ∷ []) are p q e)
 
 -- a text is that of one certificate
-pub certificate_text_injective : (m : Model) → IsModel m → (bytes : List ℕ) (c d : Certificate) → IsCertificateText m bytes c → IsCertificateText m bytes d → c ≡ d
+pub certificate_text_injective : (m : Model) → IsModel m → (bytes : List ℕ) (c d : Certificate)
+    → IsCertificateText m bytes c → IsCertificateText m bytes d → c ≡ d
 unfolding certificate_text bytes_of
 certificate_text_injective m is bytes c d mine yours =
     let a = mine.allowed in
@@ -193,7 +203,8 @@ certificate_text_injective m is bytes c d mine yours =
     }
 
 -- a certificate whose numbers its lines allow has a text
-pub certificate_has_text : (m : Model) → IsModel m → (c : Certificate) → HasTextNumbers c → IsPolicyOf m c.horizon c.policy → IsCertificateText m (certificate_text m.actions m.observations c) c
+pub certificate_has_text : (m : Model) → IsModel m → (c : Certificate) → HasTextNumbers c
+    → IsPolicyOf m c.horizon c.policy → IsCertificateText m (certificate_text m.actions m.observations c) c
 certificate_has_text m is c numbers policy =
     let agents = is.sizes.agents_limit in
     record {

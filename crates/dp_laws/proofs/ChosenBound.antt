@@ -18,7 +18,8 @@ use Rattle.dp_laws.proofs.Members.{IsIn, IsIn-filter, filter-IsIn, some_in}
 use Rattle.dp_laws.proofs.GreatestValues.{greatest_of_part}
 
 -- what agrees after a choice agreed before it
-still_agrees : (m : Model) (F : Front) (i c a C x : ℕ) → IsUnassigned i c F.agents → IsIn x (agreeing_actions m (chosen_front F i c a) C) → IsIn x (agreeing_actions m F C)
+still_agrees : (m : Model) (F : Front) (i c a C x : ℕ) → IsUnassigned i c F.agents
+    → IsIn x (agreeing_actions m (chosen_front F i c a) C) → IsIn x (agreeing_actions m F C)
 unfolding agreeing_actions
 still_agrees m F i c a C x free h =
     let both = filter-IsIn _ x (numbers_below (joint_actions m)) h in
@@ -26,7 +27,8 @@ still_agrees m F i c a C x free h =
     IsIn-filter _ x (numbers_below (joint_actions m)) both.0 (ap (λ z. all_agree F.agents (parts_of z C) (parts_of m.actions x)) (sym (counts_chosen i c a F.agents)) ∙ agreed)
 
 -- a bound does not grow by choosing
-pub chosen_bound_le : (m : Model) → IsModel m → (h r look : ℕ) (F : Front) (i c a : ℕ) → IsFront m h F → F.stage < h → IsUnassigned i c F.agents → a < get_or m.actions i 0 →
+pub chosen_bound_le : (m : Model) → IsModel m → (h r look : ℕ) (F : Front) (i c a : ℕ) → IsFront m h F → F.stage < h
+    → IsUnassigned i c F.agents → a < get_or m.actions i 0 →
     bound_of m r (chosen_front F i c a) look ≤ℤ bound_of m r F look
 chosen_bound_le m ok h zero look F i c a front lt free p = zle_of _ _ (ap (λ act. earned_reward m act (F.stage + 0) F.stage) (actions_chosen m F i c a))
 chosen_bound_le m ok h (suc r) look F i c a front lt free p =

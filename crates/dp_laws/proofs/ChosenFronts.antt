@@ -10,7 +10,8 @@ use Rattle.dp_spec.specs.Model.{Model, joint_observations}
 use Rattle.dp_spec.specs.Steps.{chosen_front, with_choice}
 use Rattle.dp_spec.specs.Sums.{nat_sum}
 
-fixed_chosen : (i c a : ℕ) (ds : List AgentFront) (t : ℕ) (xs : List ℕ) → fixed_actions (with_choice i c a ds) t xs ≡ fixed_actions ds t xs
+fixed_chosen : (i c a : ℕ) (ds : List AgentFront) (t : ℕ) (xs : List ℕ)
+    → fixed_actions (with_choice i c a ds) t xs ≡ fixed_actions ds t xs
 fixed_chosen i c a [] t xs = refl
 fixed_chosen zero c a (d ∷ ds) t [] = refl
 fixed_chosen (suc i) c a (d ∷ ds) t [] = refl
@@ -24,7 +25,8 @@ counts_chosen zero c a (d ∷ ds) = ap (λ z. z ∷ class_counts ds) (length-set
 counts_chosen (suc i) c a (d ∷ ds) = ap (λ z. length d.chosen ∷ z) (counts_chosen i c a ds)
 
 -- and they hold the same own histories
-pub classes_chosen : (i c a : ℕ) (ds : List AgentFront) (xs : List ℕ) → own_classes (with_choice i c a ds) xs ≡ own_classes ds xs
+pub classes_chosen : (i c a : ℕ) (ds : List AgentFront) (xs : List ℕ)
+    → own_classes (with_choice i c a ds) xs ≡ own_classes ds xs
 classes_chosen i c a [] xs = refl
 classes_chosen zero c a (d ∷ ds) [] = refl
 classes_chosen (suc i) c a (d ∷ ds) [] = refl

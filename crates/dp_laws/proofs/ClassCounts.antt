@@ -43,11 +43,13 @@ classes-le-members (suc n) (suc k) class member =
 pub classes_within_histories : (b n f : ℕ) (d : AgentFront) → IsAgentFront b n f d → length d.chosen ≤ n ^ f
 classes_within_histories b n f d front = classes-le-members (n ^ f) (length d.chosen) (λ x. get_or d.class_of x 0) front.member
 
-joint_classes-le : {f : ℕ} {bs ns : List ℕ} {ds : List AgentFront} → AreAgentFronts f bs ns ds → product (class_counts ds) ≤ product ns ^ f
+joint_classes-le : {f : ℕ} {bs ns : List ℕ} {ds : List AgentFront} → AreAgentFronts f bs ns ds
+    → product (class_counts ds) ≤ product ns ^ f
 joint_classes-le {f} no_agents = one-le-pow f 1 (omega arith)
 joint_classes-le {f} (and_agent {b = b} {n = n} {ns = ns} {d = d} front fronts) = rw (mul-pow n (product ns) f) (mul-le-mul (classes_within_histories b n f d front) (joint_classes-le fronts))
 
 -- there is at most one joint class for each joint history of the stage
-pub joint_classes_within_histories : (m : Model) (h : ℕ) (F : Front) → IsFront m h F → product (class_counts F.agents) ≤ joint_observations m ^ F.stage
+pub joint_classes_within_histories : (m : Model) (h : ℕ) (F : Front) → IsFront m h F
+    → product (class_counts F.agents) ≤ joint_observations m ^ F.stage
 unfolding joint_observations
 joint_classes_within_histories m h F front = joint_classes-le front.agents

@@ -12,7 +12,8 @@ use Rattle.std.proofs.Math.Nat.{eq-zero-or-pos}
 use Rattle.std.proofs.lemmas.Bool.{eqb-true}
 
 -- an order between multiples passes from one class to another in proportion
-as_good : (t t' : ℕ) (ga gb ga' gb' : ℤ) → 0 < t → pos t' *ℤ ga ≡ pos t *ℤ ga' → pos t' *ℤ gb ≡ pos t *ℤ gb' → ga ≤ℤ gb → ga' ≤ℤ gb'
+as_good : (t t' : ℕ) (ga gb ga' gb' : ℤ) → 0 < t → pos t' *ℤ ga ≡ pos t *ℤ ga' → pos t' *ℤ gb ≡ pos t *ℤ gb'
+    → ga ≤ℤ gb → ga' ≤ℤ gb'
 as_good t t' ga gb ga' gb' p e f h = let le = zmul_le t' ga gb h in le_of_mul_le_left t ga' gb' p (rw (← e, ← f) le)
 
 -- weights against a value, where two tests hold
@@ -23,7 +24,8 @@ value_where_both true false S w V V' h = sym (int_sum_ext S _ (λ s. pos 0) (λ 
 value_where_both false b S w V V' h = sym (int_sum_ext S _ (λ s. pos 0) (λ s p. zero-*ℤ (V' s)) ∙ int_sum_zero S)
 
 -- weights of total 0 against a value
-value_of_none : (b : Bool) (S : ℕ) (w : ℕ → ℕ) (V : ℕ → ℤ) → cond b (nat_sum S (λ s. w s)) 0 ≡ 0 → cond b (int_sum S (λ s. pos (w s) *ℤ V s)) (pos 0) ≡ pos 0
+value_of_none : (b : Bool) (S : ℕ) (w : ℕ → ℕ) (V : ℕ → ℤ) → cond b (nat_sum S (λ s. w s)) 0 ≡ 0
+    → cond b (int_sum S (λ s. pos (w s) *ℤ V s)) (pos 0) ≡ pos 0
 value_of_none true S w V e = int_sum_ext S _ (λ s. pos 0) (λ s p. ap (λ (x : ℕ). pos x *ℤ V s) (nat_sum_none S w e s p) ∙ zero-*ℤ (V s)) ∙ int_sum_zero S
 value_of_none false S w V e = refl
 
@@ -42,7 +44,8 @@ module _ (n t states k : ℕ) (weight : List ℕ → ℕ → ℕ) (class others 
   total_of c = nat_history_sum n t (λ H. cond (eqb (class H) c) (nat_sum states (λ s. weight H s)) 0)
 
   -- it is a sum over the classes of the others
-  class_value_by_place : (c : ℕ) (x : X) → class_value c x ≡ int_sum k (λ y. int_sum states (λ s. pos (weight_at c y s) *ℤ value y x s))
+  class_value_by_place : (c : ℕ) (x : X)
+      → class_value c x ≡ int_sum k (λ y. int_sum states (λ s. pos (weight_at c y s) *ℤ value y x s))
   class_value_by_place c x =
       int_history_sum_group n t k _ others in_range
       ∙ int_sum_ext k _ _ (λ y p.
@@ -52,7 +55,9 @@ module _ (n t states k : ℕ) (weight : List ℕ → ℕ → ℕ) (class others 
       ∙ int_sum_ext states _ _ (λ s q. int_history_sum_weigh n t (λ H. cond (eqb (others H) y) (cond (eqb (class H) c) (weight H s) 0) 0) (value y x s)))
 
   -- in proportion where the weights are
-  class_value_in_proportion : (c c' t' : ℕ) (u : ℕ) (x : X) → ((y s : ℕ) → y < k → s < states → weight_at c y s * t' ≡ weight_at c' y s * u) → pos t' *ℤ class_value c x ≡ pos u *ℤ class_value c' x
+  class_value_in_proportion : (c c' t' : ℕ) (u : ℕ) (x : X)
+      → ((y s : ℕ) → y < k → s < states → weight_at c y s * t' ≡ weight_at c' y s * u)
+      → pos t' *ℤ class_value c x ≡ pos u *ℤ class_value c' x
   class_value_in_proportion c c' t' u x h =
       let regroup : (a b : ℕ) (z : ℤ) → pos a *ℤ (pos b *ℤ z) ≡ pos (b * a) *ℤ z = λ a b z. by_ring (nat a ⊗ (nat b ⊗ v z)) (nat (b * a) ⊗ v z) (omega arith) in
       ap (λ z. pos t' *ℤ z) (class_value_by_place c x)
@@ -67,7 +72,8 @@ module _ (n t states k : ℕ) (weight : List ℕ → ℕ → ℕ) (class others 
       int_history_sum_ext n t _ (λ H. pos 0) (λ H h. value_of_none (eqb (class H) c) states (weight H) (value (others H) x) (nat_history_sum_none n t _ e H h)) ∙ int_history_sum_zero n t
 
   -- for two classes in proportion one of x and x' is the better for both
-  pub better_for_both : (c c' : ℕ) (x x' : X) → ((y s : ℕ) → y < k → s < states → weight_at c y s * total_of c' ≡ weight_at c' y s * total_of c) →
+  pub better_for_both : (c c' : ℕ) (x x' : X)
+      → ((y s : ℕ) → y < k → s < states → weight_at c y s * total_of c' ≡ weight_at c' y s * total_of c) →
       (z : X) × ((z ≡ x) ⊎ (z ≡ x')) × ((class_value c x +ℤ class_value c' x') ≤ℤ (class_value c z +ℤ class_value c' z))
   better_for_both c c' x x' h =
       let sx : pos (total_of c') *ℤ class_value c x ≡ pos (total_of c) *ℤ class_value c' x = class_value_in_proportion c c' (total_of c') (total_of c) x h in

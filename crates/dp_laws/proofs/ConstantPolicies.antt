@@ -27,7 +27,8 @@ constant_tree_fits b n zero a h = tt
 constant_tree_fits b n (suc zero) a h = (h, refl)
 constant_tree_fits b n (suc (suc r)) a h = (h, repeated_fits b n (suc r) n (constant_tree n (suc r) a) (constant_tree_fits b n (suc r) a h))
 
-constant_trees_fit : (r : ℕ) (bs ns as' : List ℕ) → length ns ≡ length bs → AreBelow bs as' → IsJointPolicy r bs ns (constant_trees ns r as')
+constant_trees_fit : (r : ℕ) (bs ns as' : List ℕ) → length ns ≡ length bs → AreBelow bs as'
+    → IsJointPolicy r bs ns (constant_trees ns r as')
 constant_trees_fit r [] [] as' e h = no_agents
 constant_trees_fit r [] (n ∷ ns) as' e h = absurd (omega arith)
 constant_trees_fit r (b ∷ bs) [] as' e h = absurd (omega arith)
@@ -35,7 +36,8 @@ constant_trees_fit r (b ∷ bs) (n ∷ ns) [] e h = absurd h
 constant_trees_fit r (b ∷ bs) (n ∷ ns) (a ∷ as') e h = and_agent (constant_tree_fits b n r a h.0) (constant_trees_fit r bs ns as' (omega arith) h.1)
 
 -- a constant policy is a joint policy of the model
-pub constant_policy_fits : (m : Model) → IsModel m → (h a : ℕ) → a < joint_actions m → IsPolicyOf m h (constant_policy m h a)
+pub constant_policy_fits : (m : Model) → IsModel m → (h a : ℕ) → a < joint_actions m
+    → IsPolicyOf m h (constant_policy m h a)
 unfolding constant_policy joint_actions
 constant_policy_fits m ok h a p = constant_trees_fit h m.actions m.observations (parts_of m.actions a) ok.sizes.alike (parts_below m.actions a p)
 
@@ -44,7 +46,8 @@ root_of_constant n zero a = refl
 root_of_constant n (suc zero) a = refl
 root_of_constant n (suc (suc r)) a = refl
 
-roots_of_constant : (r : ℕ) (bs ns as' : List ℕ) → length ns ≡ length bs → AreBelow bs as' → map root_action (constant_trees ns r as') ≡ as'
+roots_of_constant : (r : ℕ) (bs ns as' : List ℕ) → length ns ≡ length bs → AreBelow bs as'
+    → map root_action (constant_trees ns r as') ≡ as'
 roots_of_constant r [] [] [] e h = refl
 roots_of_constant r [] [] (a ∷ as') e h = absurd h
 roots_of_constant r [] (n ∷ ns) as' e h = absurd (omega arith)
@@ -55,7 +58,8 @@ roots_of_constant r (b ∷ bs) (n ∷ ns) (a ∷ as') e h =
     rw (root_of_constant n r a, rest)
 
 -- it begins with its joint action
-pub constant_policy_begins : (m : Model) → IsModel m → (h a : ℕ) → a < joint_actions m → joint_root_action m (constant_policy m h a) ≡ a
+pub constant_policy_begins : (m : Model) → IsModel m → (h a : ℕ) → a < joint_actions m
+    → joint_root_action m (constant_policy m h a) ≡ a
 unfolding constant_policy joint_actions joint_root_action
 constant_policy_begins m ok h a p =
     ap (joint_number m.actions) (roots_of_constant h m.actions m.observations (parts_of m.actions a) ok.sizes.alike (parts_below m.actions a p)) ∙ joint_number-parts_of m.actions a p
@@ -64,7 +68,8 @@ none_more : (n : ℕ) (x : ℤ) → x +ℤ int_sum n (λ o. pos 0) ≡ x
 none_more n x = let e = int_sum_zero n in omega (arith, ints)
 
 -- over one step its value is the reward
-pub constant_policy_value : (m : Model) → IsModel m → (a : ℕ) → a < joint_actions m → policy_value m 1 (constant_policy m 1 a) ≡ weighted_reward m 0 (start_at m) a
+pub constant_policy_value : (m : Model) → IsModel m → (a : ℕ) → a < joint_actions m
+    → policy_value m 1 (constant_policy m 1 a) ≡ weighted_reward m 0 (start_at m) a
 constant_policy_value m ok a p =
     policy_value_is_recursive m 1 (constant_policy m 1 a)
     ∙ none_more (joint_observations m) _
@@ -80,7 +85,9 @@ root_counts : (bs : List ℕ) → product (class_counts (map (λ n. root_agent) 
 root_counts [] = refl
 root_counts (b ∷ bs) = let e = root_counts bs in omega arith
 
-root_class : (bs ns : List ℕ) → joint_number (class_counts (map (λ n. root_agent) bs)) (own_classes (map (λ n. root_agent) bs) (map (λ n. 0) ns)) ≡ 0
+root_class : (bs ns : List ℕ)
+    → joint_number (class_counts (map (λ n. root_agent) bs)) (own_classes (map (λ n. root_agent) bs) (map (λ n. 0) ns))
+      ≡ 0
 root_class [] ns = refl
 root_class (b ∷ bs) [] = refl
 root_class (b ∷ bs) (n ∷ ns) = let e = root_class bs ns in omega arith
@@ -96,7 +103,9 @@ no_choice (suc c) = refl
 agrees_with_none : (o : Option ℕ) (a : ℕ) → o ≡ None → agrees o a ≡ true
 agrees_with_none o a e = rw e
 
-root_agrees : (bs : List ℕ) (C a : ℕ) → all_agree (map (λ n. root_agent) bs) (parts_of (class_counts (map (λ n. root_agent) bs)) C) (parts_of bs a) ≡ true
+root_agrees : (bs : List ℕ) (C a : ℕ)
+    → all_agree (map (λ n. root_agent) bs) (parts_of (class_counts (map (λ n. root_agent) bs)) C) (parts_of bs a)
+      ≡ true
 root_agrees [] C a = refl
 root_agrees (b ∷ bs) C a = rw (agrees_with_none _ _ (no_choice _), root_agrees bs)
 
@@ -108,7 +117,9 @@ only_one : (n : ℕ) (f : ℕ → ℤ) → n ≡ 1 → pos 0 +ℤ int_sum n f �
 only_one n f e = rw e (omega (arith, ints))
 
 -- at a horizon of one step the bound of the root front is the greatest value of a constant joint action
-pub root_bound_at_one : (m : Model) → IsModel m → (look : ℕ) → bound_of m 1 (root_front m) look ≡ greatest (λ a. policy_value m 1 (constant_policy m 1 a)) (numbers_below (joint_actions m))
+pub root_bound_at_one : (m : Model) → IsModel m → (look : ℕ)
+    → bound_of m 1 (root_front m) look
+      ≡ greatest (λ a. policy_value m 1 (constant_policy m 1 a)) (numbers_below (joint_actions m))
 unfolding root_front
 root_bound_at_one m ok look =
     only_one _ _ (root_counts m.actions)

@@ -15,7 +15,8 @@ none_at true false n w s p e = refl
 none_at false t n w s p e = refl
 
 -- a class of total 0 has no weight anywhere
-no_weight : (m : Model) (F : Front) (i c x s : ℕ) → class_total m F i c ≡ 0 → s < m.states → place_weight m F i c x s ≡ 0
+no_weight : (m : Model) (F : Front) (i c x s : ℕ) → class_total m F i c ≡ 0 → s < m.states
+    → place_weight m F i c x s ≡ 0
 unfolding class_total place_weight
 no_weight m F i c x s e p =
     nat_history_sum_of_none (joint_observations m) F.stage _ (λ H h.
@@ -27,5 +28,6 @@ zero_sides : (a b p q : ℕ) → p ≡ 0 → a ≡ 0 → p * b ≡ q * a
 zero_sides a b p q e f = rw (e, f) (omega arith)
 
 -- so its weights are in proportion to those of every class
-pub empty_class_is_equivalent : (m : Model) (F : Front) (i c c' : ℕ) → class_total m F i c ≡ 0 → AreEquivalent m F i c c'
+pub empty_class_is_equivalent : (m : Model) (F : Front) (i c c' : ℕ) → class_total m F i c ≡ 0
+    → AreEquivalent m F i c c'
 empty_class_is_equivalent m F i c c' e = record { same = λ x s p q. zero_sides (class_total m F i c) (class_total m F i c') (place_weight m F i c x s) (place_weight m F i c' x s) (no_weight m F i c x s e q) e }

@@ -30,45 +30,56 @@ module _ (m : Model) (A : Arithmetic) (R : Enclosure) (ok : IsSound m A R) where
 
   -- ---- sums
   -- sums over the numbers below n
-  pub weighs_sum : (T n : ℕ) (w : ℕ → ℕ) (s : ℕ → Span) → ((i : ℕ) → i < n → R.Weighs T (w i) (s i)) → R.Weighs T (nat_sum n w) (span_sum n s)
+  pub weighs_sum : (T n : ℕ) (w : ℕ → ℕ) (s : ℕ → Span) → ((i : ℕ) → i < n → R.Weighs T (w i) (s i))
+      → R.Weighs T (nat_sum n w) (span_sum n s)
   weighs_sum T zero w s h = ok.no_weight T
   weighs_sum T (suc n) w s h = ok.more_weight T _ _ _ _ (weighs_sum T n w s (λ i p. h i (omega arith))) (h n (omega arith))
 
   -- of what is earned
-  pub earns_sum : (F n : ℕ) (x : ℕ → ℤ) (s : ℕ → Span) → ((i : ℕ) → i < n → R.Earns F (x i) (s i)) → R.Earns F (int_sum n x) (span_sum n s)
+  pub earns_sum : (F n : ℕ) (x : ℕ → ℤ) (s : ℕ → Span) → ((i : ℕ) → i < n → R.Earns F (x i) (s i))
+      → R.Earns F (int_sum n x) (span_sum n s)
   earns_sum F zero x s h = ok.no_gain F
   earns_sum F (suc n) x s h = ok.more_gain F _ _ _ _ (earns_sum F n x s (λ i p. h i (omega arith))) (h n (omega arith))
 
   -- of numbers from above
-  pub tops_sum : (F n : ℕ) (x u : ℕ → ℤ) → ((i : ℕ) → i < n → R.Tops F (x i) (u i)) → R.Tops F (int_sum n x) (int_sum n u)
+  pub tops_sum : (F n : ℕ) (x u : ℕ → ℤ) → ((i : ℕ) → i < n → R.Tops F (x i) (u i))
+      → R.Tops F (int_sum n x) (int_sum n u)
   tops_sum F zero x u h = ok.no_top F
   tops_sum F (suc n) x u h = ok.more_top F _ _ _ _ (tops_sum F n x u (λ i p. h i (omega arith))) (h n (omega arith))
 
   -- the greatest over a list
-  pub tops_greatest : (F : ℕ) (x u : ℕ → ℤ) (xs : List ℕ) → ((a : ℕ) → R.Tops F (x a) (u a)) → R.Tops F (greatest x xs) (greatest u xs)
+  pub tops_greatest : (F : ℕ) (x u : ℕ → ℤ) (xs : List ℕ) → ((a : ℕ) → R.Tops F (x a) (u a))
+      → R.Tops F (greatest x xs) (greatest u xs)
   tops_greatest F x u [] h = ok.no_top F
   tops_greatest F x u (a ∷ []) h = h a
   tops_greatest F x u (a ∷ (b ∷ as')) h = ok.greater F _ _ _ _ (h a) (tops_greatest F x u (b ∷ as') h)
 
   -- sums over joint histories
-  pub weighs_history_sum : (T n t : ℕ) (w : List ℕ → ℕ) (s : List ℕ → Span) → ((H : List ℕ) → IsJointHistory n t H → R.Weighs T (w H) (s H)) → R.Weighs T (nat_history_sum n t w) (span_history_sum n t s)
+  pub weighs_history_sum : (T n t : ℕ) (w : List ℕ → ℕ) (s : List ℕ → Span)
+      → ((H : List ℕ) → IsJointHistory n t H → R.Weighs T (w H) (s H))
+      → R.Weighs T (nat_history_sum n t w) (span_history_sum n t s)
   weighs_history_sum T n zero w s h = h [] tt
   weighs_history_sum T n (suc t) w s h = weighs_history_sum T n t _ _ (λ H p. weighs_sum T n _ _ (λ o q. h (o ∷ H) (q, p)))
 
   -- of what is earned
-  pub earns_history_sum : (F n t : ℕ) (x : List ℕ → ℤ) (s : List ℕ → Span) → ((H : List ℕ) → IsJointHistory n t H → R.Earns F (x H) (s H)) → R.Earns F (int_history_sum n t x) (span_history_sum n t s)
+  pub earns_history_sum : (F n t : ℕ) (x : List ℕ → ℤ) (s : List ℕ → Span)
+      → ((H : List ℕ) → IsJointHistory n t H → R.Earns F (x H) (s H))
+      → R.Earns F (int_history_sum n t x) (span_history_sum n t s)
   earns_history_sum F n zero x s h = h [] tt
   earns_history_sum F n (suc t) x s h = earns_history_sum F n t _ _ (λ H p. earns_sum F n _ _ (λ o q. h (o ∷ H) (q, p)))
 
   -- ---- weights and rewards
   -- the weights one step on
-  pub weights_after_enclosed : (T : ℕ) (w : ℕ → ℕ) (ws : ℕ → Span) (a o t : ℕ) → ((s : ℕ) → s < m.states → R.Weighs T (w s) (ws s)) → R.Weighs (T * step_scale m) (weights_after m w a o t) (weights_after_in A m ws a o t)
+  pub weights_after_enclosed : (T : ℕ) (w : ℕ → ℕ) (ws : ℕ → Span) (a o t : ℕ)
+      → ((s : ℕ) → s < m.states → R.Weighs T (w s) (ws s))
+      → R.Weighs (T * step_scale m) (weights_after m w a o t) (weights_after_in A m ws a o t)
   unfolding weights_after weights_after_in
   weights_after_enclosed T w ws a o t h =
       weighs_sum _ m.states _ _ (λ s p. weighs_same _ _ _ _ _ (scale_after_step m T) (omega arith) (ok.later _ _ _ (ok.chance _ _ (trans_at m a s t) (obs_at m a t o) _ (h s p))))
 
   -- the reward of a joint action
-  pub weighted_reward_enclosed : (T r : ℕ) (w : ℕ → ℕ) (ws : ℕ → Span) (a : ℕ) → ((s : ℕ) → s < m.states → R.Weighs T (w s) (ws s)) →
+  pub weighted_reward_enclosed : (T r : ℕ) (w : ℕ → ℕ) (ws : ℕ → Span) (a : ℕ)
+      → ((s : ℕ) → s < m.states → R.Weighs T (w s) (ws s)) →
       R.Earns (T * (m.scales.reward * step_scale m ^ suc r)) (weighted_reward m r w a) (weighted_reward_in A m r ws a)
   unfolding weighted_reward weighted_reward_in
   weighted_reward_enclosed T r w ws a h =
@@ -77,7 +88,8 @@ module _ (m : Model) (A : Arithmetic) (R : Enclosure) (ok : IsSound m A R) where
 
   -- ---- tables
   -- a reward of the table, from the weight 1
-  table_reward_enclosed : (r p z : ℕ) (x : ℤ) → R.Earns (m.scales.reward * step_scale m ^ suc r) (pos (p * z) *ℤ (x *ℤ pos (m.scales.discount * step_scale m ^ r))) (A.gain (A.chance A.one p z) x r)
+  table_reward_enclosed : (r p z : ℕ) (x : ℤ)
+      → R.Earns (m.scales.reward * step_scale m ^ suc r) (pos (p * z) *ℤ (x *ℤ pos (m.scales.discount * step_scale m ^ r))) (A.gain (A.chance A.one p z) x r)
   table_reward_enclosed r p z x =
       let e : 1 * (p * z) ≡ p * z = omega arith in
       let scale : 1 * (m.scales.trans * m.scales.obs) * (m.scales.discount * step_scale m ^ r) * m.scales.reward ≡ m.scales.reward * step_scale m ^ suc r = scale_after_reward m 1 r ∙ omega arith in
@@ -85,7 +97,8 @@ module _ (m : Model) (A : Arithmetic) (R : Enclosure) (ok : IsSound m A R) where
       (earns_same _ _ _ _ scale (ok.gain _ _ r x _ (ok.chance _ _ p z _ ok.one)))
 
   -- the table
-  pub mdp_table_enclosed : (r s : ℕ) → R.Tops (m.scales.reward * step_scale m ^ r) (mdp_table m r s) (mdp_table_in A m r s)
+  pub mdp_table_enclosed : (r s : ℕ)
+      → R.Tops (m.scales.reward * step_scale m ^ r) (mdp_table m r s) (mdp_table_in A m r s)
   mdp_table_enclosed zero s = ok.no_top _
   mdp_table_enclosed (suc r) s =
       tops_greatest _ _ _ (numbers_below (joint_actions m)) (λ a.
@@ -94,14 +107,17 @@ module _ (m : Model) (A : Arithmetic) (R : Enclosure) (ok : IsSound m A R) where
       (tops_sum _ m.states _ _ (λ t q. tops_same _ _ _ _ (scale_after_carry m r) (ok.carry _ (trans_at m a s t) _ _ (mdp_table_enclosed r t)))))
 
   -- weights against the table
-  pub weighted_table_enclosed : (T r : ℕ) (w : ℕ → ℕ) (ws : ℕ → Span) → ((s : ℕ) → s < m.states → R.Weighs T (w s) (ws s)) →
+  pub weighted_table_enclosed : (T r : ℕ) (w : ℕ → ℕ) (ws : ℕ → Span)
+      → ((s : ℕ) → s < m.states → R.Weighs T (w s) (ws s)) →
       R.Tops (T * (m.scales.reward * step_scale m ^ r)) (int_sum m.states (λ s. pos (w s) *ℤ mdp_table m r s)) (weighted_table_in A m r ws)
   unfolding weighted_table_in
   weighted_table_enclosed T r w ws h = tops_sum _ m.states _ _ (λ s p. ok.tail _ _ _ _ _ _ (h s p) (mdp_table_enclosed r s))
 
   -- ---- weights of histories and of classes, and what is earned
   -- the weight of a joint history and a state
-  pub history_weight_enclosed : (act : List ℕ → ℕ) (t : ℕ) (H : List ℕ) (s : ℕ) → IsJointHistory (joint_observations m) t H → R.Weighs (m.scales.start * step_scale m ^ t) (history_weight m act H s) (history_weight_in A m act H s)
+  pub history_weight_enclosed : (act : List ℕ → ℕ) (t : ℕ) (H : List ℕ) (s : ℕ)
+      → IsJointHistory (joint_observations m) t H
+      → R.Weighs (m.scales.start * step_scale m ^ t) (history_weight m act H s) (history_weight_in A m act H s)
   history_weight_enclosed act zero [] s h = weighs_same _ _ _ _ _ (scale_of_first m) refl (ok.start (start_at m s))
   history_weight_enclosed act zero (o ∷ H) s h = absurd h
   history_weight_enclosed act (suc t) [] s h = absurd h
@@ -113,13 +129,15 @@ module _ (m : Model) (A : Arithmetic) (R : Enclosure) (ok : IsSound m A R) where
   weighs_where T w s false h = ok.no_weight T
 
   -- the weight of a joint class and a state
-  pub class_weight_enclosed : (F : Front) (C s : ℕ) → R.Weighs (m.scales.start * step_scale m ^ F.stage) (class_weight m F C s) (class_weight_in A m F C s)
+  pub class_weight_enclosed : (F : Front) (C s : ℕ)
+      → R.Weighs (m.scales.start * step_scale m ^ F.stage) (class_weight m F C s) (class_weight_in A m F C s)
   unfolding class_weight class_weight_in
   class_weight_enclosed F C s =
       weighs_history_sum _ (joint_observations m) F.stage _ _ (λ H p. weighs_where _ _ _ (eqb (joint_class m F H) C) (history_weight_enclosed (fixed_joint_action m F) F.stage H s p))
 
   -- what is earned before a time
-  pub earned_reward_enclosed : (act : List ℕ → ℕ) (h f : ℕ) → f ≤ h → R.Earns (value_scale m h) (earned_reward m act h f) (earned_reward_in A m act h f)
+  pub earned_reward_enclosed : (act : List ℕ → ℕ) (h f : ℕ) → f ≤ h
+      → R.Earns (value_scale m h) (earned_reward m act h f) (earned_reward_in A m act h f)
   earned_reward_enclosed act h zero le = ok.no_gain _
   earned_reward_enclosed act h (suc f) le =
       ok.more_gain _ _ _ _ _ (earned_reward_enclosed act h f (omega arith))
@@ -129,7 +147,9 @@ module _ (m : Model) (A : Arithmetic) (R : Enclosure) (ok : IsSound m A R) where
 
   -- ---- look-ahead and bounds
   -- look-ahead
-  pub look_ahead_enclosed : IsModel m → (T r k : ℕ) (w : ℕ → ℕ) (ws : ℕ → Span) → ((s : ℕ) → s < m.states → R.Weighs T (w s) (ws s)) → R.Tops (T * (m.scales.reward * step_scale m ^ r)) (look_ahead m r w k) (look_ahead_in A m r ws k)
+  pub look_ahead_enclosed : IsModel m → (T r k : ℕ) (w : ℕ → ℕ) (ws : ℕ → Span)
+      → ((s : ℕ) → s < m.states → R.Weighs T (w s) (ws s))
+      → R.Tops (T * (m.scales.reward * step_scale m ^ r)) (look_ahead m r w k) (look_ahead_in A m r ws k)
   look_ahead_enclosed is T zero k w ws h = ok.no_top _
   look_ahead_enclosed is T (suc r) zero w ws h = weighted_table_enclosed T (suc r) w ws h
   look_ahead_enclosed is T (suc r) (suc k) w ws h =
@@ -140,14 +160,17 @@ module _ (m : Model) (A : Arithmetic) (R : Enclosure) (ok : IsSound m A R) where
       (weighted_table_enclosed T (suc r) w ws h)
 
   -- look-ahead of a joint action
-  pub action_look_ahead_enclosed : IsModel m → (T r k : ℕ) (w : ℕ → ℕ) (ws : ℕ → Span) (a : ℕ) → ((s : ℕ) → s < m.states → R.Weighs T (w s) (ws s)) → R.Tops (T * (m.scales.reward * step_scale m ^ suc r)) (action_look_ahead m r w a k) (action_look_ahead_in A m r ws a k)
+  pub action_look_ahead_enclosed : IsModel m → (T r k : ℕ) (w : ℕ → ℕ) (ws : ℕ → Span) (a : ℕ)
+      → ((s : ℕ) → s < m.states → R.Weighs T (w s) (ws s))
+      → R.Tops (T * (m.scales.reward * step_scale m ^ suc r)) (action_look_ahead m r w a k) (action_look_ahead_in A m r ws a k)
   unfolding action_look_ahead action_look_ahead_in
   action_look_ahead_enclosed is T r k w ws a h =
       ok.more_top _ _ _ _ _ (ok.top _ _ _ (weighted_reward_enclosed T r w ws a h))
       (tops_sum _ (joint_observations m) _ _ (λ o p. tops_same _ _ _ _ (scale_after_tail m T r) (look_ahead_enclosed is (T * step_scale m) r (k - 1) (weights_after m w a o) (weights_after_in A m ws a o) (λ t q. weights_after_enclosed T w ws a o t h))))
 
   -- the bound of a front
-  pub bound_enclosed : IsModel m → (r : ℕ) (F : Front) (look : ℕ) → R.Tops (value_scale m (F.stage + r)) (bound_of m r F look) (bound_in A m r F look)
+  pub bound_enclosed : IsModel m → (r : ℕ) (F : Front) (look : ℕ)
+      → R.Tops (value_scale m (F.stage + r)) (bound_of m r F look) (bound_in A m r F look)
   bound_enclosed is zero F look = ok.top _ _ _ (earned_reward_enclosed (fixed_joint_action m F) (F.stage + 0) F.stage (omega arith))
   bound_enclosed is (suc r) F look =
       ok.more_top _ _ _ _ _ (ok.top _ _ _ (earned_reward_enclosed (fixed_joint_action m F) (F.stage + suc r) F.stage (omega arith)))

@@ -36,7 +36,9 @@ module _ (m : Model) (is : IsModel m) where
   start_total = nat_sum_ext m.states _ (start_at m) (λ s p. start_size (start_at m s)) ∙ is.rows.start
 
   -- all weights of a time together
-  pub histories_total : (act : List ℕ → ℕ) (t : ℕ) → IsActing m t act → nat_history_sum (joint_observations m) t (λ H. total_size m (history_weight_in (exact m.scales) m act H)) ≤ m.scales.start * step_scale m ^ t
+  pub histories_total : (act : List ℕ → ℕ) (t : ℕ) → IsActing m t act
+      → nat_history_sum (joint_observations m) t (λ H. total_size m (history_weight_in (exact m.scales) m act H))
+        ≤ m.scales.start * step_scale m ^ t
   histories_total act zero acts = let e = start_total in let f = scale_of_first m in omega arith
   histories_total act (suc t) acts =
       let O = joint_observations m in
@@ -57,7 +59,8 @@ module _ (m : Model) (is : IsModel m) where
   regroup d p x q k e = omega (arith, ap (λ (n : ℕ). d * n * x) e)
 
   -- what is earned before a time
-  pub earned_most : (act : List ℕ → ℕ) (h f : ℕ) → f ≤ h → IsActing m f act → earned_size (exact m.scales) m act h f ≤ f * (m.scales.start * step_scale m ^ h * reward_most m)
+  pub earned_most : (act : List ℕ → ℕ) (h f : ℕ) → f ≤ h → IsActing m f act
+      → earned_size (exact m.scales) m act h f ≤ f * (m.scales.start * step_scale m ^ h * reward_most m)
   earned_most act h zero le acts = omega arith
   earned_most act h (suc f) le acts =
       let O = joint_observations m in
@@ -73,20 +76,26 @@ module _ (m : Model) (is : IsModel m) where
 
   -- ---- fronts
   -- all classes of a front together
-  pub front_total : (F : Front) (n : ℕ) → IsActing m F.stage (fixed_joint_action m F) → nat_sum n (λ C. total_size m (class_weight_in (exact m.scales) m F C)) ≤ m.scales.start * step_scale m ^ F.stage
+  pub front_total : (F : Front) (n : ℕ) → IsActing m F.stage (fixed_joint_action m F)
+      → nat_sum n (λ C. total_size m (class_weight_in (exact m.scales) m F C))
+        ≤ m.scales.start * step_scale m ^ F.stage
   front_total F n acts = let all = classes_total (exact m.scales) m F n in let most = histories_total (fixed_joint_action m F) F.stage acts in omega arith
 
   -- look-ahead of a joint action, with look k
-  pub action_look_most : (r k : ℕ) (ws : ℕ → Span) (a : ℕ) → a < joint_actions m → unsigned_abs (action_look_ahead_in (exact m.scales) m r ws a k) ≤ total_size m ws * value_most m (suc r)
+  pub action_look_most : (r k : ℕ) (ws : ℕ → Span) (a : ℕ) → a < joint_actions m
+      → unsigned_abs (action_look_ahead_in (exact m.scales) m r ws a k) ≤ total_size m ws * value_most m (suc r)
   action_look_most r k ws a pa = let parts = action_look_le (exact m.scales) m r ws a k in let most = looks_most m is r (k - 1) ws a pa in omega arith
 
   -- a value over the steps that are left against the weights of a stage
-  value_at_stage : (f r h : ℕ) → f + suc r ≡ h → m.scales.start * step_scale m ^ f * value_most m (suc r) ≡ suc r * (m.scales.start * step_scale m ^ h * reward_most m)
+  value_at_stage : (f r h : ℕ) → f + suc r ≡ h
+      → m.scales.start * step_scale m ^ f * value_most m (suc r)
+        ≡ suc r * (m.scales.start * step_scale m ^ h * reward_most m)
   unfolding value_most
   value_at_stage f r h e = weights_times_value m.scales.start (step_scale m ^ f) (suc r) (reward_most m) (step_scale m ^ suc r) (step_scale m ^ h) (split_power f (suc r) h e)
 
   -- the best look-aheads of all joint classes together
-  pub class_looks_most : (F : Front) (r k h : ℕ) → F.stage + suc r ≡ h → IsActing m F.stage (fixed_joint_action m F) → class_look_size (exact m.scales) m r F k ≤ suc r * (m.scales.start * step_scale m ^ h * reward_most m)
+  pub class_looks_most : (F : Front) (r k h : ℕ) → F.stage + suc r ≡ h → IsActing m F.stage (fixed_joint_action m F)
+      → class_look_size (exact m.scales) m r F k ≤ suc r * (m.scales.start * step_scale m ^ h * reward_most m)
   unfolding class_look_size
   class_looks_most F r k h e acts =
       let n = product (class_counts F.agents) in
@@ -100,7 +109,8 @@ module _ (m : Model) (is : IsModel m) where
       omega arith
 
   -- all next weights of a front's joint classes
-  pub advanced_most : (F : Front) (act : ℕ → ℕ) → IsActing m F.stage (fixed_joint_action m F) → IsChoosing m F act → advanced_size (exact m.scales) m F act ≤ m.scales.start * step_scale m ^ suc F.stage
+  pub advanced_most : (F : Front) (act : ℕ → ℕ) → IsActing m F.stage (fixed_joint_action m F) → IsChoosing m F act
+      → advanced_size (exact m.scales) m F act ≤ m.scales.start * step_scale m ^ suc F.stage
   unfolding advanced_size
   advanced_most F act acts chosen =
       let n = product (class_counts F.agents) in
@@ -112,7 +122,9 @@ module _ (m : Model) (is : IsModel m) where
       omega arith
 
   -- all rewards of a front's joint classes
-  pub class_rewards_most : (F : Front) (r h : ℕ) (act : ℕ → ℕ) → F.stage + suc r ≡ h → IsActing m F.stage (fixed_joint_action m F) → IsChoosing m F act → class_reward_size (exact m.scales) m r F act ≤ m.scales.start * step_scale m ^ h * reward_most m
+  pub class_rewards_most : (F : Front) (r h : ℕ) (act : ℕ → ℕ) → F.stage + suc r ≡ h
+      → IsActing m F.stage (fixed_joint_action m F) → IsChoosing m F act
+      → class_reward_size (exact m.scales) m r F act ≤ m.scales.start * step_scale m ^ h * reward_most m
   unfolding class_reward_size
   class_rewards_most F r h act e acts chosen =
       let n = product (class_counts F.agents) in

@@ -48,7 +48,8 @@ module _ (m : Model) (is : IsModel m) (h : ℕ) (some : 0 < h) (mode : true ≡ 
       let f = weights_times_value m.scales.start (step_scale m ^ t) r (reward_most m) (step_scale m ^ r) (step_scale m ^ h) (split_power t r e) in omega arith
 
   -- a reward of the weights of a time
-  reward_room : (t r w : ℕ) → t + suc r ≡ h → w ≤ m.scales.start * step_scale m ^ t → w * (reward_most m * step_scale m ^ suc r) ≤ 2 ^ 126
+  reward_room : (t r w : ℕ) → t + suc r ≡ h → w ≤ m.scales.start * step_scale m ^ t
+      → w * (reward_most m * step_scale m ^ suc r) ≤ 2 ^ 126
   unfolding value_most
   reward_room t r w e small =
       let room = value_room t (suc r) w e small in
@@ -81,7 +82,8 @@ module _ (m : Model) (is : IsModel m) (h : ℕ) (some : 0 < h) (mode : true ≡ 
 
   -- ---- rewards
   -- the call for a part of a reward
-  may_gain : (t r : ℕ) (ws : ℕ → Span) (a s u o : ℕ) → t + suc r ≡ h → AreWeights true m t ws → IsStep m a s u o → (exact_calls m.scales).Gain ((exact m.scales).chance (ws s) (trans_at m a s u) (obs_at m a u o)) (reward_at m a s u o) r
+  may_gain : (t r : ℕ) (ws : ℕ → Span) (a s u o : ℕ) → t + suc r ≡ h → AreWeights true m t ws → IsStep m a s u o
+      → (exact_calls m.scales).Gain ((exact m.scales).chance (ws s) (trans_at m a s u) (obs_at m a u o)) (reward_at m a s u o) r
   may_gain t r ws a s u o e are st =
       let G = λ (u o : ℕ). size ((exact m.scales).gain ((exact m.scales).chance (ws s) (trans_at m a s u) (obs_at m a u o)) (reward_at m a s u o) r) in
       let one = nat_sum_at (joint_observations m) (λ o. G u o) o st.seen in
@@ -93,7 +95,8 @@ module _ (m : Model) (is : IsModel m) (h : ℕ) (some : 0 < h) (mode : true ≡ 
       (chance_point m.scales (ws s) _ _ (are.points refl s st.state), omega arith, factor_room r (omega arith))
 
   -- all parts of a reward
-  rewards_fit : (t r : ℕ) (ws : ℕ → Span) (a : ℕ) → t + suc r ≡ h → AreWeights true m t ws → a < joint_actions m → reward_size (exact m.scales) m r ws a < 2 ^ 127
+  rewards_fit : (t r : ℕ) (ws : ℕ → Span) (a : ℕ) → t + suc r ≡ h → AreWeights true m t ws → a < joint_actions m
+      → reward_size (exact m.scales) m r ws a < 2 ^ 127
   rewards_fit t r ws a e are pa = let most = reward_total m is ws a r pa in let room = reward_room t r (total_size m ws) e are.limit in omega arith
 
   -- in exact mode rewards are allowed
@@ -110,7 +113,8 @@ module _ (m : Model) (is : IsModel m) (h : ℕ) (some : 0 < h) (mode : true ≡ 
   exact_can_earn = record { add = earned_fits }
 
   -- all parts of the worth of a joint policy
-  worth_fits : (t r : ℕ) (ws : ℕ → Span) (qs : List PolicyTree) → t + r ≡ h → AreWeights true m t ws → IsPolicyOf m r qs → worth_size (exact m.scales) m r ws qs < 2 ^ 127
+  worth_fits : (t r : ℕ) (ws : ℕ → Span) (qs : List PolicyTree) → t + r ≡ h → AreWeights true m t ws
+      → IsPolicyOf m r qs → worth_size (exact m.scales) m r ws qs < 2 ^ 127
   worth_fits t r ws qs e are p = let most = worth_most m is r ws qs p in let room = value_room t r (total_size m ws) e are.limit in omega arith
 
   -- in exact mode worth can be added up
@@ -120,7 +124,8 @@ module _ (m : Model) (is : IsModel m) (h : ℕ) (some : 0 < h) (mode : true ≡ 
 
   -- ---- the table
   -- the call with the weight 1
-  table_chance : (a s t o : ℕ) → IsStep m a s t o → (exact_calls m.scales).Chance (exact m.scales).one (trans_at m a s t) (obs_at m a t o)
+  table_chance : (a s t o : ℕ) → IsStep m a s t o
+      → (exact_calls m.scales).Chance (exact m.scales).one (trans_at m a s t) (obs_at m a t o)
   table_chance a s t o st =
       let e = chance_size m.scales (exact m.scales).one (trans_at m a s t) (obs_at m a t o) in
       let f = ap (λ (n : ℕ). n * (trans_at m a s t * obs_at m a t o)) (one_size m) in
@@ -132,7 +137,8 @@ module _ (m : Model) (is : IsModel m) (h : ℕ) (some : 0 < h) (mode : true ≡ 
       (one_point m, omega arith)
 
   -- the call for a part of the reward now
-  table_gain : (r a s t o : ℕ) → r < h → IsStep m a s t o → (exact_calls m.scales).Gain ((exact m.scales).chance (exact m.scales).one (trans_at m a s t) (obs_at m a t o)) (reward_at m a s t o) r
+  table_gain : (r a s t o : ℕ) → r < h → IsStep m a s t o
+      → (exact_calls m.scales).Gain ((exact m.scales).chance (exact m.scales).one (trans_at m a s t) (obs_at m a t o)) (reward_at m a s t o) r
   unfolding value_most
   table_gain r a s t o lt st =
       let G = λ (t o : ℕ). size ((exact m.scales).gain ((exact m.scales).chance (exact m.scales).one (trans_at m a s t) (obs_at m a t o)) (reward_at m a s t o) r) in
@@ -144,7 +150,8 @@ module _ (m : Model) (is : IsModel m) (h : ℕ) (some : 0 < h) (mode : true ≡ 
       (chance_point m.scales (exact m.scales).one _ _ (one_point m), omega arith, factor_room r lt)
 
   -- the call for a part of the value after it
-  table_carry : (r a s t : ℕ) → r < h → a < joint_actions m → s < m.states → t < m.states → (exact_calls m.scales).Carry (mdp_table_in (exact m.scales) m r t) (trans_at m a s t)
+  table_carry : (r a s t : ℕ) → r < h → a < joint_actions m → s < m.states → t < m.states
+      → (exact_calls m.scales).Carry (mdp_table_in (exact m.scales) m r t) (trans_at m a s t)
   unfolding table_later_size
   table_carry r a s t lt pa ps pt =
       let parts = table_parts_most m is r a s pa ps (λ t pt. table_most m is r t pt) in
@@ -152,7 +159,8 @@ module _ (m : Model) (is : IsModel m) (h : ℕ) (some : 0 < h) (mode : true ≡ 
       let room = table_room (suc r) lt in omega arith
 
   -- all parts of a value of the table
-  table_fits : (r a s : ℕ) → r < h → a < joint_actions m → s < m.states → table_reward_size (exact m.scales) m r a s + table_later_size (exact m.scales) m r a s < 2 ^ 127
+  table_fits : (r a s : ℕ) → r < h → a < joint_actions m → s < m.states
+      → table_reward_size (exact m.scales) m r a s + table_later_size (exact m.scales) m r a s < 2 ^ 127
   table_fits r a s lt pa ps = let parts = table_parts_most m is r a s pa ps (λ t pt. table_most m is r t pt) in let room = table_room (suc r) lt in omega arith
 
   -- in exact mode the table can be computed
@@ -161,7 +169,8 @@ module _ (m : Model) (is : IsModel m) (h : ℕ) (some : 0 < h) (mode : true ≡ 
 
   -- ---- look-ahead
   -- the call for a weight against the table
-  may_tail : (t r s : ℕ) (ws : ℕ → Span) → t + r ≡ h → AreWeights true m t ws → s < m.states → (exact_calls m.scales).Tail (ws s) (mdp_table_in (exact m.scales) m r s)
+  may_tail : (t r s : ℕ) (ws : ℕ → Span) → t + r ≡ h → AreWeights true m t ws → s < m.states
+      → (exact_calls m.scales).Tail (ws s) (mdp_table_in (exact m.scales) m r s)
   may_tail t r s ws e are ps =
       let part = tail_size m.scales (ws s) (mdp_table_in (exact m.scales) m r s) in
       let le = mul-le-mul_left (size (ws s)) (table_most m is r s ps) in
@@ -171,11 +180,13 @@ module _ (m : Model) (is : IsModel m) (h : ℕ) (some : 0 < h) (mode : true ≡ 
       (are.points refl s ps, omega arith)
 
   -- all weights against the table
-  tails_fit : (t r : ℕ) (ws : ℕ → Span) → t + r ≡ h → AreWeights true m t ws → weighted_table_size (exact m.scales) m r ws < 2 ^ 127
+  tails_fit : (t r : ℕ) (ws : ℕ → Span) → t + r ≡ h → AreWeights true m t ws
+      → weighted_table_size (exact m.scales) m r ws < 2 ^ 127
   tails_fit t r ws e are = let most = weighted_table_most m is r ws in let room = value_room t r (total_size m ws) e are.limit in omega arith
 
   -- the reward now and the look-aheads after it
-  looks_fit : (t r k : ℕ) (ws : ℕ → Span) (a : ℕ) → t + suc r ≡ h → AreWeights true m t ws → a < joint_actions m → reward_size (exact m.scales) m r ws a + next_look_size (exact m.scales) m r ws a k < 2 ^ 127
+  looks_fit : (t r k : ℕ) (ws : ℕ → Span) (a : ℕ) → t + suc r ≡ h → AreWeights true m t ws → a < joint_actions m
+      → reward_size (exact m.scales) m r ws a + next_look_size (exact m.scales) m r ws a k < 2 ^ 127
   looks_fit t r k ws a e are pa = let most = looks_most m is r k ws a pa in let room = value_room t (suc r) (total_size m ws) e are.limit in omega arith
 
   -- in exact mode look-ahead can be computed
@@ -185,11 +196,15 @@ module _ (m : Model) (is : IsModel m) (h : ℕ) (some : 0 < h) (mode : true ≡ 
 
   -- ---- fronts
   -- all weights of a time
-  weights_fit : (act : List ℕ → ℕ) (t : ℕ) → t ≤ h → IsActing m t act → nat_history_sum (joint_observations m) t (λ H. total_size m (history_weight_in (exact m.scales) m act H)) < 2 ^ 127
+  weights_fit : (act : List ℕ → ℕ) (t : ℕ) → t ≤ h → IsActing m t act
+      → nat_history_sum (joint_observations m) t (λ H. total_size m (history_weight_in (exact m.scales) m act H))
+        < 2 ^ 127
   weights_fit act t le acts = let most = histories_total m is act t acts in let grown = power_grows m is h some mode t le in let room = weight_room m is h some mode in omega arith
 
   -- what a front has earned and its best look-aheads
-  looks_of_front_fit : (F : Front) (r k : ℕ) → IsFront m h F → F.stage + suc r ≡ h → earned_size (exact m.scales) m (fixed_joint_action m F) h F.stage + class_look_size (exact m.scales) m r F k < 2 ^ 127
+  looks_of_front_fit : (F : Front) (r k : ℕ) → IsFront m h F → F.stage + suc r ≡ h
+      → earned_size (exact m.scales) m (fixed_joint_action m F) h F.stage + class_look_size (exact m.scales) m r F k
+        < 2 ^ 127
   looks_of_front_fit F r k front e =
       let acts = front_acting m h F front in
       let earned = earned_most m is (fixed_joint_action m F) h F.stage (omega arith) acts in
@@ -202,14 +217,16 @@ module _ (m : Model) (is : IsModel m) (h : ℕ) (some : 0 < h) (mode : true ≡ 
       together f r h x e = omega (arith, ap (λ (n : ℕ). n * x) e)
 
   -- the weights of a joint class
-  class_limit : (F : Front) (C : ℕ) → IsFront m h F → total_size m (class_weight_in (exact m.scales) m F C) ≤ m.scales.start * step_scale m ^ F.stage
+  class_limit : (F : Front) (C : ℕ) → IsFront m h F
+      → total_size m (class_weight_in (exact m.scales) m F C) ≤ m.scales.start * step_scale m ^ F.stage
   class_limit F C front =
       let acts = front_acting m h F front in
       let all = front_total m is F (suc C) acts in
       let one = nat_sum_at (suc C) (λ C. total_size m (class_weight_in (exact m.scales) m F C)) C (omega arith) in omega arith
 
   -- they are weights of the stage
-  weights_of_class : (F : Front) (C : ℕ) → IsFront m h F → F.stage < h → AreWeights true m F.stage (class_weight_in (exact m.scales) m F C)
+  weights_of_class : (F : Front) (C : ℕ) → IsFront m h F → F.stage < h
+      → AreWeights true m F.stage (class_weight_in (exact m.scales) m F C)
   unfolding exact
   weights_of_class F C front lt = class_weights (exact m.scales) (exact_calls m.scales) m h (exact_can_push m is h some mode) F C front lt (class_limit F C front)
 
@@ -223,14 +240,17 @@ module _ (m : Model) (is : IsModel m) (h : ℕ) (some : 0 < h) (mode : true ≡ 
   exact_can_bound = record { add = looks_of_front_fit }
 
   -- all next weights of a front's joint classes
-  advanced_fits : (F : Front) (act : ℕ → ℕ) → IsFront m h F → F.stage < h → IsChoosing m F act → advanced_size (exact m.scales) m F act < 2 ^ 127
+  advanced_fits : (F : Front) (act : ℕ → ℕ) → IsFront m h F → F.stage < h → IsChoosing m F act
+      → advanced_size (exact m.scales) m F act < 2 ^ 127
   advanced_fits F act front lt chosen =
       let most = advanced_most m is F act (front_acting m h F front) chosen in
       let grown = power_grows m is h some mode (suc F.stage) lt in
       let room = weight_room m is h some mode in omega arith
 
   -- what a front has earned and its rewards
-  rewards_of_front_fit : (F : Front) (r : ℕ) (act : ℕ → ℕ) → IsFront m h F → F.stage + suc r ≡ h → IsChoosing m F act → earned_size (exact m.scales) m (fixed_joint_action m F) h F.stage + class_reward_size (exact m.scales) m r F act < 2 ^ 127
+  rewards_of_front_fit : (F : Front) (r : ℕ) (act : ℕ → ℕ) → IsFront m h F → F.stage + suc r ≡ h → IsChoosing m F act
+      → earned_size (exact m.scales) m (fixed_joint_action m F) h F.stage + class_reward_size (exact m.scales) m r F act
+        < 2 ^ 127
   rewards_of_front_fit F r act front e chosen =
       let acts = front_acting m h F front in
       let earned = earned_most m is (fixed_joint_action m F) h F.stage (omega arith) acts in

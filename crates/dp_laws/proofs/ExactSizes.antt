@@ -29,7 +29,8 @@ max_times a b n =
     either a b = grind arith
 
 -- a span whose ends are multiplied
-size_times : (w v : Span) (n : ℕ) → unsigned_abs v.low ≡ unsigned_abs w.low * n → unsigned_abs v.high ≡ unsigned_abs w.high * n → size v ≡ size w * n
+size_times : (w v : Span) (n : ℕ) → unsigned_abs v.low ≡ unsigned_abs w.low * n
+    → unsigned_abs v.high ≡ unsigned_abs w.high * n → size v ≡ size w * n
 size_times w v n e f = rw (e, f) (max_times (unsigned_abs w.low) (unsigned_abs w.high) n)
 
 -- a weight times chances
@@ -47,12 +48,14 @@ abs_times : (x r : ℤ) (k : ℕ) → unsigned_abs (x *ℤ (r *ℤ pos k)) ≡ u
 abs_times x r k = unsigned_abs-mul x (r *ℤ pos k) ∙ ap (λ (n : ℕ). unsigned_abs x * n) (unsigned_abs-mul r (pos k))
 
 -- a weight times a reward
-pub gain_size : (c : Scales) (w : Span) (r : ℤ) (rest : ℕ) → size ((exact c).gain w r rest) ≡ size w * (unsigned_abs r * reward_factor c rest)
+pub gain_size : (c : Scales) (w : Span) (r : ℤ) (rest : ℕ)
+    → size ((exact c).gain w r rest) ≡ size w * (unsigned_abs r * reward_factor c rest)
 unfolding exact
 gain_size c w r rest = size_times w ((exact c).gain w r rest) (unsigned_abs r * reward_factor c rest) (abs_times w.low r (reward_factor c rest)) (abs_times w.high r (reward_factor c rest))
 
 -- a value of the table one step earlier
-pub carry_size : (c : Scales) (v : ℤ) (p : ℕ) → unsigned_abs ((exact c).carry v p) ≡ unsigned_abs v * (p * c.obs * c.gain)
+pub carry_size : (c : Scales) (v : ℤ) (p : ℕ)
+    → unsigned_abs ((exact c).carry v p) ≡ unsigned_abs v * (p * c.obs * c.gain)
 unfolding exact
 carry_size c v p = unsigned_abs-mul v (pos (p * c.obs * c.gain))
 
@@ -67,11 +70,14 @@ unfolding reward_factor step_scale
 reward_factor_is m r = refl
 
 -- one weight with its chances and discount, and with its reward
-pushed_part : (c : Scales) (w : Span) (p z : ℕ) → size ((exact c).later ((exact c).chance w p z)) ≡ size w * (p * z * c.gain)
+pushed_part : (c : Scales) (w : Span) (p z : ℕ)
+    → size ((exact c).later ((exact c).chance w p z)) ≡ size w * (p * z * c.gain)
 pushed_part c w p z = later_size c ((exact c).chance w p z) ∙ ap (λ (n : ℕ). n * c.gain) (chance_size c w p z) ∙ omega arith
 
 -- one weight with its chances and reward
-gained_part : (m : Model) (w : Span) (p z r : ℕ) (x : ℤ) → size ((exact m.scales).gain ((exact m.scales).chance w p z) x r) ≡ size w * (p * z) * (unsigned_abs x * (m.scales.discount * step_scale m ^ r))
+gained_part : (m : Model) (w : Span) (p z r : ℕ) (x : ℤ)
+    → size ((exact m.scales).gain ((exact m.scales).chance w p z) x r)
+      ≡ size w * (p * z) * (unsigned_abs x * (m.scales.discount * step_scale m ^ r))
 gained_part m w p z r x =
     gain_size m.scales ((exact m.scales).chance w p z) x r ∙ ap (λ (n : ℕ). n * (unsigned_abs x * reward_factor m.scales r)) (chance_size m.scales w p z)
     ∙ ap (λ (n : ℕ). size w * (p * z) * (unsigned_abs x * n)) (reward_factor_is m r)
@@ -79,7 +85,9 @@ gained_part m w p z r x =
 module _ (m : Model) (is : IsModel m) where
   -- ---- the weights of the next time
   -- all next weights together
-  spread : (w : ℕ → ℕ) (a : ℕ) → a < joint_actions m → nat_sum (joint_observations m) (λ o. nat_sum m.states (λ t. weights_after m w a o t)) ≡ nat_sum m.states w * (m.scales.trans * m.scales.obs * m.scales.gain)
+  spread : (w : ℕ → ℕ) (a : ℕ) → a < joint_actions m
+      → nat_sum (joint_observations m) (λ o. nat_sum m.states (λ t. weights_after m w a o t))
+        ≡ nat_sum m.states w * (m.scales.trans * m.scales.obs * m.scales.gain)
   unfolding weights_after
   spread w a p =
       let S = m.states in
@@ -99,12 +107,16 @@ module _ (m : Model) (is : IsModel m) where
       over_t w z g d n f e = nat_sum_ext n _ (λ t. w * f t * (z * g)) (λ t h. omega arith) ∙ nat_sum_scale n w (z * g) f ∙ ap (λ (x : ℕ). w * x * (z * g)) e ∙ omega arith
 
   -- the parts of a next weight are those of the exact definition, from the magnitudes
-  pushed_parts : (ws : ℕ → Span) (a o t : ℕ) → nat_sum m.states (λ s. size ((exact m.scales).later ((exact m.scales).chance (ws s) (trans_at m a s t) (obs_at m a t o)))) ≡ weights_after m (λ s. size (ws s)) a o t
+  pushed_parts : (ws : ℕ → Span) (a o t : ℕ)
+      → nat_sum m.states (λ s. size ((exact m.scales).later ((exact m.scales).chance (ws s) (trans_at m a s t) (obs_at m a t o))))
+        ≡ weights_after m (λ s. size (ws s)) a o t
   unfolding weights_after
   pushed_parts ws a o t = nat_sum_ext m.states _ _ (λ s p. pushed_part m.scales (ws s) (trans_at m a s t) (obs_at m a t o))
 
   -- all parts of all next weights together
-  parts_total : (ws : ℕ → Span) (a : ℕ) → a < joint_actions m → nat_sum (joint_observations m) (λ o. nat_sum m.states (λ t. weights_after m (λ s. size (ws s)) a o t)) ≤ total_size m ws * step_scale m
+  parts_total : (ws : ℕ → Span) (a : ℕ) → a < joint_actions m
+      → nat_sum (joint_observations m) (λ o. nat_sum m.states (λ t. weights_after m (λ s. size (ws s)) a o t))
+        ≤ total_size m ws * step_scale m
   unfolding step_scale
   parts_total ws a p = let e = spread (λ s. size (ws s)) a p in let le = mul-le-mul_left (total_size m ws) (mul-le-mul_left (m.scales.trans * m.scales.obs) is.scales.gain) in omega arith
 
@@ -118,7 +130,9 @@ module _ (m : Model) (is : IsModel m) where
       let e = pushed_parts ws a o t in omega arith
 
   -- all next weights together
-  pub pushed_total : (ws : ℕ → Span) (a : ℕ) → a < joint_actions m → nat_sum (joint_observations m) (λ o. total_size m (weights_after_in (exact m.scales) m ws a o)) ≤ total_size m ws * step_scale m
+  pub pushed_total : (ws : ℕ → Span) (a : ℕ) → a < joint_actions m
+      → nat_sum (joint_observations m) (λ o. total_size m (weights_after_in (exact m.scales) m ws a o))
+        ≤ total_size m ws * step_scale m
   pushed_total ws a pa =
       let all = parts_total ws a pa in
       let each = nat_sum_le (joint_observations m) (λ o. total_size m (weights_after_in (exact m.scales) m ws a o)) (λ o. nat_sum m.states (λ t. weights_after m (λ s. size (ws s)) a o t))
@@ -127,7 +141,9 @@ module _ (m : Model) (is : IsModel m) where
 
   -- ---- rewards
   -- a reward over the scales of a step
-  step_of : (most r w : ℕ) → w * m.scales.trans * (m.scales.obs * (most * (m.scales.discount * step_scale m ^ r))) ≡ w * (most * step_scale m ^ suc r)
+  step_of : (most r w : ℕ)
+      → w * m.scales.trans * (m.scales.obs * (most * (m.scales.discount * step_scale m ^ r)))
+        ≡ w * (most * step_scale m ^ suc r)
   step_of most r w = scaled w m.scales.trans m.scales.obs m.scales.discount most (step_scale m ^ r) (step_scale m) _ (step_scale_is m) (pow-suc (step_scale m) r)
     where
       scaled : (w dt do' dg x p k q : ℕ) → dt * do' * dg ≡ k → q ≡ p * k → w * dt * (do' * (x * (dg * p))) ≡ w * (x * q)
@@ -159,7 +175,8 @@ module _ (m : Model) (is : IsModel m) where
       over_t n w z c d f e = nat_sum_ext n _ (λ t. w * f t * (z * c)) (λ t h. omega arith) ∙ nat_sum_scale n w (z * c) f ∙ ap (λ (y : ℕ). w * y * (z * c)) e
 
   -- the parts of the reward from weights
-  pub reward_total : (ws : ℕ → Span) (a r : ℕ) → a < joint_actions m → reward_size (exact m.scales) m r ws a ≤ total_size m ws * (reward_most m * step_scale m ^ suc r)
+  pub reward_total : (ws : ℕ → Span) (a r : ℕ) → a < joint_actions m
+      → reward_size (exact m.scales) m r ws a ≤ total_size m ws * (reward_most m * step_scale m ^ suc r)
   unfolding reward_size
   reward_total ws a r pa =
       let all = nat_sum_le m.states (λ s. nat_sum m.states (λ t. nat_sum (joint_observations m) (λ o. size ((exact m.scales).gain ((exact m.scales).chance (ws s) (trans_at m a s t) (obs_at m a t o)) (reward_at m a s t o) r)))) (λ s. size (ws s) * (reward_most m * step_scale m ^ suc r))

@@ -38,13 +38,15 @@ one_size m = refl
 
 module _ (m : Model) (is : IsModel m) where
   -- a reward now and the values after it are a value over one step more
-  one_step_more : (M r : ℕ) → M * (reward_most m * step_scale m ^ suc r) + M * step_scale m * value_most m r ≡ M * value_most m (suc r)
+  one_step_more : (M r : ℕ)
+      → M * (reward_most m * step_scale m ^ suc r) + M * step_scale m * value_most m r ≡ M * value_most m (suc r)
   unfolding value_most
   one_step_more M r = one_more M (step_scale m) r (reward_most m) (step_scale m ^ r) (step_scale m ^ suc r) (pow-suc (step_scale m) r)
 
   -- ---- worth
   -- all parts of the worth of a joint policy
-  pub worth_most : (r : ℕ) (ws : ℕ → Span) (qs : List PolicyTree) → IsPolicyOf m r qs → worth_size (exact m.scales) m r ws qs ≤ total_size m ws * value_most m r
+  pub worth_most : (r : ℕ) (ws : ℕ → Span) (qs : List PolicyTree) → IsPolicyOf m r qs
+      → worth_size (exact m.scales) m r ws qs ≤ total_size m ws * value_most m r
   worth_most zero ws qs p = omega arith
   worth_most (suc r) ws qs p =
       let O = joint_observations m in
@@ -60,7 +62,8 @@ module _ (m : Model) (is : IsModel m) where
 
   -- ---- the table
   -- all parts of the reward now
-  pub table_reward_most : (r a s : ℕ) → a < joint_actions m → s < m.states → table_reward_size (exact m.scales) m r a s ≤ reward_most m * step_scale m ^ suc r
+  pub table_reward_most : (r a s : ℕ) → a < joint_actions m → s < m.states
+      → table_reward_size (exact m.scales) m r a s ≤ reward_most m * step_scale m ^ suc r
   unfolding table_reward_size
   table_reward_most r a s pa ps =
       let all = gained_total m is (exact m.scales).one a s r pa ps in
@@ -71,7 +74,9 @@ module _ (m : Model) (is : IsModel m) where
   carry_part V p z g d v le lg = let one = mul-le-mul le (mul-le-mul_left (p * z) lg) in omega arith
 
   -- all parts of the value after it
-  pub table_later_most : (r a s : ℕ) → a < joint_actions m → s < m.states → ((t : ℕ) → t < m.states → unsigned_abs (mdp_table_in (exact m.scales) m r t) ≤ value_most m r) → table_later_size (exact m.scales) m r a s ≤ step_scale m * value_most m r
+  pub table_later_most : (r a s : ℕ) → a < joint_actions m → s < m.states
+      → ((t : ℕ) → t < m.states → unsigned_abs (mdp_table_in (exact m.scales) m r t) ≤ value_most m r)
+      → table_later_size (exact m.scales) m r a s ≤ step_scale m * value_most m r
   unfolding table_later_size
   table_later_most r a s pa ps small =
       let c = m.scales.obs * m.scales.discount in
@@ -85,7 +90,8 @@ module _ (m : Model) (is : IsModel m) where
       joined V dt do' dg k n e f = omega (arith, ap (λ (x : ℕ). V * x * (do' * dg)) e, ap (λ (x : ℕ). V * x) f)
 
   -- both together
-  pub table_parts_most : (r a s : ℕ) → a < joint_actions m → s < m.states → ((t : ℕ) → t < m.states → unsigned_abs (mdp_table_in (exact m.scales) m r t) ≤ value_most m r) →
+  pub table_parts_most : (r a s : ℕ) → a < joint_actions m → s < m.states
+      → ((t : ℕ) → t < m.states → unsigned_abs (mdp_table_in (exact m.scales) m r t) ≤ value_most m r) →
       table_reward_size (exact m.scales) m r a s + table_later_size (exact m.scales) m r a s ≤ value_most m (suc r)
   table_parts_most r a s pa ps small =
       let now = table_reward_most r a s pa ps in
@@ -101,7 +107,8 @@ module _ (m : Model) (is : IsModel m) where
 
   -- ---- look-ahead
   -- all weights against the table
-  pub weighted_table_most : (r : ℕ) (ws : ℕ → Span) → weighted_table_size (exact m.scales) m r ws ≤ total_size m ws * value_most m r
+  pub weighted_table_most : (r : ℕ) (ws : ℕ → Span)
+      → weighted_table_size (exact m.scales) m r ws ≤ total_size m ws * value_most m r
   unfolding weighted_table_size
   weighted_table_most r ws =
       let each = nat_sum_le m.states (λ s. unsigned_abs ((exact m.scales).tail (ws s) (mdp_table_in (exact m.scales) m r s))) (λ s. size (ws s) * value_most m r)
@@ -109,12 +116,14 @@ module _ (m : Model) (is : IsModel m) where
       let e = nat_sum_times m.states (λ s. size (ws s)) (value_most m r) in omega arith
 
   -- their sum
-  weighted_table_abs : (r : ℕ) (ws : ℕ → Span) → unsigned_abs (weighted_table_in (exact m.scales) m r ws) ≤ total_size m ws * value_most m r
+  weighted_table_abs : (r : ℕ) (ws : ℕ → Span)
+      → unsigned_abs (weighted_table_in (exact m.scales) m r ws) ≤ total_size m ws * value_most m r
   unfolding weighted_table_in weighted_table_size
   weighted_table_abs r ws = let parts = int_sum_abs m.states (λ s. (exact m.scales).tail (ws s) (mdp_table_in (exact m.scales) m r s)) in let most = weighted_table_most r ws in omega arith
 
   -- the reward now and the look-aheads after it, where these are small
-  looks_from : (r k : ℕ) (ws : ℕ → Span) (a : ℕ) → a < joint_actions m → ((ws : ℕ → Span) → unsigned_abs (look_ahead_in (exact m.scales) m r ws k) ≤ total_size m ws * value_most m r) →
+  looks_from : (r k : ℕ) (ws : ℕ → Span) (a : ℕ) → a < joint_actions m
+      → ((ws : ℕ → Span) → unsigned_abs (look_ahead_in (exact m.scales) m r ws k) ≤ total_size m ws * value_most m r) →
       reward_size (exact m.scales) m r ws a + next_look_size (exact m.scales) m r ws a k ≤ total_size m ws * value_most m (suc r)
   unfolding next_look_size
   looks_from r k ws a pa small =
@@ -138,7 +147,8 @@ module _ (m : Model) (is : IsModel m) where
       let both = abs_add (weighted_reward_in (exact m.scales) m r ws a).high (int_sum (joint_observations m) V) in omega arith
 
   -- look-ahead
-  pub look_most : (r k : ℕ) (ws : ℕ → Span) → unsigned_abs (look_ahead_in (exact m.scales) m r ws k) ≤ total_size m ws * value_most m r
+  pub look_most : (r k : ℕ) (ws : ℕ → Span)
+      → unsigned_abs (look_ahead_in (exact m.scales) m r ws k) ≤ total_size m ws * value_most m r
   look_most zero k ws = omega arith
   look_most (suc r) zero ws = weighted_table_abs (suc r) ws
   look_most (suc r) (suc k) ws =
@@ -148,5 +158,7 @@ module _ (m : Model) (is : IsModel m) where
       (weighted_table_abs (suc r) ws)
 
   -- the reward now and the look-aheads after it
-  pub looks_most : (r k : ℕ) (ws : ℕ → Span) (a : ℕ) → a < joint_actions m → reward_size (exact m.scales) m r ws a + next_look_size (exact m.scales) m r ws a k ≤ total_size m ws * value_most m (suc r)
+  pub looks_most : (r k : ℕ) (ws : ℕ → Span) (a : ℕ) → a < joint_actions m
+      → reward_size (exact m.scales) m r ws a + next_look_size (exact m.scales) m r ws a k
+        ≤ total_size m ws * value_most m (suc r)
   looks_most r k ws a pa = looks_from r k ws a pa (λ vs. look_most r k vs)

@@ -34,7 +34,8 @@ module _ (A : Arithmetic) (R : Enclosure) (m : Model) (is : IsModel m) (ok : IsS
   Bounds u v = IsAbove (value_scale m h) (R.unit (value_scale m h)) v u
 
   -- no joint policy that keeps a front is worth more than its computed bound
-  front_bound_bounds : (F : Front) (qs : List PolicyTree) → IsFront m h F → IsPolicyOf m h qs → KeepsFront m F qs → Bounds (front_bound A m h look F) (policy_value m h qs)
+  front_bound_bounds : (F : Front) (qs : List PolicyTree) → IsFront m h F → IsPolicyOf m h qs → KeepsFront m F qs
+      → Bounds (front_bound A m h look F) (policy_value m h qs)
   unfolding front_bound
   front_bound_bounds F qs front policy keeps =
       let r = h - F.stage in
@@ -49,7 +50,8 @@ module _ (A : Arithmetic) (R : Enclosure) (m : Model) (is : IsModel m) (ok : IsS
   smaller_bounds v w a b le p q = smaller_above (value_scale m h) (R.unit (value_scale m h)) v w a b le p q
 
   mutual
-    -- A number v that is at most the value of a joint policy that keeps the front, and at most the least bound on the path, is at most each number u that no leaf of a fitting tree passes.
+    -- A number v that is at most the value of a joint policy that keeps the front, and at most the least bound on the
+    -- path, is at most each number u that no leaf of a fitting tree passes.
     fitting_tree_bounds : (v u : ℤ) (T : BoundTree) (F : Front) (least : ℤ) (qs : List PolicyTree) →
         IsFront m h F → FitsFront A m h look T F least → IsPolicyOf m h qs → KeepsFront m F qs → v ≤ℤ policy_value m h qs → Bounds least v → LeavesAtMost u T → Bounds u v
     fitting_tree_bounds v u (leaf x) F least qs front fits policy keeps best bounded below = zle_trans _ _ _ (subst (λ (z : ℤ). Bounds z v) (sym fits) bounded) (mul_le_right (value_scale m h) _ _ below)
@@ -80,7 +82,8 @@ module _ (A : Arithmetic) (R : Enclosure) (m : Model) (is : IsModel m) (ok : IsS
         ]
 
   -- a tree that fits the root front bounds every joint policy
-  pub fitting_root_bounds : (T : BoundTree) (u : ℤ) → FitsRoot A m h look T → LeavesAtMost u T → BoundsEveryPolicy m h (pos (R.unit (value_scale m h))) u
+  pub fitting_root_bounds : (T : BoundTree) (u : ℤ) → FitsRoot A m h look T → LeavesAtMost u T
+      → BoundsEveryPolicy m h (pos (R.unit (value_scale m h))) u
   fitting_root_bounds T u fits below qs policy =
       let front = root_is_front m h is in
       let keeps = policy_keeps_root m h qs policy in

@@ -21,7 +21,8 @@ quotient_most : (k n d : ℕ) → 0 < d → k ≤ n * d → k / d ≤ n
 quotient_most k n d some h = let lt : k < suc n * d = omega arith in let q : k / d < suc n = (div-lt_iff_lt-mul some).1 lt in omega arith
 
 -- rounded down
-pub part_down : (n p d : ℕ) → 0 < d → p ≤ d → (pos 0 ≤ℤ mul_down (pos n) (pos p) d) × (mul_down (pos n) (pos p) d ≤ℤ pos n)
+pub part_down : (n p d : ℕ) → 0 < d → p ≤ d
+    → (pos 0 ≤ℤ mul_down (pos n) (pos p) d) × (mul_down (pos n) (pos p) d ≤ℤ pos n)
 unfolding mul_down
 part_down n p d some le =
     let most = mul-le-mul_left n le in

@@ -27,18 +27,21 @@ use Rattle.dp_laws.proofs.HistorySums.{int_history_sum_ext, int_history_sum_grou
 use Rattle.std.proofs.lemmas.Bool.{eqb-true}
 
 -- weights against a value, where the test holds
-pub value_where : (t : Bool) (n : ℕ) (w : ℕ → ℕ) (N : List PolicyTree → ℕ → ℤ) (q q' : List PolicyTree) → (t ≡ true → q ≡ q') →
+pub value_where : (t : Bool) (n : ℕ) (w : ℕ → ℕ) (N : List PolicyTree → ℕ → ℤ) (q q' : List PolicyTree)
+    → (t ≡ true → q ≡ q') →
     cond t (int_sum n (λ s. pos (w s) *ℤ N q s)) (pos 0) ≡ int_sum n (λ s. pos (cond t (w s) 0) *ℤ N q' s)
 value_where true n w N q q' h = ap (λ x. int_sum n (λ s. pos (w s) *ℤ N x s)) (h refl)
 value_where false n w N q q' h = sym (int_sum_ext n _ (λ s. pos 0) (λ s p. zero-*ℤ (N q' s)) ∙ int_sum_zero n)
 
 -- the joint action that is done is the fixed one
-pub follows_fixed : (m : Model) (F : Front) (r : ℕ) (qs : List PolicyTree) (uss : List (ℕ → PolicyTree)) → FollowsAgentFronts F.stage r m.actions m.observations F.agents qs uss →
+pub follows_fixed : (m : Model) (F : Front) (r : ℕ) (qs : List PolicyTree) (uss : List (ℕ → PolicyTree))
+    → FollowsAgentFronts F.stage r m.actions m.observations F.agents qs uss →
     (t : ℕ) (H : List ℕ) → t < F.stage → IsJointHistory (joint_observations m) t H → joint_root_action m (trees_after_history m qs H) ≡ fixed_joint_action m F H
 follows_fixed m F r qs uss ks t H p h = kept_joint_action m F qs (keeps_of_follows m r F qs uss ks) t H p h
 
 -- what remains after a joint history of the stage is given by its joint class
-trees_by_class : (m : Model) (F : Front) (r : ℕ) (qs : List PolicyTree) (uss : List (ℕ → PolicyTree)) → FollowsAgentFronts F.stage r m.actions m.observations F.agents qs uss →
+trees_by_class : (m : Model) (F : Front) (r : ℕ) (qs : List PolicyTree) (uss : List (ℕ → PolicyTree))
+    → FollowsAgentFronts F.stage r m.actions m.observations F.agents qs uss →
     (H : List ℕ) → IsJointHistory (joint_observations m) F.stage H → trees_after_history m qs H ≡ trees_of uss (parts_of (class_counts F.agents) (joint_class m F H))
 unfolding joint_class joint_observations
 trees_by_class m F r qs uss ks H h =
@@ -47,13 +50,15 @@ trees_by_class m F r qs uss ks H h =
     ∙ ap (trees_of uss) (sym (parts_of-joint_number (class_counts F.agents) (own_classes F.agents (own_histories m.observations H)) (classes_below ks (own_histories m.observations H) w)))
 
 -- joint classes are below the product of the counts
-joint_class_below : (m : Model) (F : Front) (r : ℕ) (qs : List PolicyTree) (uss : List (ℕ → PolicyTree)) → FollowsAgentFronts F.stage r m.actions m.observations F.agents qs uss →
+joint_class_below : (m : Model) (F : Front) (r : ℕ) (qs : List PolicyTree) (uss : List (ℕ → PolicyTree))
+    → FollowsAgentFronts F.stage r m.actions m.observations F.agents qs uss →
     (H : List ℕ) → IsJointHistory (joint_observations m) F.stage H → joint_class m F H < product (class_counts F.agents)
 unfolding joint_class joint_observations
 joint_class_below m F r qs uss ks H h = joint_number_below _ _ (classes_below ks (own_histories m.observations H) (own_histories_within m.observations F.stage H h))
 
 -- the value after a front, by joint classes
-pub value_by_joint_class : (m : Model) (F : Front) (r : ℕ) (qs : List PolicyTree) (uss : List (ℕ → PolicyTree)) → FollowsAgentFronts F.stage r m.actions m.observations F.agents qs uss →
+pub value_by_joint_class : (m : Model) (F : Front) (r : ℕ) (qs : List PolicyTree) (uss : List (ℕ → PolicyTree))
+    → FollowsAgentFronts F.stage r m.actions m.observations F.agents qs uss →
     int_history_sum (joint_observations m) F.stage (λ H. int_sum m.states (λ s. pos (history_weight m (fixed_joint_action m F) H s) *ℤ backward_value m r s (trees_after_history m qs H)))
     ≡ int_sum (product (class_counts F.agents)) (λ C. int_sum m.states (λ s. pos (class_weight m F C s) *ℤ backward_value m r s (trees_of uss (parts_of (class_counts F.agents) C))))
 unfolding class_weight
@@ -69,7 +74,8 @@ value_by_joint_class m F r qs uss ks =
     ∙ int_sum_ext m.states _ _ (λ s q. int_history_sum_weigh O F.stage (λ H. cond (eqb (joint_class m F H) C) (history_weight m (fixed_joint_action m F) H s) 0) (backward_value m r s qC)))
 
 -- the joint action at the roots of a joint class agrees with the choices, so it counts
-chosen_action_le_greatest : (m : Model) (F : Front) (r : ℕ) (qs : List PolicyTree) (uss : List (ℕ → PolicyTree)) → FollowsAgentFronts F.stage (suc r) m.actions m.observations F.agents qs uss →
+chosen_action_le_greatest : (m : Model) (F : Front) (r : ℕ) (qs : List PolicyTree) (uss : List (ℕ → PolicyTree))
+    → FollowsAgentFronts F.stage (suc r) m.actions m.observations F.agents qs uss →
     (C : ℕ) → C < product (class_counts F.agents) → (f : ℕ → ℤ) → f (joint_root_action m (trees_of uss (parts_of (class_counts F.agents) C))) ≤ℤ greatest f (agreeing_actions m F C)
 unfolding agreeing_actions joint_root_action
 chosen_action_le_greatest m F r qs uss ks C p f =
@@ -81,7 +87,9 @@ chosen_action_le_greatest m F r qs uss ks C p f =
     (rw e (class_trees_agree ks cs inside)))
 
 -- no policy that keeps a front earns more than its bound
-pub following_policy_le_bound : (m : Model) → IsModel m → (F : Front) (r look : ℕ) (qs : List PolicyTree) (uss : List (ℕ → PolicyTree)) → FollowsAgentFronts F.stage (suc r) m.actions m.observations F.agents qs uss →
+pub following_policy_le_bound : (m : Model) → IsModel m
+    → (F : Front) (r look : ℕ) (qs : List PolicyTree) (uss : List (ℕ → PolicyTree))
+    → FollowsAgentFronts F.stage (suc r) m.actions m.observations F.agents qs uss →
     policy_value m (F.stage + suc r) qs ≤ℤ bound_of m (suc r) F look
 following_policy_le_bound m ok F r look qs uss ks =
     let N = product (class_counts F.agents) in

@@ -22,7 +22,8 @@ trees_of (us ∷ uss) [] = []
 trees_of (us ∷ uss) (c ∷ cs) = us c ∷ trees_of uss cs
 
 -- what remains after a joint history, by the own histories
-pub trees_after_history_are : (m : Model) (qs : List PolicyTree) → trees_at m.observations qs zero (map (λ n. 0) m.observations) ≡ qs →
+pub trees_after_history_are : (m : Model) (qs : List PolicyTree)
+    → trees_at m.observations qs zero (map (λ n. 0) m.observations) ≡ qs →
     (t : ℕ) (H : List ℕ) → IsJointHistory (joint_observations m) t H → trees_after_history m qs H ≡ trees_at m.observations qs t (own_histories m.observations H)
 unfolding trees_after joint_observations
 trees_after_history_are m qs e zero [] h = sym e
@@ -33,20 +34,26 @@ trees_after_history_are m qs e (suc t) (o ∷ H) h =
     ∙ subtrees_at_next m.observations qs t (own_histories m.observations H) (parts_of m.observations o) (parts_below m.observations o h.0)
 
 -- at the stage it is the trees of the classes
-pub trees_at_stage : {f r : ℕ} {bs ns : List ℕ} {ds : List AgentFront} {qs : List PolicyTree} {uss : List (ℕ → PolicyTree)} → FollowsAgentFronts f r bs ns ds qs uss → (xs : List ℕ) → Within ns f xs → trees_at ns qs f xs ≡ trees_of uss (own_classes ds xs)
+pub trees_at_stage : {f r : ℕ} {bs ns : List ℕ} {ds : List AgentFront} {qs : List PolicyTree}
+    {uss : List (ℕ → PolicyTree)} → FollowsAgentFronts f r bs ns ds qs uss → (xs : List ℕ) → Within ns f xs
+    → trees_at ns qs f xs ≡ trees_of uss (own_classes ds xs)
 trees_at_stage no_agents [] h = refl
 trees_at_stage no_agents (x ∷ xs) h = refl
 trees_at_stage (and_agent k ks) [] h = absurd h
 trees_at_stage (and_agent k ks) (x ∷ xs) h = let here = k.remains x h.0 in rw (here, trees_at_stage ks xs h.1)
 
 -- classes are below their counts
-pub classes_below : {f r : ℕ} {bs ns : List ℕ} {ds : List AgentFront} {qs : List PolicyTree} {uss : List (ℕ → PolicyTree)} → FollowsAgentFronts f r bs ns ds qs uss → (xs : List ℕ) → Within ns f xs → AreBelow (class_counts ds) (own_classes ds xs)
+pub classes_below : {f r : ℕ} {bs ns : List ℕ} {ds : List AgentFront} {qs : List PolicyTree}
+    {uss : List (ℕ → PolicyTree)} → FollowsAgentFronts f r bs ns ds qs uss → (xs : List ℕ) → Within ns f xs
+    → AreBelow (class_counts ds) (own_classes ds xs)
 classes_below no_agents xs h = tt
 classes_below (and_agent k ks) [] h = absurd h
 classes_below (and_agent k ks) (x ∷ xs) h = (k.in_range x h.0, classes_below ks xs h.1)
 
 -- the trees of a joint class are a joint policy of the steps that are left
-pub class_trees_fit : {f r : ℕ} {bs ns : List ℕ} {ds : List AgentFront} {qs : List PolicyTree} {uss : List (ℕ → PolicyTree)} → FollowsAgentFronts f r bs ns ds qs uss → (cs : List ℕ) → AreBelow (class_counts ds) cs → IsJointPolicy r bs ns (trees_of uss cs)
+pub class_trees_fit : {f r : ℕ} {bs ns : List ℕ} {ds : List AgentFront} {qs : List PolicyTree}
+    {uss : List (ℕ → PolicyTree)} → FollowsAgentFronts f r bs ns ds qs uss → (cs : List ℕ)
+    → AreBelow (class_counts ds) cs → IsJointPolicy r bs ns (trees_of uss cs)
 class_trees_fit no_agents cs h = no_policies
 class_trees_fit (and_agent k ks) [] h = absurd h
 class_trees_fit (and_agent k ks) (c ∷ cs) h = and_policy (k.are_trees c h.0) (class_trees_fit ks cs h.1)
@@ -57,14 +64,18 @@ agrees_with_choice None a h = refl
 agrees_with_choice (Some b) a h = let e : a ≡ b = h b refl in grind (arith, nat_tests)
 
 -- the roots of the trees of a joint class agree with the choices
-pub class_trees_agree : {f r : ℕ} {bs ns : List ℕ} {ds : List AgentFront} {qs : List PolicyTree} {uss : List (ℕ → PolicyTree)} → FollowsAgentFronts f r bs ns ds qs uss → (cs : List ℕ) → AreBelow (class_counts ds) cs → all_agree ds cs (map root_action (trees_of uss cs)) ≡ true
+pub class_trees_agree : {f r : ℕ} {bs ns : List ℕ} {ds : List AgentFront} {qs : List PolicyTree}
+    {uss : List (ℕ → PolicyTree)} → FollowsAgentFronts f r bs ns ds qs uss → (cs : List ℕ)
+    → AreBelow (class_counts ds) cs → all_agree ds cs (map root_action (trees_of uss cs)) ≡ true
 class_trees_agree no_agents cs h = refl
 class_trees_agree (and_agent k ks) [] h = absurd h
 class_trees_agree (and_agent {d = d} k ks) (c ∷ cs) h =
     let here = agrees_with_choice (get_or d.chosen c None) _ (λ b e. k.does_chosen c b h.0 e) in rw (here, class_trees_agree ks cs h.1)
 
 -- and are actions of the agents
-pub class_actions_below : {f r : ℕ} {bs ns : List ℕ} {ds : List AgentFront} {qs : List PolicyTree} {uss : List (ℕ → PolicyTree)} → FollowsAgentFronts f (suc r) bs ns ds qs uss → (cs : List ℕ) → AreBelow (class_counts ds) cs → AreBelow bs (map root_action (trees_of uss cs))
+pub class_actions_below : {f r : ℕ} {bs ns : List ℕ} {ds : List AgentFront} {qs : List PolicyTree}
+    {uss : List (ℕ → PolicyTree)} → FollowsAgentFronts f (suc r) bs ns ds qs uss → (cs : List ℕ)
+    → AreBelow (class_counts ds) cs → AreBelow bs (map root_action (trees_of uss cs))
 class_actions_below no_agents cs h = tt
 class_actions_below (and_agent k ks) [] h = absurd h
 class_actions_below (and_agent k ks) (c ∷ cs) h = (root_action_below _ _ _ _ (k.are_trees c h.0), class_actions_below ks cs h.1)

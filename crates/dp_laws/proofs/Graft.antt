@@ -14,7 +14,8 @@ nth_tree-trees_from zero g o h = absurd (omega arith)
 nth_tree-trees_from (suc c) g zero h = refl
 nth_tree-trees_from (suc c) g (suc o) h = nth_tree-trees_from c (λ o. g (suc o)) o (omega arith)
 
--- The tree q below which, k steps on, new trees stand. The own history of q has number x, and `new` takes the numbers of histories k steps longer.
+-- The tree q below which, k steps on, new trees stand. The own history of q has number x, and `new` takes the numbers
+-- of histories k steps longer.
 abbrev pub graft : ℕ → ℕ → ℕ → PolicyTree → (ℕ → PolicyTree) → PolicyTree
 graft n zero x q new = new x
 graft n (suc k) x q new = node (root_action q) (trees_from n (λ o. graft n k (x * n + o) (subtree q o) new))
@@ -24,7 +25,8 @@ next_number : (n t y x : ℕ) → (x * n ^ t + y / n) * n + y % n ≡ x * n ^ su
 next_number n t y x = rw pow-suc (omega arith)
 
 -- what remains of a graft after fewer steps is a graft of what remains
-pub tree_at-graft : (n : ℕ) (q : PolicyTree) (new : ℕ → PolicyTree) (t j k x y : ℕ) → t + j ≡ k → y < n ^ t → tree_at n (graft n k x q new) t y ≡ graft n j (x * n ^ t + y) (tree_at n q t y) new
+pub tree_at-graft : (n : ℕ) (q : PolicyTree) (new : ℕ → PolicyTree) (t j k x y : ℕ) → t + j ≡ k → y < n ^ t
+    → tree_at n (graft n k x q new) t y ≡ graft n j (x * n ^ t + y) (tree_at n q t y) new
 tree_at-graft n q new zero j k x y e h =
     let one = pow-zero n in
     let h' : y < 1 = rw one at h in
@@ -39,7 +41,8 @@ tree_at-graft n q new (suc t) j k x y e h =
     ∙ ap (λ (z : ℕ). graft n j z (subtree (tree_at n q t (y / n)) (y % n)) new) (next_number n t y x)
 
 -- they are trees of r steps where each is
-pub trees_from_fit : (b n r c : ℕ) (g : ℕ → PolicyTree) → ((o : ℕ) → o < c → IsPolicyTree b n r (g o)) → ArePolicyTrees b n r c (trees_from c g)
+pub trees_from_fit : (b n r c : ℕ) (g : ℕ → PolicyTree) → ((o : ℕ) → o < c → IsPolicyTree b n r (g o))
+    → ArePolicyTrees b n r c (trees_from c g)
 trees_from_fit b n r zero g h = tt
 trees_from_fit b n r (suc c) g h = (h 0 (omega arith), trees_from_fit b n r c (λ o. g (suc o)) (λ o p. h (suc o) (omega arith)))
 
@@ -48,7 +51,8 @@ grafted_number : (x n k o y : ℕ) → (x * n + o) * n ^ k + y ≡ x * n ^ suc k
 grafted_number x n k o y = rw pow-suc (omega arith)
 
 -- the new tree is one of as many steps, where steps are left below the graft
-pub graft_fits : (b n r k j x : ℕ) (q : PolicyTree) (new : ℕ → PolicyTree) → k + suc r ≡ j → IsPolicyTree b n j q → ((y : ℕ) → y < n ^ k → IsPolicyTree b n (suc r) (new (x * n ^ k + y))) → IsPolicyTree b n j (graft n k x q new)
+pub graft_fits : (b n r k j x : ℕ) (q : PolicyTree) (new : ℕ → PolicyTree) → k + suc r ≡ j → IsPolicyTree b n j q
+    → ((y : ℕ) → y < n ^ k → IsPolicyTree b n (suc r) (new (x * n ^ k + y))) → IsPolicyTree b n j (graft n k x q new)
 graft_fits b n r zero j x q new e fits news =
     let e' : suc r ≡ j = omega arith in
     let one = pow-zero n in

@@ -21,13 +21,15 @@ le_greatest f a (x ∷ (y ∷ ys)) (inl e) = subst (λ (z : ℕ). f a ≤ℤ int
 le_greatest f a (x ∷ (y ∷ ys)) (inr h) = max_right (f x) (greatest f (y ∷ ys)) _ (le_greatest f a (y ∷ ys) h)
 
 -- .. and at most what is at least each value, where there is one
-pub greatest_at_most : (f : ℕ → ℤ) (xs : List ℕ) (z : ℤ) → 0 < length xs → ((x : ℕ) → IsIn x xs → f x ≤ℤ z) → greatest f xs ≤ℤ z
+pub greatest_at_most : (f : ℕ → ℤ) (xs : List ℕ) (z : ℤ) → 0 < length xs → ((x : ℕ) → IsIn x xs → f x ≤ℤ z)
+    → greatest f xs ≤ℤ z
 greatest_at_most f [] z some h = absurd (omega arith)
 greatest_at_most f (x ∷ []) z some h = h x (inl refl)
 greatest_at_most f (x ∷ (y ∷ ys)) z some h = max_le _ _ z (h x (inl refl)) (greatest_at_most f (y ∷ ys) z (omega arith) (λ a i. h a (inr i)))
 
 -- a part of a list that is not empty has no greater one
-pub greatest_of_part : (f : ℕ → ℤ) (xs ys : List ℕ) → 0 < length xs → ((a : ℕ) → IsIn a xs → IsIn a ys) → greatest f xs ≤ℤ greatest f ys
+pub greatest_of_part : (f : ℕ → ℤ) (xs ys : List ℕ) → 0 < length xs → ((a : ℕ) → IsIn a xs → IsIn a ys)
+    → greatest f xs ≤ℤ greatest f ys
 greatest_of_part f xs ys some part = greatest_at_most f xs (greatest f ys) some (λ a h. le_greatest f a ys (part a h))
 
 -- equal values have equal greatest ones
@@ -41,7 +43,8 @@ max_of_sums : (a b c d p q : ℤ) → p ≤ℤ (a +ℤ b) → q ≤ℤ (c +ℤ d
 max_of_sums a b c d p q h g = omega (arith, ints, clamps)
 
 -- the greatest of sums is at most the sum of the greatest
-pub greatest_of_sums : (f g e : ℕ → ℤ) (xs : List ℕ) → ((x : ℕ) → IsIn x xs → e x ≤ℤ (f x +ℤ g x)) → greatest e xs ≤ℤ (greatest f xs +ℤ greatest g xs)
+pub greatest_of_sums : (f g e : ℕ → ℤ) (xs : List ℕ) → ((x : ℕ) → IsIn x xs → e x ≤ℤ (f x +ℤ g x))
+    → greatest e xs ≤ℤ (greatest f xs +ℤ greatest g xs)
 greatest_of_sums f g e [] h = zle_of (pos 0) (pos 0 +ℤ pos 0) refl
 greatest_of_sums f g e (x ∷ []) h = h x (inl refl)
 greatest_of_sums f g e (x ∷ (y ∷ ys)) h =
@@ -60,7 +63,8 @@ abs_max : (a b : ℤ) (c : ℕ) → unsigned_abs a ≤ c → unsigned_abs b ≤ 
 abs_max a b c p q = omega (arith, ints, clamps)
 
 -- it is no larger in magnitude than the values
-pub greatest_abs : (f : ℕ → ℤ) (c : ℕ) (xs : List ℕ) → ((a : ℕ) → IsIn a xs → unsigned_abs (f a) ≤ c) → unsigned_abs (greatest f xs) ≤ c
+pub greatest_abs : (f : ℕ → ℤ) (c : ℕ) (xs : List ℕ) → ((a : ℕ) → IsIn a xs → unsigned_abs (f a) ≤ c)
+    → unsigned_abs (greatest f xs) ≤ c
 greatest_abs f c [] h = omega arith
 greatest_abs f c (x ∷ []) h = h x (inl refl)
 greatest_abs f c (x ∷ (y ∷ ys)) h = abs_max (f x) (greatest f (y ∷ ys)) c (h x (inl refl)) (greatest_abs f c (y ∷ ys) (λ a i. h a (inr i)))
@@ -70,5 +74,6 @@ greatest_abs f c (x ∷ (y ∷ ys)) h = abs_max (f x) (greatest f (y ∷ ys)) c 
 pub le_greatest_below : (f : ℕ → ℤ) (n a : ℕ) → a < n → f a ≤ℤ greatest f (numbers_below n)
 le_greatest_below f n a h = le_greatest f a (numbers_below n) (IsIn-below n a h)
 
-pub greatest_below_at_most : (f : ℕ → ℤ) (z : ℤ) (n : ℕ) → 0 < n → ((a : ℕ) → a < n → f a ≤ℤ z) → greatest f (numbers_below n) ≤ℤ z
+pub greatest_below_at_most : (f : ℕ → ℤ) (z : ℤ) (n : ℕ) → 0 < n → ((a : ℕ) → a < n → f a ≤ℤ z)
+    → greatest f (numbers_below n) ≤ℤ z
 greatest_below_at_most f z n some h = greatest_at_most f (numbers_below n) z (some_in 0 _ (IsIn-below n 0 some)) (λ a i. h a (below-IsIn n a i))

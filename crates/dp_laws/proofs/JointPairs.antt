@@ -19,7 +19,8 @@ pair_counts (c ∷ cs) (n ∷ ns) = c * n ∷ pair_counts cs ns
 abbrev pub pair_number : List ℕ → List ℕ → ℕ → ℕ → ℕ
 pair_number cs ns C o = joint_number (pair_counts cs ns) (next_own_histories ns (parts_of cs C) (parts_of ns o))
 
-pub next_below : (cs ns xs ps : List ℕ) → length ns ≡ length cs → AreBelow cs xs → AreBelow ns ps → AreBelow (pair_counts cs ns) (next_own_histories ns xs ps)
+pub next_below : (cs ns xs ps : List ℕ) → length ns ≡ length cs → AreBelow cs xs → AreBelow ns ps
+    → AreBelow (pair_counts cs ns) (next_own_histories ns xs ps)
 next_below [] [] xs ps e h g = tt
 next_below [] (n ∷ ns) xs ps e h g = absurd (omega arith)
 next_below (c ∷ cs) [] xs ps e h g = absurd (omega arith)
@@ -31,7 +32,9 @@ nothing : (xs : List ℕ) → AreBelow [] xs → xs ≡ []
 nothing [] h = refl
 nothing (x ∷ xs) h = absurd h
 
-next_injective : (cs ns xs ps ys qs : List ℕ) → length ns ≡ length cs → AreBelow cs xs → AreBelow ns ps → AreBelow cs ys → AreBelow ns qs → next_own_histories ns xs ps ≡ next_own_histories ns ys qs → (xs ≡ ys) × (ps ≡ qs)
+next_injective : (cs ns xs ps ys qs : List ℕ) → length ns ≡ length cs → AreBelow cs xs → AreBelow ns ps
+    → AreBelow cs ys → AreBelow ns qs → next_own_histories ns xs ps ≡ next_own_histories ns ys qs
+    → (xs ≡ ys) × (ps ≡ qs)
 next_injective [] [] xs ps ys qs e hx hp hy hq same = (nothing xs hx ∙ sym (nothing ys hy), nothing ps hp ∙ sym (nothing qs hq))
 next_injective [] (n ∷ ns) xs ps ys qs e hx hp hy hq same = absurd (omega arith)
 next_injective (c ∷ cs) [] xs ps ys qs e hx hp hy hq same = absurd (omega arith)
@@ -46,7 +49,8 @@ next_injective (c ∷ cs) (n ∷ ns) (x ∷ xs) (p ∷ ps) (y ∷ ys) (q ∷ qs)
     let rest = next_injective cs ns xs ps ys qs (omega arith) hx.1 hp.1 hy.1 hq.1 others in (cc (here.0, rest.0), cc (here.1, rest.1))
 
 -- different pairs have different numbers
-pub pair_injective : (cs ns : List ℕ) (C o D u : ℕ) → length ns ≡ length cs → C < product cs → o < product ns → D < product cs → u < product ns → pair_number cs ns C o ≡ pair_number cs ns D u → (C ≡ D) × (o ≡ u)
+pub pair_injective : (cs ns : List ℕ) (C o D u : ℕ) → length ns ≡ length cs → C < product cs → o < product ns
+    → D < product cs → u < product ns → pair_number cs ns C o ≡ pair_number cs ns D u → (C ≡ D) × (o ≡ u)
 pair_injective cs ns C o D u e hC ho hD hu same =
     let C_in = parts_below cs C hC in
     let o_in = parts_below ns o ho in
@@ -70,7 +74,9 @@ pair_step c n cs ns x C p o hC ho =
     let rest' : (p * product ns + o) % product ns ≡ o = mod-mul-add p (product ns) o ho in rw (first, rest, first', rest')
 
 -- a sum over the numbers of pairs is a sum over joint classes and joint observations
-pub int_sum_pairs : (cs ns : List ℕ) → length ns ≡ length cs → (g : ℕ → ℤ) → int_sum (product (pair_counts cs ns)) g ≡ int_sum (product cs) (λ C. int_sum (product ns) (λ o. g (pair_number cs ns C o)))
+pub int_sum_pairs : (cs ns : List ℕ) → length ns ≡ length cs → (g : ℕ → ℤ)
+    → int_sum (product (pair_counts cs ns)) g
+      ≡ int_sum (product cs) (λ C. int_sum (product ns) (λ o. g (pair_number cs ns C o)))
 int_sum_pairs [] [] e g = one_place g
 int_sum_pairs [] (n ∷ ns) e g = absurd (omega arith)
 int_sum_pairs (c ∷ cs) [] e g = absurd (omega arith)

@@ -19,7 +19,8 @@ use Rattle.dp_spec.proofs.JointNumberLaws.{part_below, positive_right}
 use Rattle.std.proofs.lemmas.Bool.{cases_eq}
 
 -- what remains of a tree of k steps after an own history of length t is a tree of the other r steps
-pub tree_at_fits : (b n : ℕ) (q : PolicyTree) (t r k x : ℕ) → t + r ≡ k → x < n ^ t → IsPolicyTree b n k q → IsPolicyTree b n r (tree_at n q t x)
+pub tree_at_fits : (b n : ℕ) (q : PolicyTree) (t r k x : ℕ) → t + r ≡ k → x < n ^ t → IsPolicyTree b n k q
+    → IsPolicyTree b n r (tree_at n q t x)
 tree_at_fits b n q zero r k x e h is = let e' : k ≡ r = omega arith in subst (λ (z : ℕ). IsPolicyTree b n z q) e' is
 tree_at_fits b n q (suc t) r k x e h is =
     let h' : x < n ^ t * n = rw pow-suc at h in
@@ -31,7 +32,8 @@ last_member class c zero = 0
 last_member class c (suc k) = cond (eqb (class k) c) k (last_member class c k)
 
 -- where there is one
-last_member_is : (class : ℕ → ℕ) (c k x : ℕ) → x < k → class x ≡ c → (last_member class c k < k) × (class (last_member class c k) ≡ c)
+last_member_is : (class : ℕ → ℕ) (c k x : ℕ) → x < k → class x ≡ c
+    → (last_member class c k < k) × (class (last_member class c k) ≡ c)
 last_member_is class c zero x h e = absurd (omega arith)
 last_member_is class c (suc k) x h e =
     elim (cases_eq (class k) c) [
@@ -43,8 +45,10 @@ last_member_is class c (suc k) x h e =
           ]
     ]
 
--- a tree that keeps an agent's part of a front follows it with what remains of the tree after the last history of each class
-follows_agent : (b n f r h : ℕ) (d : AgentFront) (q : PolicyTree) → f + r ≡ h → IsAgentFront b n f d → IsPolicyTree b n h q → KeepsAgentFront n f d q → (us : ℕ → PolicyTree) × FollowsAgentFront b n f r d q us
+-- a tree that keeps an agent's part of a front follows it with what remains of the tree after the last history of
+-- each class
+follows_agent : (b n f r h : ℕ) (d : AgentFront) (q : PolicyTree) → f + r ≡ h → IsAgentFront b n f d
+    → IsPolicyTree b n h q → KeepsAgentFront n f d q → (us : ℕ → PolicyTree) × FollowsAgentFront b n f r d q us
 follows_agent b n f r h d q e front tree keeps =
     let class : ℕ → ℕ = λ x. get_or d.class_of x 0 in
     let last : (c : ℕ) → c < length d.chosen → (last_member class c (n ^ f) < n ^ f) × (class (last_member class c (n ^ f)) ≡ c) =
@@ -60,7 +64,8 @@ follows_agent b n f r h d q e front tree keeps =
       },
     )
 
-keeps_agent : (b n f r : ℕ) (d : AgentFront) (q : PolicyTree) (us : ℕ → PolicyTree) → FollowsAgentFront b n f r d q us → KeepsAgentFront n f d q
+keeps_agent : (b n f r : ℕ) (d : AgentFront) (q : PolicyTree) (us : ℕ → PolicyTree) → FollowsAgentFront b n f r d q us
+    → KeepsAgentFront n f d q
 keeps_agent b n f r d q us follows = record {
   does_fixed = follows.does_fixed;
   alike = λ x y p s e. follows.remains x p ∙ ap us e ∙ sym (follows.remains y s);
@@ -68,20 +73,26 @@ keeps_agent b n f r d q us follows = record {
 }
 
 -- the same for all agents
-pub follow_agents : {f h : ℕ} {bs ns : List ℕ} {ds : List AgentFront} {qs : List PolicyTree} (r : ℕ) → f + r ≡ h → AreAgentFronts f bs ns ds → IsJointPolicy h bs ns qs → KeepAgentFronts f ns ds qs → (uss : List (ℕ → PolicyTree)) × FollowsAgentFronts f r bs ns ds qs uss
+pub follow_agents : {f h : ℕ} {bs ns : List ℕ} {ds : List AgentFront} {qs : List PolicyTree} (r : ℕ) → f + r ≡ h
+    → AreAgentFronts f bs ns ds → IsJointPolicy h bs ns qs → KeepAgentFronts f ns ds qs
+    → (uss : List (ℕ → PolicyTree)) × FollowsAgentFronts f r bs ns ds qs uss
 follow_agents r e no_fronts no_policies none_keep = ([], none_follow)
 follow_agents {f} {h} r e (and_front {b = b} {n = n} {d = d} front fronts) (and_policy {q = q} tree trees) (and_keeps keeps all_keep) =
     let first = follows_agent b n f r h d q e front tree keeps in
     let rest = follow_agents r e fronts trees all_keep in (first.0 ∷ rest.0, and_follows first.1 rest.1)
 
-pub keep_agents : {f r : ℕ} {bs ns : List ℕ} {ds : List AgentFront} {qs : List PolicyTree} {uss : List (ℕ → PolicyTree)} → FollowsAgentFronts f r bs ns ds qs uss → KeepAgentFronts f ns ds qs
+pub keep_agents : {f r : ℕ} {bs ns : List ℕ} {ds : List AgentFront} {qs : List PolicyTree}
+    {uss : List (ℕ → PolicyTree)} → FollowsAgentFronts f r bs ns ds qs uss → KeepAgentFronts f ns ds qs
 keep_agents none_follow = none_keep
 keep_agents (and_follows follows rest) = and_keeps (keeps_agent _ _ _ _ _ _ _ follows) (keep_agents rest)
 
 -- a joint policy that keeps a well-formed front follows it with some trees at its classes
-pub follows_of_keeps : (m : Model) (h r : ℕ) (F : Front) (qs : List PolicyTree) → F.stage + r ≡ h → IsFront m h F → IsPolicyOf m h qs → KeepsFront m F qs → (uss : List (ℕ → PolicyTree)) × FollowsAgentFronts F.stage r m.actions m.observations F.agents qs uss
+pub follows_of_keeps : (m : Model) (h r : ℕ) (F : Front) (qs : List PolicyTree) → F.stage + r ≡ h → IsFront m h F
+    → IsPolicyOf m h qs → KeepsFront m F qs
+    → (uss : List (ℕ → PolicyTree)) × FollowsAgentFronts F.stage r m.actions m.observations F.agents qs uss
 follows_of_keeps m h r F qs e front policy keeps = follow_agents r e front.agents policy keeps
 
 -- a joint policy that follows a front with any trees at its classes keeps the front
-pub keeps_of_follows : (m : Model) (r : ℕ) (F : Front) (qs : List PolicyTree) (uss : List (ℕ → PolicyTree)) → FollowsAgentFronts F.stage r m.actions m.observations F.agents qs uss → KeepsFront m F qs
+pub keeps_of_follows : (m : Model) (r : ℕ) (F : Front) (qs : List PolicyTree) (uss : List (ℕ → PolicyTree))
+    → FollowsAgentFronts F.stage r m.actions m.observations F.agents qs uss → KeepsFront m F qs
 keeps_of_follows m r F qs uss follows = keep_agents follows

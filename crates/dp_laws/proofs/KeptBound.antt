@@ -22,7 +22,10 @@ add_none_le : (a b : ℤ) → b ≡ pos 0 → (a +ℤ b) ≤ℤ a
 add_none_le a b e = omega (arith, ints)
 
 -- with trees at the classes of the front
-value_le_bound : (m : Model) → IsModel m → (look : ℕ) (F : Front) (r : ℕ) (qs : List PolicyTree) (uss : List (ℕ → PolicyTree)) → FollowsAgentFronts F.stage r m.actions m.observations F.agents qs uss → policy_value m (F.stage + r) qs ≤ℤ bound_of m r F look
+value_le_bound : (m : Model) → IsModel m
+    → (look : ℕ) (F : Front) (r : ℕ) (qs : List PolicyTree) (uss : List (ℕ → PolicyTree))
+    → FollowsAgentFronts F.stage r m.actions m.observations F.agents qs uss
+    → policy_value m (F.stage + r) qs ≤ℤ bound_of m r F look
 value_le_bound m ok look F zero qs uss ks =
     let O = joint_observations m in
     zle_trans _ _ _
@@ -31,7 +34,8 @@ value_le_bound m ok look F zero qs uss ks =
 value_le_bound m ok look F (suc r) qs uss ks = following_policy_le_bound m ok F r look qs uss ks
 
 -- for a horizon of h steps
-pub keeper_under_bound : (m : Model) → IsModel m → (h r look : ℕ) (F : Front) (qs : List PolicyTree) → IsFront m h F → F.stage + r ≡ h → IsPolicyOf m h qs → KeepsFront m F qs → policy_value m h qs ≤ℤ bound_of m r F look
+pub keeper_under_bound : (m : Model) → IsModel m → (h r look : ℕ) (F : Front) (qs : List PolicyTree) → IsFront m h F
+    → F.stage + r ≡ h → IsPolicyOf m h qs → KeepsFront m F qs → policy_value m h qs ≤ℤ bound_of m r F look
 keeper_under_bound m ok h r look F qs front e policy keeps =
     let follows = follows_of_keeps m h r F qs e front policy keeps in
     subst (λ (n : ℕ). policy_value m n qs ≤ℤ bound_of m r F look) e (value_le_bound m ok look F r qs follows.0 follows.1)

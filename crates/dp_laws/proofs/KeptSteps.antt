@@ -25,7 +25,8 @@ use Rattle.dp_laws.proofs.Order.{last_or_before}
 
 -- ---- choosing
 -- a tree that does action a after one history of class c keeps the choice of a for that class
-keeps_choice : (n f : ℕ) (d : AgentFront) (q : PolicyTree) (c a x : ℕ) → KeepsAgentFront n f d q → c < length d.chosen → x < n ^ f → get_or d.class_of x 0 ≡ c → root_action (tree_at n q f x) ≡ a →
+keeps_choice : (n f : ℕ) (d : AgentFront) (q : PolicyTree) (c a x : ℕ) → KeepsAgentFront n f d q → c < length d.chosen
+    → x < n ^ f → get_or d.class_of x 0 ≡ c → root_action (tree_at n q f x) ≡ a →
     KeepsAgentFront n f (record d { chosen = set d.chosen c (Some a) }) q
 keeps_choice n f d q c a x k p u is does = record {
   does_fixed = k.does_fixed;
@@ -40,7 +41,9 @@ keeps_choice n f d q c a x k p u is does = record {
   ];
 }
 
-choose : {f h : ℕ} {bs ns : List ℕ} {ds : List AgentFront} {qs : List PolicyTree} (r : ℕ) → f + suc r ≡ h → AreAgentFronts f bs ns ds → IsJointPolicy h bs ns qs → KeepAgentFronts f ns ds qs → (i c : ℕ) → IsUnassigned i c ds →
+choose : {f h : ℕ} {bs ns : List ℕ} {ds : List AgentFront} {qs : List PolicyTree} (r : ℕ) → f + suc r ≡ h
+    → AreAgentFronts f bs ns ds → IsJointPolicy h bs ns qs → KeepAgentFronts f ns ds qs → (i c : ℕ)
+    → IsUnassigned i c ds →
     (a : ℕ) × (a < get_or bs i 0) × KeepAgentFronts f ns (with_choice i c a ds) qs
 choose r e no_fronts no_policies none_keep i c free = absurd free
 choose {f} {h} r e (and_front {b = b} {n = n} {d = d} front fronts) (and_policy {q = q} tree trees) (and_keeps k ks) zero c free =
@@ -53,7 +56,8 @@ choose r e (and_front front fronts) (and_policy tree trees) (and_keeps k ks) (su
     let more = choose r e fronts trees ks i c free in (more.0, more.1, and_keeps k more.2)
 
 -- a policy that keeps a front keeps one of its fronts after a choice of any unassigned class
-pub keeps_some_choice : (m : Model) (h : ℕ) (F : Front) (qs : List PolicyTree) (i c : ℕ) → IsFront m h F → F.stage < h → IsPolicyOf m h qs → KeepsFront m F qs → IsUnassigned i c F.agents →
+pub keeps_some_choice : (m : Model) (h : ℕ) (F : Front) (qs : List PolicyTree) (i c : ℕ) → IsFront m h F → F.stage < h
+    → IsPolicyOf m h qs → KeepsFront m F qs → IsUnassigned i c F.agents →
     (a : ℕ) × (a < get_or m.actions i 0) × KeepsFront m (chosen_front F i c a) qs
 keeps_some_choice m h F qs i c front lt policy keeps free = choose (h - suc F.stage) (omega arith) front.agents policy keeps i c free
 
@@ -65,7 +69,8 @@ same_parts n p j p' j' lt lt' e = (
   sym (mod-mul-add p n j lt) ∙ ap (λ (z : ℕ). z % n) e ∙ mod-mul-add p' n j' lt',
 )
 
-keeps_next : (b n f : ℕ) (d : AgentFront) (q : PolicyTree) → IsAgentFront b n f d → KeepsAgentFront n f d q → all_chosen d.chosen ≡ true → KeepsAgentFront n (suc f) (advanced_agent n f d) q
+keeps_next : (b n f : ℕ) (d : AgentFront) (q : PolicyTree) → IsAgentFront b n f d → KeepsAgentFront n f d q
+    → all_chosen d.chosen ≡ true → KeepsAgentFront n (suc f) (advanced_agent n f d) q
 unfolding advanced_agent
 keeps_next b n f d q front k all =
     let act : ℕ → ℕ = λ x. unwrap_or (get_or d.chosen (get_or d.class_of x 0) None) 0 in
@@ -90,21 +95,25 @@ keeps_next b n f d q front k all =
       does_chosen = λ x a u s. let none = no_choice (length d.chosen * n) (get_or (map (λ x. get_or d.class_of (x / n) 0 * n + x % n) (range_with_len 0 (n ^ suc f))) x 0) in cc;
     }
 
-advance : {f : ℕ} {bs ns : List ℕ} {ds : List AgentFront} {qs : List PolicyTree} → AreAgentFronts f bs ns ds → KeepAgentFronts f ns ds qs → is_complete ds ≡ true → KeepAgentFronts (suc f) ns (advanced_agents ns f ds) qs
+advance : {f : ℕ} {bs ns : List ℕ} {ds : List AgentFront} {qs : List PolicyTree} → AreAgentFronts f bs ns ds
+    → KeepAgentFronts f ns ds qs → is_complete ds ≡ true → KeepAgentFronts (suc f) ns (advanced_agents ns f ds) qs
 advance no_fronts none_keep all = none_keep
 advance (and_front front fronts) (and_keeps k ks) all = let both = and_parts _ _ all in and_keeps (keeps_next _ _ _ _ _ front k both.0) (advance fronts ks both.1)
 
 -- a policy that keeps a complete front keeps the advanced front
-pub keeps_advanced : (m : Model) (h : ℕ) (F : Front) (qs : List PolicyTree) → IsFront m h F → KeepsFront m F qs → is_complete F.agents ≡ true → KeepsFront m (advanced_front m F) qs
+pub keeps_advanced : (m : Model) (h : ℕ) (F : Front) (qs : List PolicyTree) → IsFront m h F → KeepsFront m F qs
+    → is_complete F.agents ≡ true → KeepsFront m (advanced_front m F) qs
 keeps_advanced m h F qs front keeps all = advance front.agents keeps all
 
 -- ---- a choice, and the advance where it follows
-keeps_advanced_if : (m : Model) (h : ℕ) (F : Front) (qs : List PolicyTree) → IsFront m h F → KeepsFront m F qs → (t : Bool) → is_complete F.agents ≡ t → KeepsFront m (advanced_if m F t) qs
+keeps_advanced_if : (m : Model) (h : ℕ) (F : Front) (qs : List PolicyTree) → IsFront m h F → KeepsFront m F qs
+    → (t : Bool) → is_complete F.agents ≡ t → KeepsFront m (advanced_if m F t) qs
 keeps_advanced_if m h F qs front keeps true all = keeps_advanced m h F qs front keeps all
 keeps_advanced_if m h F qs front keeps false some = keeps
 
 -- a policy that keeps a front keeps one of its fronts after a choice, and after the advance where it follows
-pub keeps_some_next : (m : Model) (h : ℕ) (F : Front) (qs : List PolicyTree) (i c : ℕ) → IsFront m h F → F.stage < h → IsPolicyOf m h qs → KeepsFront m F qs → IsUnassigned i c F.agents →
+pub keeps_some_next : (m : Model) (h : ℕ) (F : Front) (qs : List PolicyTree) (i c : ℕ) → IsFront m h F → F.stage < h
+    → IsPolicyOf m h qs → KeepsFront m F qs → IsUnassigned i c F.agents →
     (a : ℕ) × (a < get_or m.actions i 0) × KeepsFront m (front_after_choice m F i c a) qs
 unfolding front_after_choice
 keeps_some_next m h F qs i c front lt policy keeps free =

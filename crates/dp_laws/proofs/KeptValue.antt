@@ -18,5 +18,6 @@ pub value_at_front : (m : Model) (h r : ℕ) (F : Front) (qs : List PolicyTree) 
 value_at_front m h r F qs e keeps = forward_is_backward m (fixed_joint_action m F) qs h F.stage r e (kept_joint_action m F qs keeps)
 
 -- at a full front all is earned
-pub value_at_full_front : (m : Model) (h : ℕ) (F : Front) (qs : List PolicyTree) → F.stage ≡ h → KeepsFront m F qs → policy_value m h qs ≡ earned_reward m (fixed_joint_action m F) h h
+pub value_at_full_front : (m : Model) (h : ℕ) (F : Front) (qs : List PolicyTree) → F.stage ≡ h → KeepsFront m F qs
+    → policy_value m h qs ≡ earned_reward m (fixed_joint_action m F) h h
 value_at_full_front m h F qs e keeps = all_is_earned m (fixed_joint_action m F) qs h (λ t H p q. kept_joint_action m F qs keeps t H (omega arith) q)

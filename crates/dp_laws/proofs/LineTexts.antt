@@ -1,4 +1,5 @@
--- One spelling of lines: no two lists of numbers that a form allows give the same line, and no two lists of lines the same text.
+-- One spelling of lines: no two lists of numbers that a form allows give the same line, and no two lists of lines the
+-- same text.
 use Rattle.std.proofs.Common.{◌≡◌, ℕ, suc, ◌^◌, ◌<◌, false, eqb, List, [], ◌∷◌, ◌++◌, get_or, drop, refl, sym, ap, subst, ◌∙◌, arith}
 use Rattle.std.specs.Prelude.{ℤ, pos, negsuc, map, FitsSigned}
 use Rattle.std.specs.Int.{w128}
@@ -73,7 +74,8 @@ HasItems (plain low high ∷ form) = HasItems form
 HasItems (signed ∷ form) = HasItems form
 
 -- what a line of a form has between its spaces are items
-pub spelled_are_items : (form : List Item) (zs : List ℤ) → HasItems form → Allows form zs → AllByRecursion IsItem (spelled_items form zs)
+pub spelled_are_items : (form : List Item) (zs : List ℤ) → HasItems form → Allows form zs
+    → AllByRecursion IsItem (spelled_items form zs)
 spelled_are_items [] zs are allowed = tt
 spelled_are_items (fixed text ∷ form) zs are allowed = (are.0, spelled_are_items form zs are.1 allowed)
 spelled_are_items (plain low high ∷ form) [] are allowed = tt
@@ -91,7 +93,8 @@ pub rest_of_list : {A : Type 0} (x y : A) (xs ys : List A) → x ∷ xs ≡ y �
 rest_of_list {A = A} x y xs ys e = ap (drop 1) e
 
 -- the spelled items determine the numbers
-spelled_items_injective : (form : List Item) (ys zs : List ℤ) → Allows form ys → Allows form zs → spelled_items form ys ≡ spelled_items form zs → ys ≡ zs
+spelled_items_injective : (form : List Item) (ys zs : List ℤ) → Allows form ys → Allows form zs
+    → spelled_items form ys ≡ spelled_items form zs → ys ≡ zs
 spelled_items_injective [] [] [] p q e = refl
 spelled_items_injective [] [] (z ∷ zs) p q e = absurd q
 spelled_items_injective [] (y ∷ ys) zs p q e = absurd p
@@ -117,18 +120,21 @@ no_space [] h = tt
 no_space (b ∷ item) h = (h.0.0, no_space item h.1)
 
 -- items that are joined by spaces are its parts between spaces
-split_joined : (first : List ℕ) (items : List (List ℕ)) → AllByRecursion IsItem (first ∷ items) → slice_split (λ b. eqb b 32) (join_with_byte 32 (first ∷ items)) ≡ first ∷ items
+split_joined : (first : List ℕ) (items : List (List ℕ)) → AllByRecursion IsItem (first ∷ items)
+    → slice_split (λ b. eqb b 32) (join_with_byte 32 (first ∷ items)) ≡ first ∷ items
 split_joined first [] h = slice_split_none (λ b. eqb b 32) first (All-from_recursion _ first (no_space first h.0))
 split_joined first (second ∷ items) h =
     slice_split_at (λ b. eqb b 32) first 32 (join_with_byte 32 (second ∷ items)) (All-from_recursion _ first (no_space first h.0)) refl
     ∙ ap (λ (l : List (List ℕ)). first ∷ l) (split_joined second items h.1)
 
 -- items that are equal once they are joined are equal
-joined_injective : (x y : List ℕ) (xs ys : List (List ℕ)) → AllByRecursion IsItem (x ∷ xs) → AllByRecursion IsItem (y ∷ ys) → join_with_byte 32 (x ∷ xs) ≡ join_with_byte 32 (y ∷ ys) → x ∷ xs ≡ y ∷ ys
+joined_injective : (x y : List ℕ) (xs ys : List (List ℕ)) → AllByRecursion IsItem (x ∷ xs)
+    → AllByRecursion IsItem (y ∷ ys) → join_with_byte 32 (x ∷ xs) ≡ join_with_byte 32 (y ∷ ys) → x ∷ xs ≡ y ∷ ys
 joined_injective x y xs ys p q e = sym (split_joined x xs p) ∙ ap (slice_split (λ b. eqb b 32)) e ∙ split_joined y ys q
 
 -- the line of a form determines its numbers
-pub line_text_injective : (form : List Item) (ys zs : List ℤ) → HasItems form → Allows form ys → Allows form zs → line_text form ys ≡ line_text form zs → ys ≡ zs
+pub line_text_injective : (form : List Item) (ys zs : List ℤ) → HasItems form → Allows form ys → Allows form zs
+    → line_text form ys ≡ line_text form zs → ys ≡ zs
 line_text_injective [] ys zs are p q e = spelled_items_injective [] ys zs p q refl
 line_text_injective (fixed text ∷ form) ys zs are p q e =
     spelled_items_injective (fixed text ∷ form) ys zs p q (joined_injective text text (spelled_items form ys) (spelled_items form zs) (spelled_are_items (fixed text ∷ form) ys are p) (spelled_are_items (fixed text ∷ form) zs are q) e)
@@ -169,7 +175,8 @@ unfoldable pub bytes_of : Line → List ℕ
 bytes_of line = line_text line.form line.numbers
 
 -- a text between its line feeds is its lines, and nothing behind the last one
-split_text : (lines : List Line) → AreLines lines → slice_split (λ b. eqb b 10) (text_of_lines lines) ≡ map bytes_of lines ++ [] ∷ []
+split_text : (lines : List Line) → AreLines lines
+    → slice_split (λ b. eqb b 10) (text_of_lines lines) ≡ map bytes_of lines ++ [] ∷ []
 unfolding bytes_of
 split_text [] are = refl
 split_text (line ∷ lines) are =
@@ -178,6 +185,7 @@ split_text (line ∷ lines) are =
     ∙ ap (λ (l : List (List ℕ)). line_text line.form line.numbers ∷ l) (split_text lines are.1)
 
 -- a text determines its lines
-pub text_of_lines_injective : (lines more : List Line) → AreLines lines → AreLines more → text_of_lines lines ≡ text_of_lines more → map bytes_of lines ≡ map bytes_of more
+pub text_of_lines_injective : (lines more : List Line) → AreLines lines → AreLines more
+    → text_of_lines lines ≡ text_of_lines more → map bytes_of lines ≡ map bytes_of more
 text_of_lines_injective lines more p q e =
     append_cancel_right (map bytes_of lines) (map bytes_of more) ([] ∷ []) (sym (split_text lines p) ∙ ap (slice_split (λ b. eqb b 10)) e ∙ split_text more q)

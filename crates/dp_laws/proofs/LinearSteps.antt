@@ -19,7 +19,8 @@ state_reward m r a s = int_sum m.states (λ t. int_sum (joint_observations m) (�
 weight_out : (w p : ℕ) (x : ℤ) → pos (w * p) *ℤ x ≡ pos w *ℤ (pos p *ℤ x)
 weight_out w p x = by_ring (nat (w * p) ⊗ v x) (nat w ⊗ (nat p ⊗ v x)) (omega arith)
 
-pub reward_by_state : (m : Model) (r : ℕ) (w : ℕ → ℕ) (a : ℕ) → weighted_reward m r w a ≡ int_sum m.states (λ s. pos (w s) *ℤ state_reward m r a s)
+pub reward_by_state : (m : Model) (r : ℕ) (w : ℕ → ℕ) (a : ℕ)
+    → weighted_reward m r w a ≡ int_sum m.states (λ s. pos (w s) *ℤ state_reward m r a s)
 unfolding weighted_reward
 reward_by_state m r w a =
     let O = joint_observations m in
@@ -57,7 +58,8 @@ weights_after_histories m n f a o t test w =
 together : (x y : ℕ) (z : ℤ) → pos (x + y) *ℤ z ≡ pos x *ℤ z +ℤ pos y *ℤ z
 together x y z = by_ring (nat (x + y) ⊗ v z) (nat x ⊗ v z ⊕ nat y ⊗ v z) (omega arith)
 
-pub reward_together : (m : Model) (r : ℕ) (w u : ℕ → ℕ) (a : ℕ) → weighted_reward m r (λ s. w s + u s) a ≡ weighted_reward m r w a +ℤ weighted_reward m r u a
+pub reward_together : (m : Model) (r : ℕ) (w u : ℕ → ℕ) (a : ℕ)
+    → weighted_reward m r (λ s. w s + u s) a ≡ weighted_reward m r w a +ℤ weighted_reward m r u a
 reward_together m r w u a =
     reward_by_state m r (λ s. w s + u s) a
     ∙ int_sum_ext m.states _ _ (λ s p. together (w s) (u s) (state_reward m r a s))
@@ -67,13 +69,15 @@ reward_together m r w u a =
 times_together : (x y k : ℕ) → (x + y) * k ≡ x * k + y * k
 times_together x y k = omega arith
 
-after_together : (m : Model) (w u : ℕ → ℕ) (a o t : ℕ) → weights_after m (λ s. w s + u s) a o t ≡ weights_after m w a o t + weights_after m u a o t
+after_together : (m : Model) (w u : ℕ → ℕ) (a o t : ℕ)
+    → weights_after m (λ s. w s + u s) a o t ≡ weights_after m w a o t + weights_after m u a o t
 unfolding weights_after
 after_together m w u a o t =
     let K = λ (s : ℕ). trans_at m a s t * obs_at m a t o * m.scales.gain in
     nat_sum_ext m.states _ _ (λ s p. times_together (w s) (u s) (K s)) ∙ nat_sum_add m.states (λ s. w s * K s) (λ s. u s * K s)
 
-step_together : (m : Model) (r k : ℕ) (w u : ℕ → ℕ) (a : ℕ) → ((w u : ℕ → ℕ) → look_ahead m r (λ s. w s + u s) k ≤ℤ (look_ahead m r w k +ℤ look_ahead m r u k)) →
+step_together : (m : Model) (r k : ℕ) (w u : ℕ → ℕ) (a : ℕ)
+    → ((w u : ℕ → ℕ) → look_ahead m r (λ s. w s + u s) k ≤ℤ (look_ahead m r w k +ℤ look_ahead m r u k)) →
     (weighted_reward m r (λ s. w s + u s) a +ℤ int_sum (joint_observations m) (λ o. look_ahead m r (weights_after m (λ s. w s + u s) a o) k))
     ≤ℤ ((weighted_reward m r w a +ℤ int_sum (joint_observations m) (λ o. look_ahead m r (weights_after m w a o) k)) +ℤ (weighted_reward m r u a +ℤ int_sum (joint_observations m) (λ o. look_ahead m r (weights_after m u a o) k)))
 step_together m r k w u a small =
@@ -87,13 +91,15 @@ step_together m r k w u a small =
     (zle_of _ _ (zadd_swap (weighted_reward m r w a) (weighted_reward m r u a) _ _))
 
 -- the look-ahead of two weights together is at most the sum of theirs
-pub look_ahead_together : (m : Model) (r k : ℕ) (w u : ℕ → ℕ) → look_ahead m r (λ s. w s + u s) k ≤ℤ (look_ahead m r w k +ℤ look_ahead m r u k)
+pub look_ahead_together : (m : Model) (r k : ℕ) (w u : ℕ → ℕ)
+    → look_ahead m r (λ s. w s + u s) k ≤ℤ (look_ahead m r w k +ℤ look_ahead m r u k)
 look_ahead_together m zero k w u = zle_of (pos 0) (pos 0 +ℤ pos 0) refl
 look_ahead_together m (suc r) zero w u =
     zle_of _ _ (int_sum_ext m.states _ _ (λ s p. together (w s) (u s) (mdp_table m (suc r) s)) ∙ int_sum_add m.states (λ s. pos (w s) *ℤ mdp_table m (suc r) s) (λ s. pos (u s) *ℤ mdp_table m (suc r) s))
 look_ahead_together m (suc r) (suc k) w u = greatest_of_sums _ _ _ (numbers_below (joint_actions m)) (λ a i. step_together m r k w u a (look_ahead_together m r k))
 
 -- the same where a joint action is done first
-pub action_look_ahead_together : (m : Model) (r k : ℕ) (w u : ℕ → ℕ) (a : ℕ) → action_look_ahead m r (λ s. w s + u s) a k ≤ℤ (action_look_ahead m r w a k +ℤ action_look_ahead m r u a k)
+pub action_look_ahead_together : (m : Model) (r k : ℕ) (w u : ℕ → ℕ) (a : ℕ)
+    → action_look_ahead m r (λ s. w s + u s) a k ≤ℤ (action_look_ahead m r w a k +ℤ action_look_ahead m r u a k)
 unfolding action_look_ahead
 action_look_ahead_together m r k w u a = step_together m r (k - 1) w u a (look_ahead_together m r (k - 1))

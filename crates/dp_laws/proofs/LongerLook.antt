@@ -26,19 +26,22 @@ so_many_more m ok r k (suc j) w =
     rw e (zle_trans _ _ _ (one_more m ok r (k + j) w) (so_many_more m ok r k j w))
 
 -- a longer look gives no greater look-ahead
-pub longer_look_le : (m : Model) → IsModel m → (r k l : ℕ) (w : ℕ → ℕ) → k ≤ l → look_ahead m r w l ≤ℤ look_ahead m r w k
+pub longer_look_le : (m : Model) → IsModel m → (r k l : ℕ) (w : ℕ → ℕ) → k ≤ l
+    → look_ahead m r w l ≤ℤ look_ahead m r w k
 longer_look_le m ok r k l w h =
     let e : k + (l - k) ≡ l = omega arith in
     subst (λ (n : ℕ). look_ahead m r w n ≤ℤ look_ahead m r w k) e (so_many_more m ok r k (l - k) w)
 
 -- the same where a joint action is done first
-pub longer_look_action_le : (m : Model) → IsModel m → (r k l : ℕ) (w : ℕ → ℕ) (a : ℕ) → k ≤ l → action_look_ahead m r w a l ≤ℤ action_look_ahead m r w a k
+pub longer_look_action_le : (m : Model) → IsModel m → (r k l : ℕ) (w : ℕ → ℕ) (a : ℕ) → k ≤ l
+    → action_look_ahead m r w a l ≤ℤ action_look_ahead m r w a k
 unfolding action_look_ahead
 longer_look_action_le m ok r k l w a h =
     add_le_right (weighted_reward m r w a) _ _ (int_sum_le (joint_observations m) _ _ (λ o p. longer_look_le m ok r (k - 1) (l - 1) (weights_after m w a o) (omega arith)))
 
 -- no joint policy that begins with a joint action earns more than its look-ahead
-pub value_under_action : (m : Model) → IsModel m → (r k : ℕ) (w : ℕ → ℕ) (a : ℕ) (qs : List PolicyTree) → IsPolicyOf m (suc r) qs → joint_root_action m qs ≡ a →
+pub value_under_action : (m : Model) → IsModel m → (r k : ℕ) (w : ℕ → ℕ) (a : ℕ) (qs : List PolicyTree)
+    → IsPolicyOf m (suc r) qs → joint_root_action m qs ≡ a →
     int_sum m.states (λ s. pos (w s) *ℤ backward_value m (suc r) s qs) ≤ℤ action_look_ahead m r w a k
 value_under_action m ok r k w a qs policy e =
     subst (λ (b : ℕ). int_sum m.states (λ s. pos (w s) *ℤ backward_value m (suc r) s qs) ≤ℤ action_look_ahead m r w b k) e (value_le_action_look_ahead m ok r k w qs policy)

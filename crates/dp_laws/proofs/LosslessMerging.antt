@@ -13,7 +13,8 @@ use Rattle.dp_spec.specs.Value.{policy_value}
 use Rattle.dp_spec.specs.WellFormed.{IsFront}
 
 -- some joint policy keeps the merged front and is worth at least as much
-pub merging_loses_nothing : (m : Model) (h : ℕ) (F : Front) (i a b : ℕ) → IsFront m h F → F.stage < h → a < b → IsUnassigned i a F.agents → IsUnassigned i b F.agents → AreEquivalent m F i a b →
+pub merging_loses_nothing : (m : Model) (h : ℕ) (F : Front) (i a b : ℕ) → IsFront m h F → F.stage < h → a < b
+    → IsUnassigned i a F.agents → IsUnassigned i b F.agents → AreEquivalent m F i a b →
     (qs : List PolicyTree) → IsPolicyOf m h qs → KeepsFront m F qs →
     (new : List PolicyTree) × IsPolicyOf m h new × KeepsFront m (merged_front F i a b) new × (policy_value m h qs ≤ℤ policy_value m h new)
 merging_loses_nothing m h F i a b front lt ab p q alike qs policy keeps =
@@ -25,5 +26,6 @@ merging_loses_nothing m h F i a b front lt ab p q alike qs policy keeps =
     (new.0, new.4 h e some policy, keeps_of_follows m r (merged_front F i a b) new.0 new.1 new.2, subst (λ (n : ℕ). policy_value m n qs ≤ℤ policy_value m n new.0) e new.3)
 
 -- a joint policy that keeps the merged front keeps the front
-pub merged_keeps_front : (m : Model) (F : Front) (i a b : ℕ) → a < b → IsUnassigned i b F.agents → (qs : List PolicyTree) → KeepsFront m (merged_front F i a b) qs → KeepsFront m F qs
+pub merged_keeps_front : (m : Model) (F : Front) (i a b : ℕ) → a < b → IsUnassigned i b F.agents
+    → (qs : List PolicyTree) → KeepsFront m (merged_front F i a b) qs → KeepsFront m F qs
 merged_keeps_front m F i a b lt free qs keeps = merged_agents_kept i a b F.agents lt free keeps

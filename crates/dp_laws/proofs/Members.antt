@@ -34,7 +34,9 @@ IsIn-filter p a [] h e = absurd h
 IsIn-filter p a (x ∷ xs) (inl h) e = let px : p x ≡ true = ap p (sym h) ∙ e in rw px (inl h)
 IsIn-filter p a (x ∷ xs) (inr h) e = kept a x (filter p xs) (p x) (IsIn-filter p a xs h e)
 
-kept_in : (p : ℕ → Bool) (a x : ℕ) (xs : List ℕ) (t : Bool) → p x ≡ t → (IsIn a (filter p xs) → IsIn a xs × (p a ≡ true)) → IsIn a (cond t (x ∷ filter p xs) (filter p xs)) → IsIn a (x ∷ xs) × (p a ≡ true)
+kept_in : (p : ℕ → Bool) (a x : ℕ) (xs : List ℕ) (t : Bool) → p x ≡ t
+    → (IsIn a (filter p xs) → IsIn a xs × (p a ≡ true)) → IsIn a (cond t (x ∷ filter p xs) (filter p xs))
+    → IsIn a (x ∷ xs) × (p a ≡ true)
 kept_in p a x xs true e rest (inl same) = (inl same, ap p same ∙ e)
 kept_in p a x xs true e rest (inr h) = let more = rest h in (inr more.0, more.1)
 kept_in p a x xs false e rest h = let more = rest h in (inr more.0, more.1)

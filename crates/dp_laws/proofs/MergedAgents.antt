@@ -10,7 +10,8 @@ use Rattle.std.proofs.lemmas.Bool.{cases_eq, cases_lt}
 
 -- ---- lists without a place
 -- a place before the one that is left out
-pub get_or-without_below : {X : Type 0} (j : ℕ) (xs : List X) (k : ℕ) (d : X) → k < j → get_or (without j xs) k d ≡ get_or xs k d
+pub get_or-without_below : {X : Type 0} (j : ℕ) (xs : List X) (k : ℕ) (d : X) → k < j
+    → get_or (without j xs) k d ≡ get_or xs k d
 get_or-without_below zero [] k d h = refl
 get_or-without_below (suc j) [] k d h = refl
 get_or-without_below zero (x ∷ xs) k d h = absurd (omega arith)
@@ -18,7 +19,8 @@ get_or-without_below (suc j) (x ∷ xs) zero d h = refl
 get_or-without_below (suc j) (x ∷ xs) (suc k) d h = get_or-without_below j xs k d (omega arith)
 
 -- a place from there on
-pub get_or-without_above : {X : Type 0} (j : ℕ) (xs : List X) (k : ℕ) (d : X) → j ≤ k → get_or (without j xs) k d ≡ get_or xs (suc k) d
+pub get_or-without_above : {X : Type 0} (j : ℕ) (xs : List X) (k : ℕ) (d : X) → j ≤ k
+    → get_or (without j xs) k d ≡ get_or xs (suc k) d
 get_or-without_above zero [] k d h = refl
 get_or-without_above (suc j) [] k d h = refl
 get_or-without_above zero (x ∷ xs) k d h = refl
@@ -33,7 +35,8 @@ length-without zero (x ∷ xs) h = refl
 length-without (suc j) (x ∷ xs) h = ap suc (length-without j xs (omega arith))
 
 -- the class of a history after a merge
-pub get_or-renumbered : (a b : ℕ) (xs : List ℕ) (k : ℕ) → a < b → get_or (map (renumbered a b) xs) k 0 ≡ renumbered a b (get_or xs k 0)
+pub get_or-renumbered : (a b : ℕ) (xs : List ℕ) (k : ℕ) → a < b
+    → get_or (map (renumbered a b) xs) k 0 ≡ renumbered a b (get_or xs k 0)
 get_or-renumbered a b [] k h = grind (arith, nat_tests)
 get_or-renumbered a b (x ∷ xs) zero h = refl
 get_or-renumbered a b (x ∷ xs) (suc k) h = get_or-renumbered a b xs k h
@@ -55,7 +58,8 @@ abbrev pub replaced_trees : ℕ → ℕ → PolicyTree → (ℕ → PolicyTree) 
 replaced_trees a b y us c = cond (eqb a c) y (cond (eqb b c) y (us c))
 
 -- other classes keep their tree
-pub replaced_trees_other : (a b : ℕ) (y : PolicyTree) (us : ℕ → PolicyTree) (c : ℕ) → a ≢ c → b ≢ c → us c ≡ replaced_trees a b y us c
+pub replaced_trees_other : (a b : ℕ) (y : PolicyTree) (us : ℕ → PolicyTree) (c : ℕ) → a ≢ c → b ≢ c
+    → us c ≡ replaced_trees a b y us c
 replaced_trees_other a b y us c p q = grind (arith, nat_tests)
 
 -- the first class has the new one
@@ -67,7 +71,8 @@ pub replaced_trees_second : (a b : ℕ) (y : PolicyTree) (us : ℕ → PolicyTre
 replaced_trees_second a b y us = grind (arith, nat_tests)
 
 -- the tree of a class is that of its new number
-pub joined_trees-renumbered : (a b : ℕ) (y : PolicyTree) (us : ℕ → PolicyTree) (c : ℕ) → a < b → joined_trees a b y us (renumbered a b c) ≡ replaced_trees a b y us c
+pub joined_trees-renumbered : (a b : ℕ) (y : PolicyTree) (us : ℕ → PolicyTree) (c : ℕ) → a < b
+    → joined_trees a b y us (renumbered a b c) ≡ replaced_trees a b y us c
 joined_trees-renumbered a b y us c h = grind (arith, nat_tests)
 
 -- new numbers are below the new count
@@ -84,7 +89,8 @@ fact_of_either P y x x' (inl e) p q = subst P (sym e) p
 fact_of_either P y x x' (inr e) p q = subst P (sym e) q
 
 -- a fact of each new class from those of the old ones
-joined_trees_all : (a b : ℕ) (y : PolicyTree) (us : ℕ → PolicyTree) (k : ℕ) (P : PolicyTree → Type 0) → P y → ((c : ℕ) → c < suc k → P (us c)) → (c : ℕ) → c < k → P (joined_trees a b y us c)
+joined_trees_all : (a b : ℕ) (y : PolicyTree) (us : ℕ → PolicyTree) (k : ℕ) (P : PolicyTree → Type 0) → P y
+    → ((c : ℕ) → c < suc k → P (us c)) → (c : ℕ) → c < k → P (joined_trees a b y us c)
 joined_trees_all a b y us k P py pu c h =
     elim (eqb a c) as (λ t. P (cond t y (cond (ltb c b) (us c) (us (suc c))))) [
       | true ↦ py
@@ -92,20 +98,24 @@ joined_trees_all a b y us k P py pu c h =
     ]
 
 -- the same by an old class
-replaced_trees_all : (a b : ℕ) (y : PolicyTree) (us : ℕ → PolicyTree) (P : PolicyTree → Type 0) (c : ℕ) → P y → P (us c) → P (replaced_trees a b y us c)
+replaced_trees_all : (a b : ℕ) (y : PolicyTree) (us : ℕ → PolicyTree) (P : PolicyTree → Type 0) (c : ℕ) → P y
+    → P (us c) → P (replaced_trees a b y us c)
 replaced_trees_all a b y us P c py pu =
     elim (eqb a c) as (λ t. P (cond t y (cond (eqb b c) y (us c)))) [ true ↦ py | false ↦ elim (eqb b c) as (λ t. P (cond t y (us c))) [ true ↦ py | false ↦ pu ] ]
 
 -- below b a class keeps its number
-joined_trees_below : (a b : ℕ) (y : PolicyTree) (us : ℕ → PolicyTree) (c : ℕ) → a ≢ c → c < b → joined_trees a b y us c ≡ us c
+joined_trees_below : (a b : ℕ) (y : PolicyTree) (us : ℕ → PolicyTree) (c : ℕ) → a ≢ c → c < b
+    → joined_trees a b y us c ≡ us c
 joined_trees_below a b y us c ne h = grind (arith, nat_tests)
 
 -- from b on the next class comes in its place
-joined_trees_above : (a b : ℕ) (y : PolicyTree) (us : ℕ → PolicyTree) (c : ℕ) → a < b → b ≤ c → joined_trees a b y us c ≡ us (suc c)
+joined_trees_above : (a b : ℕ) (y : PolicyTree) (us : ℕ → PolicyTree) (c : ℕ) → a < b → b ≤ c
+    → joined_trees a b y us c ≡ us (suc c)
 joined_trees_above a b y us c h g = grind (arith, nat_tests)
 
 -- the merged classes do the chosen actions
-chosen_actions_kept : (a b : ℕ) (y : PolicyTree) (us : ℕ → PolicyTree) (os : List (Option ℕ)) → a < b → b < length os → get_or os a None ≡ None →
+chosen_actions_kept : (a b : ℕ) (y : PolicyTree) (us : ℕ → PolicyTree) (os : List (Option ℕ)) → a < b → b < length os
+    → get_or os a None ≡ None →
     ((c e : ℕ) → c < length os → get_or os c None ≡ Some e → root_action (us c) ≡ e) →
     (c e : ℕ) → c < length (without b os) → get_or (without b os) c None ≡ Some e → root_action (joined_trees a b y us c) ≡ e
 chosen_actions_kept a b y us os h g na does c e p s =
@@ -119,7 +129,8 @@ chosen_actions_kept a b y us os h g na does c e p s =
     ]
 
 -- the grafted tree follows the merged front
-pub merged_agent_follows : (bs n f r : ℕ) (d : AgentFront) (q : PolicyTree) (us : ℕ → PolicyTree) → FollowsAgentFront bs n f r d q us → (a b : ℕ) → a < b → b < length d.chosen →
+pub merged_agent_follows : (bs n f r : ℕ) (d : AgentFront) (q : PolicyTree) (us : ℕ → PolicyTree)
+    → FollowsAgentFront bs n f r d q us → (a b : ℕ) → a < b → b < length d.chosen →
     get_or d.chosen a None ≡ None → (y : PolicyTree) → (y ≡ us a) ⊎ (y ≡ us b) →
     FollowsAgentFront bs n f r (merged_agent a b d) (grafted_tree n f d a b y q us) (joined_trees a b y us)
 unfolding grafted_tree
@@ -138,7 +149,9 @@ merged_agent_follows bs n f r d q us k a b h g na y is =
     }
 
 -- it is a tree of as many steps
-pub grafted_tree_fits : (bs n f r h : ℕ) (d : AgentFront) (q : PolicyTree) (us : ℕ → PolicyTree) → FollowsAgentFront bs n f r d q us → (a b : ℕ) → a < b → b < length d.chosen → (y : PolicyTree) → (y ≡ us a) ⊎ (y ≡ us b) →
+pub grafted_tree_fits : (bs n f r h : ℕ) (d : AgentFront) (q : PolicyTree) (us : ℕ → PolicyTree)
+    → FollowsAgentFront bs n f r d q us → (a b : ℕ) → a < b → b < length d.chosen → (y : PolicyTree)
+    → (y ≡ us a) ⊎ (y ≡ us b) →
     f + r ≡ h → 0 < r → IsPolicyTree bs n h q → IsPolicyTree bs n h (grafted_tree n f d a b y q us)
 unfolding grafted_tree
 grafted_tree_fits bs n f zero h d q us k a b lt b_in y is e some fits = absurd (omega arith)

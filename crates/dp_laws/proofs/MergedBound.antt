@@ -43,7 +43,8 @@ together_le : (x y fa ga gb ga' : ℤ) → x ≡ y → ga' ≡ ga → fa ≤ℤ 
 together_le x y fa ga gb ga' e f h = omega (arith, ints)
 
 -- where place a is at most the places a and b together, and the others stay
-int_sum_joined : (k a b : ℕ) (f g : ℕ → ℤ) → a < b → b ≤ k → ((c : ℕ) → c < k → a ≢ c → f c ≡ g (kept_class b c)) → f a ≤ℤ (g a +ℤ g b) → int_sum k f ≤ℤ int_sum (suc k) g
+int_sum_joined : (k a b : ℕ) (f g : ℕ → ℤ) → a < b → b ≤ k → ((c : ℕ) → c < k → a ≢ c → f c ≡ g (kept_class b c))
+    → f a ≤ℤ (g a +ℤ g b) → int_sum k f ≤ℤ int_sum (suc k) g
 int_sum_joined k a b f g ab bk others here =
     let old = λ (c : ℕ). g (kept_class b c) in
     let a_in : a < k = omega arith in
@@ -80,14 +81,16 @@ module _ (m : Model) (h r look : ℕ) (F : Front) (front : IsFront m h F) (lt : 
   in_merged : (x : ℕ) → x < product (without i counts) → x < product (without i merged)
   in_merged x p = subst (λ (z : List ℕ). x < product z) (sym (counts_of_others i a b F.agents)) p
 
-  weight_in_merged : (c x s : ℕ) → c < get_or merged i 0 → x < product (without i counts) → class_weight m G (placed_number i merged c x) s ≡ place_weight m G i c x s
+  weight_in_merged : (c x s : ℕ) → c < get_or merged i 0 → x < product (without i counts)
+      → class_weight m G (placed_number i merged c x) s ≡ place_weight m G i c x s
   weight_in_merged c x s hc hx = placed_weight m h G (merged_is_front m h F i a b front lt ab free_a free_b) i i_in_merged c x s hc (in_merged x hx)
 
   kept_in : (c : ℕ) → c < get_or merged i 0 → kept_class b c < get_or counts i 0
   kept_in c hc = kept_below b c _ _ hc (one_class_less i a b F.agents free_b)
 
   -- a joint class without the joined one is bounded as before
-  kept_best : (c x : ℕ) → c < get_or merged i 0 → a ≢ c → x < product (without i counts) → best G (placed_number i merged c x) ≡ best F (placed_number i counts (kept_class b c) x)
+  kept_best : (c x : ℕ) → c < get_or merged i 0 → a ≢ c → x < product (without i counts)
+      → best G (placed_number i merged c x) ≡ best F (placed_number i counts (kept_class b c) x)
   kept_best c x hc ne hx =
       let weights : (s : ℕ) → class_weight m G (placed_number i merged c x) s ≡ class_weight m F (placed_number i counts (kept_class b c) x) s =
       λ s. weight_in_merged c x s hc hx ∙ kept_weight m F i a b ab c x s ne ∙ sym (placed_weight m h F front i i_in (kept_class b c) x s (kept_in c hc) hx) in
@@ -98,7 +101,9 @@ module _ (m : Model) (h r look : ℕ) (F : Front) (front : IsFront m h F) (lt : 
   a_in_merged = let b_in = (unassigned_agent i b F.agents free_b).1 in omega (arith, b_in, ab, one_class_less i a b F.agents free_b)
 
   -- a joint class with the joined one is bounded by the two together
-  joined_best : (x : ℕ) → x < product (without i counts) → best G (placed_number i merged a x) ≤ℤ (best F (placed_number i counts a x) +ℤ best F (placed_number i counts b x))
+  joined_best : (x : ℕ) → x < product (without i counts)
+      → best G (placed_number i merged a x)
+        ≤ℤ (best F (placed_number i counts a x) +ℤ best F (placed_number i counts b x))
   joined_best x hx =
       let A = placed_number i counts a x in
       let B = placed_number i counts b x in
@@ -133,7 +138,8 @@ module _ (m : Model) (h r look : ℕ) (F : Front) (front : IsFront m h F) (lt : 
       (zle_of _ _ (ap (λ (n : ℕ). int_sum n old) less ∙ sym (int_sum_placed i counts i_in (best F)))))
 
 -- a bound does not grow by merging
-pub merged_bound_le : (m : Model) (h r look : ℕ) (F : Front) (i a b : ℕ) → IsFront m h F → F.stage < h → a < b → IsUnassigned i a F.agents → IsUnassigned i b F.agents →
+pub merged_bound_le : (m : Model) (h r look : ℕ) (F : Front) (i a b : ℕ) → IsFront m h F → F.stage < h → a < b
+    → IsUnassigned i a F.agents → IsUnassigned i b F.agents →
     bound_of m r (merged_front F i a b) look ≤ℤ bound_of m r F look
 merged_bound_le m h zero look F i a b front lt ab free_a free_b = zle_of _ _ (ap (λ act. earned_reward m act (F.stage + 0) F.stage) (fixed_joint_action_merged m F i a b))
 merged_bound_le m h (suc r) look F i a b front lt ab free_a free_b =

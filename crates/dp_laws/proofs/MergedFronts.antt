@@ -20,30 +20,37 @@ use Rattle.std.proofs.lemmas.Bool.{cases_lt}
 use Rattle.dp_laws.proofs.HistorySums.{nat_history_sum_add, nat_history_sum_ext}
 
 -- ---- a joint class by the class of one agent
-pub unassigned_agent : (i c : ℕ) (ds : List AgentFront) → IsUnassigned i c ds → (i < length (class_counts ds)) × (c < get_or (class_counts ds) i 0)
+pub unassigned_agent : (i c : ℕ) (ds : List AgentFront) → IsUnassigned i c ds
+    → (i < length (class_counts ds)) × (c < get_or (class_counts ds) i 0)
 unassigned_agent i c [] free = absurd free
 unassigned_agent zero c (d ∷ ds) free = (omega arith, free.0)
 unassigned_agent (suc i) c (d ∷ ds) free = let rest = unassigned_agent i c ds free in (omega (arith, rest.0), rest.1)
 
 module _ (m : Model) (h : ℕ) (F : Front) (front : IsFront m h F) (i : ℕ) (i_in : i < length (class_counts F.agents)) where
-  classes_in : (H : List ℕ) → IsJointHistory (joint_observations m) F.stage H → AreBelow (class_counts F.agents) (own_classes F.agents (own_histories m.observations H))
+  classes_in : (H : List ℕ) → IsJointHistory (joint_observations m) F.stage H
+      → AreBelow (class_counts F.agents) (own_classes F.agents (own_histories m.observations H))
   unfolding joint_observations
   classes_in H p = classes_below front.agents _ (own_histories_within m.observations F.stage H p)
 
-  agent_in_range : (H : List ℕ) → IsJointHistory (joint_observations m) F.stage H → class_of_agent m F i H < get_or (class_counts F.agents) i 0
+  agent_in_range : (H : List ℕ) → IsJointHistory (joint_observations m) F.stage H
+      → class_of_agent m F i H < get_or (class_counts F.agents) i 0
   unfolding class_of_agent
   agent_in_range H p = below_at i _ _ i_in (classes_in H p)
 
-  others_in_range : (H : List ℕ) → IsJointHistory (joint_observations m) F.stage H → class_of_others m F i H < product (without i (class_counts F.agents))
+  others_in_range : (H : List ℕ) → IsJointHistory (joint_observations m) F.stage H
+      → class_of_others m F i H < product (without i (class_counts F.agents))
   unfolding class_of_others
   others_in_range H p = joint_number_below _ _ (below_others i _ _ (classes_in H p))
 
-  class_is_placed : (H : List ℕ) → IsJointHistory (joint_observations m) F.stage H → joint_class m F H ≡ placed_number i (class_counts F.agents) (class_of_agent m F i H) (class_of_others m F i H)
+  class_is_placed : (H : List ℕ) → IsJointHistory (joint_observations m) F.stage H
+      → joint_class m F H ≡ placed_number i (class_counts F.agents) (class_of_agent m F i H) (class_of_others m F i H)
   unfolding joint_class class_of_agent class_of_others
   class_is_placed H p = joint_is_placed i _ _ i_in (classes_in H p)
 
   -- the weight of a joint class is that of the agent's class with the others'
-  pub placed_weight : (c x s : ℕ) → c < get_or (class_counts F.agents) i 0 → x < product (without i (class_counts F.agents)) → class_weight m F (placed_number i (class_counts F.agents) c x) s ≡ place_weight m F i c x s
+  pub placed_weight : (c x s : ℕ) → c < get_or (class_counts F.agents) i 0
+      → x < product (without i (class_counts F.agents))
+      → class_weight m F (placed_number i (class_counts F.agents) c x) s ≡ place_weight m F i c x s
   unfolding class_weight place_weight
   placed_weight c x s hc hx =
       let counts = class_counts F.agents in
@@ -55,22 +62,26 @@ module _ (m : Model) (h : ℕ) (F : Front) (front : IsFront m h F) (i : ℕ) (i_
       (λ e. refl))
 
 -- ---- the lists of a merged front
-pub counts_of_others : (i a b : ℕ) (ds : List AgentFront) → without i (class_counts (merged_agents i a b ds)) ≡ without i (class_counts ds)
+pub counts_of_others : (i a b : ℕ) (ds : List AgentFront)
+    → without i (class_counts (merged_agents i a b ds)) ≡ without i (class_counts ds)
 counts_of_others i a b [] = refl
 counts_of_others zero a b (d ∷ ds) = refl
 counts_of_others (suc i) a b (d ∷ ds) = ap (λ z. length d.chosen ∷ z) (counts_of_others i a b ds)
 
-pub one_class_less : (i a b : ℕ) (ds : List AgentFront) → IsUnassigned i b ds → suc (get_or (class_counts (merged_agents i a b ds)) i 0) ≡ get_or (class_counts ds) i 0
+pub one_class_less : (i a b : ℕ) (ds : List AgentFront) → IsUnassigned i b ds
+    → suc (get_or (class_counts (merged_agents i a b ds)) i 0) ≡ get_or (class_counts ds) i 0
 one_class_less i a b [] free = absurd free
 one_class_less zero a b (d ∷ ds) free = length-without b d.chosen free.0
 one_class_less (suc i) a b (d ∷ ds) free = one_class_less i a b ds free
 
-pub as_many_merged : (i a b : ℕ) (ds : List AgentFront) → length (class_counts (merged_agents i a b ds)) ≡ length (class_counts ds)
+pub as_many_merged : (i a b : ℕ) (ds : List AgentFront)
+    → length (class_counts (merged_agents i a b ds)) ≡ length (class_counts ds)
 as_many_merged i a b [] = refl
 as_many_merged zero a b (d ∷ ds) = refl
 as_many_merged (suc i) a b (d ∷ ds) = ap suc (as_many_merged i a b ds)
 
-classes_of_others : (i a b : ℕ) (ds : List AgentFront) (xs : List ℕ) → without i (own_classes (merged_agents i a b ds) xs) ≡ without i (own_classes ds xs)
+classes_of_others : (i a b : ℕ) (ds : List AgentFront) (xs : List ℕ)
+    → without i (own_classes (merged_agents i a b ds) xs) ≡ without i (own_classes ds xs)
 classes_of_others i a b [] xs = refl
 classes_of_others zero a b (d ∷ ds) [] = refl
 classes_of_others (suc i) a b (d ∷ ds) [] = refl
@@ -80,7 +91,8 @@ classes_of_others (suc i) a b (d ∷ ds) (x ∷ xs) = ap (λ z. get_or d.class_o
 renumbered_none : (a b : ℕ) → a < b → 0 ≡ renumbered a b 0
 renumbered_none a b h = grind (arith, nat_tests)
 
-class_renumbered : (i a b : ℕ) (ds : List AgentFront) (xs : List ℕ) → a < b → get_or (own_classes (merged_agents i a b ds) xs) i 0 ≡ renumbered a b (get_or (own_classes ds xs) i 0)
+class_renumbered : (i a b : ℕ) (ds : List AgentFront) (xs : List ℕ) → a < b
+    → get_or (own_classes (merged_agents i a b ds) xs) i 0 ≡ renumbered a b (get_or (own_classes ds xs) i 0)
 class_renumbered i a b [] xs h = renumbered_none a b h
 class_renumbered zero a b (d ∷ ds) [] h = renumbered_none a b h
 class_renumbered (suc i) a b (d ∷ ds) [] h = renumbered_none a b h
@@ -153,7 +165,8 @@ choice_kept b c os =
       | inr high ↦ get_or-without_above b os c None high ∙ ap (λ z. get_or os z None) (kept_high b c high)
     ]
 
-agree_kept : (i a b c : ℕ) (ds : List AgentFront) (ps xs : List ℕ) → all_agree (merged_agents i a b ds) (inserted i c ps) xs ≡ all_agree ds (inserted i (kept_class b c) ps) xs
+agree_kept : (i a b c : ℕ) (ds : List AgentFront) (ps xs : List ℕ)
+    → all_agree (merged_agents i a b ds) (inserted i c ps) xs ≡ all_agree ds (inserted i (kept_class b c) ps) xs
 agree_kept i a b c [] ps xs = refl
 agree_kept zero a b c (d ∷ ds) ps [] = refl
 agree_kept zero a b c (d ∷ ds) ps (x ∷ xs) = ap (λ o. agrees o x && all_agree ds ps xs) (choice_kept b c d.chosen)
@@ -161,7 +174,8 @@ agree_kept (suc i) a b c (d ∷ ds) [] xs = refl
 agree_kept (suc i) a b c (d ∷ ds) (p ∷ ps) [] = refl
 agree_kept (suc i) a b c (d ∷ ds) (p ∷ ps) (x ∷ xs) = ap (λ z. agrees (get_or d.chosen p None) x && z) (agree_kept i a b c ds ps xs)
 
-agree_either : (i a b : ℕ) (ds : List AgentFront) (ps xs : List ℕ) → IsUnassigned i a ds → IsUnassigned i b ds → all_agree ds (inserted i b ps) xs ≡ all_agree ds (inserted i a ps) xs
+agree_either : (i a b : ℕ) (ds : List AgentFront) (ps xs : List ℕ) → IsUnassigned i a ds → IsUnassigned i b ds
+    → all_agree ds (inserted i b ps) xs ≡ all_agree ds (inserted i a ps) xs
 agree_either i a b [] ps xs p q = absurd p
 agree_either zero a b (d ∷ ds) ps [] p q = refl
 agree_either zero a b (d ∷ ds) ps (x ∷ xs) p q = ap (λ o. agrees o x && all_agree ds ps xs) (q.1 ∙ sym p.1)
@@ -170,13 +184,16 @@ agree_either (suc i) a b (d ∷ ds) (e ∷ ps) [] p q = refl
 agree_either (suc i) a b (d ∷ ds) (e ∷ ps) (x ∷ xs) p q = ap (λ z. agrees (get_or d.chosen e None) x && z) (agree_either i a b ds ps xs p q)
 
 -- by the parts of a joint class
-agreeing_parts : (m : Model) (F : Front) (C : ℕ) (cs : List ℕ) → parts_of (class_counts F.agents) C ≡ cs → agreeing_actions m F C ≡ filter (λ x. all_agree F.agents cs (parts_of m.actions x)) (numbers_below (joint_actions m))
+agreeing_parts : (m : Model) (F : Front) (C : ℕ) (cs : List ℕ) → parts_of (class_counts F.agents) C ≡ cs
+    → agreeing_actions m F C
+      ≡ filter (λ x. all_agree F.agents cs (parts_of m.actions x)) (numbers_below (joint_actions m))
 unfolding agreeing_actions
 agreeing_parts m F C cs e = ap (λ z. filter (λ x. all_agree F.agents z (parts_of m.actions x)) (numbers_below (joint_actions m))) e
 
 module _ (m : Model) (F : Front) (i a b : ℕ) (free_a : IsUnassigned i a F.agents) (free_b : IsUnassigned i b F.agents) where
   -- with a class of the merged front agree those that agree with the old class
-  pub agreeing_kept : (c x : ℕ) → c < get_or (class_counts (merged_agents i a b F.agents)) i 0 → x < product (without i (class_counts F.agents)) →
+  pub agreeing_kept : (c x : ℕ) → c < get_or (class_counts (merged_agents i a b F.agents)) i 0
+      → x < product (without i (class_counts F.agents)) →
       agreeing_actions m (merged_front F i a b) (placed_number i (class_counts (merged_agents i a b F.agents)) c x) ≡ agreeing_actions m F (placed_number i (class_counts F.agents) (kept_class b c) x)
   agreeing_kept c x hc hx =
       let counts = class_counts F.agents in
@@ -190,7 +207,9 @@ module _ (m : Model) (F : Front) (i a b : ℕ) (free_a : IsUnassigned i a F.agen
       ∙ sym (agreeing_parts m F _ _ (parts-placed i counts (kept_class b c) x i_in (kept_below b c _ _ hc (one_class_less i a b F.agents free_b)) hx))
 
   -- with the two classes agree the same
-  pub agreeing_either : (x : ℕ) → x < product (without i (class_counts F.agents)) → agreeing_actions m F (placed_number i (class_counts F.agents) b x) ≡ agreeing_actions m F (placed_number i (class_counts F.agents) a x)
+  pub agreeing_either : (x : ℕ) → x < product (without i (class_counts F.agents))
+      → agreeing_actions m F (placed_number i (class_counts F.agents) b x)
+        ≡ agreeing_actions m F (placed_number i (class_counts F.agents) a x)
   agreeing_either x hx =
       let i_in = unassigned_agent i a F.agents free_a in
       let b_in = unassigned_agent i b F.agents free_b in

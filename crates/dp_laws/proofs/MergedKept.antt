@@ -13,7 +13,8 @@ below_or_above : (c b : ℕ) → c ≢ b → (c < b) ⊎ (b < c)
 below_or_above c b ne = grind arith
 
 -- a class other than the one that was joined has the same action under its new number
-get_or-without_renumbered : (a b : ℕ) (os : List (Option ℕ)) (c : ℕ) → c ≢ b → get_or (without b os) (renumbered a b c) None ≡ get_or os c None
+get_or-without_renumbered : (a b : ℕ) (os : List (Option ℕ)) (c : ℕ) → c ≢ b
+    → get_or (without b os) (renumbered a b c) None ≡ get_or os c None
 get_or-without_renumbered a b os c ne =
     elim (below_or_above c b ne) [
       | inl lt ↦ ap (λ (k : ℕ). get_or (without b os) k None) (renumbered_low a b c lt) ∙ get_or-without_below b os c None lt
@@ -28,7 +29,8 @@ has_action : (b c e : ℕ) (os : List (Option ℕ)) → get_or os b None ≡ Non
 has_action b c e os none some same = let at : get_or os c None ≡ None = subst (λ (k : ℕ). get_or os k None ≡ None) (sym same) none in cc
 
 -- a tree that keeps the merged front of one agent keeps the old one
-merged_agent_kept : (n f : ℕ) (d : AgentFront) (q : PolicyTree) (a b : ℕ) → a < b → get_or d.chosen b None ≡ None → KeepsAgentFront n f (merged_agent a b d) q → KeepsAgentFront n f d q
+merged_agent_kept : (n f : ℕ) (d : AgentFront) (q : PolicyTree) (a b : ℕ) → a < b → get_or d.chosen b None ≡ None
+    → KeepsAgentFront n f (merged_agent a b d) q → KeepsAgentFront n f d q
 merged_agent_kept n f d q a b lt none k = record {
   does_fixed = k.does_fixed;
   alike = λ x y u v same. k.alike x y u v (get_or-renumbered a b d.class_of x lt ∙ ap (renumbered a b) same ∙ sym (get_or-renumbered a b d.class_of y lt));
@@ -38,7 +40,8 @@ merged_agent_kept n f d q a b lt none k = record {
 }
 
 -- the trees that keep the merged fronts keep the old ones
-pub merged_agents_kept : {f : ℕ} {ns : List ℕ} (i a b : ℕ) (ds : List AgentFront) {qs : List PolicyTree} → a < b → IsUnassigned i b ds → KeepAgentFronts f ns (merged_agents i a b ds) qs → KeepAgentFronts f ns ds qs
+pub merged_agents_kept : {f : ℕ} {ns : List ℕ} (i a b : ℕ) (ds : List AgentFront) {qs : List PolicyTree} → a < b
+    → IsUnassigned i b ds → KeepAgentFronts f ns (merged_agents i a b ds) qs → KeepAgentFronts f ns ds qs
 merged_agents_kept i a b [] lt free ks = ks
 merged_agents_kept zero a b (d ∷ ds) lt free (and_agent k ks) = and_agent (merged_agent_kept _ _ d _ a b lt free.1 k) ks
 merged_agents_kept (suc i) a b (d ∷ ds) lt free (and_agent k ks) = and_agent k (merged_agents_kept i a b ds lt free ks)

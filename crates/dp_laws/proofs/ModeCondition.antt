@@ -26,7 +26,8 @@ unfolding reward_most
 reward_most_some m = omega arith
 
 -- the condition of exact mode
-pub exact_condition : (m : Model) (h : ℕ) → true ≡ is_exact_mode m h → m.scales.start * step_scale m ^ h * h * reward_most m ≤ 2 ^ 126
+pub exact_condition : (m : Model) (h : ℕ) → true ≡ is_exact_mode m h
+    → m.scales.start * step_scale m ^ h * h * reward_most m ≤ 2 ^ 126
 unfolding is_exact_mode reward_most
 exact_condition m h e = leb-true _ _ (sym e)
 
@@ -36,12 +37,14 @@ unfolding step_scale
 step_scale_some m is = mul-pos (mul-pos is.scales.trans is.scales.obs) is.scales.discount
 
 -- the limit of rewards
-pub reward_within : (m : Model) → IsModel m → (a s t o : ℕ) → unsigned_abs (reward_at m a s t o) ≤ 10 ^ 8 * m.scales.reward
+pub reward_within : (m : Model) → IsModel m → (a s t o : ℕ)
+    → unsigned_abs (reward_at m a s t o) ≤ 10 ^ 8 * m.scales.reward
 unfolding reward_at
 reward_within m is a s t o = is.tables.reward_limit (((a * m.states + s) * m.states + t) * joint_observations m + o)
 
 -- a limit of all numbers is one of the greatest magnitude
-pub magnitude_most : (rs : List ℤ) (c : ℕ) → ((i : ℕ) → unsigned_abs (get_or rs i (pos 0)) ≤ c) → greatest_magnitude rs ≤ c
+pub magnitude_most : (rs : List ℤ) (c : ℕ) → ((i : ℕ) → unsigned_abs (get_or rs i (pos 0)) ≤ c)
+    → greatest_magnitude rs ≤ c
 magnitude_most [] c h = omega arith
 magnitude_most (r ∷ rs) c h = let here : unsigned_abs r ≤ c = h 0 in let rest = magnitude_most rs c (λ i. h (suc i)) in omega arith
 

@@ -16,7 +16,8 @@ arithmetic_sound m is true = exact_sound m
 arithmetic_sound m is false = outward_sound m is
 
 -- the low end of what is earned is at most the true number
-pub low_reads : (e : Bool) (F : ℕ) (x : ℤ) (s : Span) → (enclosure e).Earns F x s → (s.low *ℤ pos F) ≤ℤ (x *ℤ pos ((enclosure e).unit F))
+pub low_reads : (e : Bool) (F : ℕ) (x : ℤ) (s : Span) → (enclosure e).Earns F x s
+    → (s.low *ℤ pos F) ≤ℤ (x *ℤ pos ((enclosure e).unit F))
 low_reads true F x s h = zle_of _ _ (ap (λ (s : Span). s.low *ℤ pos F) h)
 low_reads false F x s h = h.from
 
@@ -26,6 +27,7 @@ unit_is true u = refl
 unit_is false u = refl
 
 -- the unit of a mode is that of its enclosure
-pub mode_unit : (m : Model) (h : ℕ) (e : Bool) → e ≡ is_exact_mode m h → unit_of m h ≡ (enclosure e).unit (value_scale m h)
+pub mode_unit : (m : Model) (h : ℕ) (e : Bool) → e ≡ is_exact_mode m h
+    → unit_of m h ≡ (enclosure e).unit (value_scale m h)
 unfolding unit_of
 mode_unit m h e is = ap (λ (t : Bool). if t then value_scale m h else 10 ^ 9) (sym is) ∙ unit_is e (value_scale m h)

@@ -15,12 +15,15 @@ use Rattle.dp_laws.proofs.GreatestValues.{le_greatest_below}
 use Rattle.dp_spec.proofs.NaturalSumLaws.{nat_sum_scale}
 
 -- the step's summand
-regroup : (w p g k : ℕ) (r n : ℤ) → pos w *ℤ (pos p *ℤ (r *ℤ pos k +ℤ pos g *ℤ n)) ≡ pos (w * p) *ℤ (r *ℤ pos k) +ℤ pos (w * (p * g)) *ℤ n
+regroup : (w p g k : ℕ) (r n : ℤ)
+    → pos w *ℤ (pos p *ℤ (r *ℤ pos k +ℤ pos g *ℤ n)) ≡ pos (w * p) *ℤ (r *ℤ pos k) +ℤ pos (w * (p * g)) *ℤ n
 regroup w p g k r n =
     by_ring (nat w ⊗ (nat p ⊗ (v r ⊗ nat k ⊕ nat g ⊗ v n))) (nat (w * p) ⊗ (v r ⊗ nat k) ⊕ nat (w * (p * g)) ⊗ v n) (omega arith)
 
 -- the weights one step on against a function of the next state
-weights_after_times : (m : Model) (w : ℕ → ℕ) (a o t : ℕ) (x : ℤ) → pos (weights_after m w a o t) *ℤ x ≡ int_sum m.states (λ s. pos (w s * (trans_at m a s t * obs_at m a t o * m.scales.gain)) *ℤ x)
+weights_after_times : (m : Model) (w : ℕ → ℕ) (a o t : ℕ) (x : ℤ)
+    → pos (weights_after m w a o t) *ℤ x
+      ≡ int_sum m.states (λ s. pos (w s * (trans_at m a s t * obs_at m a t o * m.scales.gain)) *ℤ x)
 unfolding weights_after
 weights_after_times m w a o t x = sym (int_sum_weigh m.states _ x)
 
@@ -51,12 +54,14 @@ pub one_step : (m : Model) (r : ℕ) (w : ℕ → ℕ) (qs : List PolicyTree) �
 one_step m r w qs = one_step_to m r w (joint_root_action m qs) (λ t o. backward_value m r t (trees_after m qs o))
 
 -- the joint action at the roots exists
-pub root_joint_action_below : (m : Model) (r : ℕ) (qs : List PolicyTree) → IsPolicyOf m (suc r) qs → joint_root_action m qs < joint_actions m
+pub root_joint_action_below : (m : Model) (r : ℕ) (qs : List PolicyTree) → IsPolicyOf m (suc r) qs
+    → joint_root_action m qs < joint_actions m
 unfolding joint_root_action joint_actions
 root_joint_action_below m r qs h = joint_root_action_below h
 
 -- what remains after a joint observation is a joint policy of one step less
-pub trees_after_fit : (m : Model) (r : ℕ) (qs : List PolicyTree) (o : ℕ) → o < joint_observations m → IsPolicyOf m (suc r) qs → IsPolicyOf m r (trees_after m qs o)
+pub trees_after_fit : (m : Model) (r : ℕ) (qs : List PolicyTree) (o : ℕ) → o < joint_observations m
+    → IsPolicyOf m (suc r) qs → IsPolicyOf m r (trees_after m qs o)
 unfolding trees_after joint_observations
 trees_after_fit m r qs o p h = subtrees_fit o p h
 
@@ -68,7 +73,8 @@ step_le p g x n b h =
     rw e (omega (arith, ints))
 
 -- an action with something after it that the table bounds
-pub step_le_table : (m : Model) → IsModel m → (r s a : ℕ) (N : ℕ → ℕ → ℤ) → s < m.states → a < joint_actions m → ((t o : ℕ) → t < m.states → o < joint_observations m → N t o ≤ℤ mdp_table m r t) →
+pub step_le_table : (m : Model) → IsModel m → (r s a : ℕ) (N : ℕ → ℕ → ℤ) → s < m.states → a < joint_actions m
+    → ((t o : ℕ) → t < m.states → o < joint_observations m → N t o ≤ℤ mdp_table m r t) →
     int_sum m.states (λ t. int_sum (joint_observations m) (λ o.
     pos (trans_at m a s t * obs_at m a t o) *ℤ (reward_at m a s t o *ℤ pos (m.scales.discount * step_scale m ^ r) +ℤ pos m.scales.gain *ℤ N t o))) ≤ℤ mdp_table m (suc r) s
 step_le_table m ok r s a N p a_in small =
@@ -87,7 +93,8 @@ step_le_table m ok r s a N p a_in small =
     (zle_trans _ _ _ (zle_of _ _ e) (le_greatest_below _ (joint_actions m) a a_in))
 
 -- no joint policy of r steps is worth more in a state than the table says
-pub value_le_table : (m : Model) → IsModel m → (r s : ℕ) (qs : List PolicyTree) → s < m.states → IsPolicyOf m r qs → backward_value m r s qs ≤ℤ mdp_table m r s
+pub value_le_table : (m : Model) → IsModel m → (r s : ℕ) (qs : List PolicyTree) → s < m.states → IsPolicyOf m r qs
+    → backward_value m r s qs ≤ℤ mdp_table m r s
 value_le_table m ok zero s qs p h = zle_of _ _ refl
 value_le_table m ok (suc r) s qs p h =
     step_le_table m ok r s (joint_root_action m qs) (λ t o. backward_value m r t (trees_after m qs o)) p (root_joint_action_below m r qs h)
@@ -98,7 +105,8 @@ pub weighted_zeros : (n : ℕ) (w : ℕ → ℕ) → int_sum n (λ s. pos (w s) 
 weighted_zeros n w = int_sum_weigh n w (pos 0) ∙ omega (arith, ints)
 
 -- no joint policy of r steps earns more from weights than the look-ahead says
-pub value_le_look_ahead : (m : Model) → IsModel m → (r k : ℕ) (w : ℕ → ℕ) (qs : List PolicyTree) → IsPolicyOf m r qs → int_sum m.states (λ s. pos (w s) *ℤ backward_value m r s qs) ≤ℤ look_ahead m r w k
+pub value_le_look_ahead : (m : Model) → IsModel m → (r k : ℕ) (w : ℕ → ℕ) (qs : List PolicyTree) → IsPolicyOf m r qs
+    → int_sum m.states (λ s. pos (w s) *ℤ backward_value m r s qs) ≤ℤ look_ahead m r w k
 value_le_look_ahead m ok zero k w qs h = zle_of _ _ (weighted_zeros m.states w)
 value_le_look_ahead m ok (suc r) zero w qs h = int_sum_le m.states _ _ (λ s p. zmul_le (w s) _ _ (value_le_table m ok (suc r) s qs p h))
 value_le_look_ahead m ok (suc r) (suc k) w qs h =
@@ -109,7 +117,10 @@ value_le_look_ahead m ok (suc r) (suc k) w qs h =
     (le_greatest_below _ (joint_actions m) a (root_joint_action_below m r qs h)))
 
 -- the same for trees whose roots do a
-pub value_le_action_look_ahead : (m : Model) → IsModel m → (r k : ℕ) (w : ℕ → ℕ) (qs : List PolicyTree) → IsPolicyOf m (suc r) qs → int_sum m.states (λ s. pos (w s) *ℤ backward_value m (suc r) s qs) ≤ℤ action_look_ahead m r w (joint_root_action m qs) k
+pub value_le_action_look_ahead : (m : Model) → IsModel m → (r k : ℕ) (w : ℕ → ℕ) (qs : List PolicyTree)
+    → IsPolicyOf m (suc r) qs
+    → int_sum m.states (λ s. pos (w s) *ℤ backward_value m (suc r) s qs)
+      ≤ℤ action_look_ahead m r w (joint_root_action m qs) k
 unfolding action_look_ahead
 value_le_action_look_ahead m ok r k w qs h =
     let a = joint_root_action m qs in

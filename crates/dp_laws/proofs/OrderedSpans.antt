@@ -28,7 +28,8 @@ abbrev pub total_size : Model → (ℕ → Span) → ℕ
 total_size m ws = nat_sum m.states (λ s. size (ws s))
 
 -- weights are such spans
-pub weight_ordered : {e : Bool} {m : Model} {t : ℕ} {ws : ℕ → Span} → AreWeights e m t ws → (s : ℕ) → s < m.states → IsOrdered (ws s)
+pub weight_ordered : {e : Bool} {m : Model} {t : ℕ} {ws : ℕ → Span} → AreWeights e m t ws → (s : ℕ) → s < m.states
+    → IsOrdered (ws s)
 weight_ordered are s p = record { from = are.from s p; order = are.order s p }
 
 -- the high end is from 0 too
@@ -56,7 +57,8 @@ sum_ordered (suc n) f h =
     record { from = from_both _ _ rest.from here.from; order = zadd_le _ _ _ _ rest.order here.order }
 
 -- the same over joint histories
-pub history_sum_ordered : (n t : ℕ) (v : List ℕ → Span) → ((H : List ℕ) → IsJointHistory n t H → IsOrdered (v H)) → IsOrdered (span_history_sum n t v)
+pub history_sum_ordered : (n t : ℕ) (v : List ℕ → Span) → ((H : List ℕ) → IsJointHistory n t H → IsOrdered (v H))
+    → IsOrdered (span_history_sum n t v)
 history_sum_ordered n zero v h = h [] tt
 history_sum_ordered n (suc t) v h = history_sum_ordered n t _ (λ H p. sum_ordered n _ (λ o q. h (o ∷ H) (q, p)))
 
@@ -66,7 +68,8 @@ sum_point zero f h = refl
 sum_point (suc n) f h = let here = h n (omega arith) in let rest = sum_point n f (λ i p. h i (omega arith)) in rw (here, rest) refl
 
 -- the same over joint histories
-pub history_sum_point : (n t : ℕ) (v : List ℕ → Span) → ((H : List ℕ) → IsJointHistory n t H → IsPoint (v H)) → IsPoint (span_history_sum n t v)
+pub history_sum_point : (n t : ℕ) (v : List ℕ → Span) → ((H : List ℕ) → IsJointHistory n t H → IsPoint (v H))
+    → IsPoint (span_history_sum n t v)
 history_sum_point n zero v h = h [] tt
 history_sum_point n (suc t) v h = history_sum_point n t _ (λ H p. sum_point n _ (λ o q. h (o ∷ H) (q, p)))
 
@@ -76,7 +79,8 @@ from_times (pos k) n h = omega (arith, ints)
 from_times (negsuc k) n h = absurd (omega (arith, ints))
 
 -- such a span times a natural
-pub times_ordered : (w : Span) (n : ℕ) → IsOrdered w → IsOrdered (record { low = w.low *ℤ pos n; high = w.high *ℤ pos n })
+pub times_ordered : (w : Span) (n : ℕ) → IsOrdered w
+    → IsOrdered (record { low = w.low *ℤ pos n; high = w.high *ℤ pos n })
 times_ordered w n o = record { from = from_times w.low n o.from; order = mul_le_right n w.low w.high o.order }
 
 -- ---- joint classes

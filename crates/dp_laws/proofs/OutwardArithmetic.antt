@@ -54,17 +54,20 @@ mul_negative_le : (n : ℕ) (a b : ℤ) → a ≤ℤ b → (b *ℤ negsuc n) ≤
 mul_negative_le n a b h = let le = zmul_le (suc n) a b h in by_order (v b ⊗ v (negsuc n)) (v a ⊗ v (negsuc n)) (omega (arith, ints))
 
 -- the end by the sign of r, times r, is an end of the product
-signed_below : (T u : ℕ) (x l h r : ℤ) → IsBelow T u x l → IsAbove T u x h → ((by_sign r l h *ℤ pos T) *ℤ r) ≤ℤ ((x *ℤ pos u) *ℤ r)
+signed_below : (T u : ℕ) (x l h r : ℤ) → IsBelow T u x l → IsAbove T u x h
+    → ((by_sign r l h *ℤ pos T) *ℤ r) ≤ℤ ((x *ℤ pos u) *ℤ r)
 signed_below T u x l h (pos n) p q = zle_trans _ _ _ (zle_of _ _ (zmul_comm (l *ℤ pos T) (pos n))) (zle_trans _ _ _ (zmul_le n _ _ p) (zle_of _ _ (zmul_comm (pos n) (x *ℤ pos u))))
 signed_below T u x l h (negsuc n) p q = mul_negative_le n (x *ℤ pos u) (h *ℤ pos T) q
 
 -- the same from above
-signed_above : (T u : ℕ) (x l h r : ℤ) → IsBelow T u x l → IsAbove T u x h → ((x *ℤ pos u) *ℤ r) ≤ℤ ((by_sign r h l *ℤ pos T) *ℤ r)
+signed_above : (T u : ℕ) (x l h r : ℤ) → IsBelow T u x l → IsAbove T u x h
+    → ((x *ℤ pos u) *ℤ r) ≤ℤ ((by_sign r h l *ℤ pos T) *ℤ r)
 signed_above T u x l h (pos n) p q = zle_trans _ _ _ (zle_of _ _ (zmul_comm (x *ℤ pos u) (pos n))) (zle_trans _ _ _ (zmul_le n _ _ q) (zle_of _ _ (zmul_comm (pos n) (h *ℤ pos T))))
 signed_above T u x l h (negsuc n) p q = mul_negative_le n (l *ℤ pos T) (x *ℤ pos u) p
 
 -- a weight times a reward, from below
-gain_below : (T u e k d c w : ℕ) (l h r : ℤ) → 0 < c → 0 < c * d → u ≡ c * e → IsBelow T u (pos w) l → IsAbove T u (pos w) h → IsBelow (T * k * d) e (pos w *ℤ (r *ℤ pos k)) (mul_down (by_sign r l h) r (c * d))
+gain_below : (T u e k d c w : ℕ) (l h r : ℤ) → 0 < c → 0 < c * d → u ≡ c * e → IsBelow T u (pos w) l
+    → IsAbove T u (pos w) h → IsBelow (T * k * d) e (pos w *ℤ (r *ℤ pos k)) (mul_down (by_sign r l h) r (c * d))
 gain_below T u e k d c w l h r some some' is p q =
     let x = by_sign r l h in
     let y = mul_down x r (c * d) in
@@ -76,7 +79,8 @@ gain_below T u e k d c w l h r some some' is p q =
     (zle_of _ _ (ap (λ (n : ℕ). pos k *ℤ (pos w *ℤ pos n *ℤ r)) is ∙ by_ring (nat k ⊗ (nat w ⊗ nat (c * e) ⊗ v r)) (nat c ⊗ (nat w ⊗ (v r ⊗ nat k) ⊗ nat e)) (omega arith)))))))
 
 -- and from above
-gain_above : (T u e k d c w : ℕ) (l h r : ℤ) → 0 < c → 0 < c * d → u ≡ c * e → IsBelow T u (pos w) l → IsAbove T u (pos w) h → IsAbove (T * k * d) e (pos w *ℤ (r *ℤ pos k)) (mul_up (by_sign r h l) r (c * d))
+gain_above : (T u e k d c w : ℕ) (l h r : ℤ) → 0 < c → 0 < c * d → u ≡ c * e → IsBelow T u (pos w) l
+    → IsAbove T u (pos w) h → IsAbove (T * k * d) e (pos w *ℤ (r *ℤ pos k)) (mul_up (by_sign r h l) r (c * d))
 gain_above T u e k d c w l h r some some' is p q =
     let x = by_sign r h l in
     let y = mul_up x r (c * d) in
@@ -88,7 +92,8 @@ gain_above T u e k d c w l h r some some' is p q =
     (zle_of _ _ (by_ring (nat (T * k) ⊗ (v y ⊗ nat (c * d))) (nat c ⊗ (v y ⊗ nat (T * k * d))) (omega arith)))))))
 
 -- a weight times a value of the table
-tail_above : (T F u e w : ℕ) (l h x z : ℤ) → 0 < u → IsBelow T u (pos w) l → IsAbove T u (pos w) h → IsAbove F e x z → IsAbove (T * F) e (pos w *ℤ x) (mul_up (by_sign z h l) z u)
+tail_above : (T F u e w : ℕ) (l h x z : ℤ) → 0 < u → IsBelow T u (pos w) l → IsAbove T u (pos w) h → IsAbove F e x z
+    → IsAbove (T * F) e (pos w *ℤ x) (mul_up (by_sign z h l) z u)
 tail_above T F u e w l h x z some p q o =
     let y = by_sign z h l in
     let a = mul_up y z u in
@@ -102,7 +107,8 @@ tail_above T F u e w l h x z some p q o =
     (zle_of _ _ (by_ring (nat (T * F) ⊗ (v a ⊗ nat u)) (nat u ⊗ (v a ⊗ nat (T * F))) (omega arith)))))))))
 
 -- a value of the table times a chance and the discount
-carry_above : (F e p do' dt dg g : ℕ) (x z : ℤ) → 0 < dt → 0 < dg → IsAbove F e x z → IsAbove (F * (dt * do' * dg)) e (pos (p * do' * g) *ℤ x) (mul_up (mul_up z (pos p) dt) (pos g) dg)
+carry_above : (F e p do' dt dg g : ℕ) (x z : ℤ) → 0 < dt → 0 < dg → IsAbove F e x z
+    → IsAbove (F * (dt * do' * dg)) e (pos (p * do' * g) *ℤ x) (mul_up (mul_up z (pos p) dt) (pos g) dg)
 carry_above F e p do' dt dg g x z some some' o =
     let b = mul_up (mul_up z (pos p) dt) (pos g) dg in
     let twice = times_above (F * dt) e g dg _ _ some' (times_above F e p dt x z some o) in
@@ -166,12 +172,14 @@ product_of_scales : (T a b : ℕ) → T * a * b ≡ T * (a * b)
 product_of_scales T a b = omega arith
 
 -- a weight times two chances, from below
-chance_below : (T u w p z a b : ℕ) (l : ℤ) → 0 < a → 0 < b → IsBelow T u (pos w) l → IsBelow (T * (a * b)) u (pos (w * (p * z))) (mul_down (mul_down l (pos p) a) (pos z) b)
+chance_below : (T u w p z a b : ℕ) (l : ℤ) → 0 < a → 0 < b → IsBelow T u (pos w) l
+    → IsBelow (T * (a * b)) u (pos (w * (p * z))) (mul_down (mul_down l (pos p) a) (pos z) b)
 chance_below T u w p z a b l some some' h =
     same_below _ _ u _ _ _ (product_of_scales T a b) (product_of_chances w p z) (times_below (T * a) u z b (pos w *ℤ pos p) (mul_down l (pos p) a) some' (times_below T u p a (pos w) l some h))
 
 -- and from above
-chance_above : (T u w p z a b : ℕ) (l : ℤ) → 0 < a → 0 < b → IsAbove T u (pos w) l → IsAbove (T * (a * b)) u (pos (w * (p * z))) (mul_up (mul_up l (pos p) a) (pos z) b)
+chance_above : (T u w p z a b : ℕ) (l : ℤ) → 0 < a → 0 < b → IsAbove T u (pos w) l
+    → IsAbove (T * (a * b)) u (pos (w * (p * z))) (mul_up (mul_up l (pos p) a) (pos z) b)
 chance_above T u w p z a b l some some' h =
     same_above _ _ u _ _ _ (product_of_scales T a b) (product_of_chances w p z) (times_above (T * a) u z b (pos w *ℤ pos p) (mul_up l (pos p) a) some' (times_above T u p a (pos w) l some h))
 

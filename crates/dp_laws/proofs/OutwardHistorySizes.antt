@@ -1,4 +1,5 @@
--- In outward mode what is added up along joint histories stays within its type, up to a horizon of 24, by the limit of stage cells.
+-- In outward mode what is added up along joint histories stays within its type, up to a horizon of 24, by the limit
+-- of stage cells.
 use Rattle.std.proofs.Common.{◌≡◌, ℕ, zero, suc, ◌+◌, ◌-◌, ◌*◌, ◌^◌, ◌<◌, ◌≤◌, false, unsigned_abs, List, [], ◌∷◌, ap, arith}
 use Rattle.std.proofs.Math.Nat.{le-mul_of_pos_right, mul-le-mul, mul-le-mul_right, one-le-pow, pow-le-pow_right, pow-suc, pow-zero}
 use Rattle.dp_spec.specs.declared.span.Span.{Span}
@@ -50,7 +51,8 @@ module _ (m : Model) (is : IsModel m) (h : ℕ) (horizon : h ≤ 24) (cells : m.
 
   -- ---- worth and earnings
   -- the worth of a joint policy by the number of its rewards
-  worth_room : (t r : ℕ) (ws : ℕ → Span) (qs : List PolicyTree) → t + r ≡ h → AreWeights false m t ws → IsPolicyOf m r qs → worth_size (outward m.scales) m r ws qs ≤ reward_count (joint_observations m) r * 2 ^ 82
+  worth_room : (t r : ℕ) (ws : ℕ → Span) (qs : List PolicyTree) → t + r ≡ h → AreWeights false m t ws
+      → IsPolicyOf m r qs → worth_size (outward m.scales) m r ws qs ≤ reward_count (joint_observations m) r * 2 ^ 82
   worth_room t zero ws qs e are p = omega arith
   worth_room t (suc r) ws qs e are p =
       let O = joint_observations m in
@@ -68,7 +70,8 @@ module _ (m : Model) (is : IsModel m) (h : ℕ) (horizon : h ≤ 24) (cells : m.
   count_room (suc r) le = let steps : suc r ≤ 2 ^ 5 = omega arith in mul-le-mul steps (histories_before r le)
 
   -- all parts of the worth of a joint policy
-  worth_fits : (t r : ℕ) (ws : ℕ → Span) (qs : List PolicyTree) → t + r ≡ h → AreWeights false m t ws → IsPolicyOf m r qs → worth_size (outward m.scales) m r ws qs < 2 ^ 127
+  worth_fits : (t r : ℕ) (ws : ℕ → Span) (qs : List PolicyTree) → t + r ≡ h → AreWeights false m t ws
+      → IsPolicyOf m r qs → worth_size (outward m.scales) m r ws qs < 2 ^ 127
   worth_fits t r ws qs e are p = let most = worth_room t r ws qs e are p in let few = mul-le-mul_right (2 ^ 82) (count_room r (omega arith)) in omega arith
 
   -- in outward mode worth can be added up
@@ -77,12 +80,15 @@ module _ (m : Model) (is : IsModel m) (h : ℕ) (horizon : h ≤ 24) (cells : m.
   outward_can_evaluate = record { add = worth_fits }
 
   -- the weights of a joint history are weights of its time
-  weights_of : (act : List ℕ → ℕ) (t : ℕ) (H : List ℕ) → t ≤ h → IsActing m t act → IsJointHistory (joint_observations m) t H → AreWeights false m t (history_weight_in (outward m.scales) m act H)
+  weights_of : (act : List ℕ → ℕ) (t : ℕ) (H : List ℕ) → t ≤ h → IsActing m t act
+      → IsJointHistory (joint_observations m) t H
+      → AreWeights false m t (history_weight_in (outward m.scales) m act H)
   unfolding outward
   weights_of act t H le acts hist = history_weights (outward m.scales) (outward_calls m.scales) m h (outward_can_push m is h horizon) act t H le acts hist
 
   -- what is earned by the time
-  earned_room : (act : List ℕ → ℕ) (f : ℕ) → f ≤ h → IsActing m f act → earned_size (outward m.scales) m act h f ≤ f * 2 ^ 104
+  earned_room : (act : List ℕ → ℕ) (f : ℕ) → f ≤ h → IsActing m f act
+      → earned_size (outward m.scales) m act h f ≤ f * 2 ^ 104
   earned_room act zero le acts = omega arith
   earned_room act (suc f) le acts =
       let O = joint_observations m in
@@ -96,7 +102,8 @@ module _ (m : Model) (is : IsModel m) (h : ℕ) (horizon : h ≤ 24) (cells : m.
       omega arith
 
   -- it is at most 2^109
-  earned_most : (act : List ℕ → ℕ) (f : ℕ) → f ≤ h → IsActing m f act → earned_size (outward m.scales) m act h f ≤ 2 ^ 109
+  earned_most : (act : List ℕ → ℕ) (f : ℕ) → f ≤ h → IsActing m f act
+      → earned_size (outward m.scales) m act h f ≤ 2 ^ 109
   earned_most act f le acts = let most = earned_room act f le acts in omega arith
 
   -- in outward mode earnings can be added up
@@ -105,7 +112,9 @@ module _ (m : Model) (is : IsModel m) (h : ℕ) (horizon : h ≤ 24) (cells : m.
 
   -- ---- fronts
   -- the weights of one joint history
-  history_total : (act : List ℕ → ℕ) (t : ℕ) (H : List ℕ) → t ≤ h → IsActing m t act → IsJointHistory (joint_observations m) t H → total_size m (history_weight_in (outward m.scales) m act H) ≤ 10 ^ 12 + m.states + t * (m.states * m.states)
+  history_total : (act : List ℕ → ℕ) (t : ℕ) (H : List ℕ) → t ≤ h → IsActing m t act
+      → IsJointHistory (joint_observations m) t H
+      → total_size m (history_weight_in (outward m.scales) m act H) ≤ 10 ^ 12 + m.states + t * (m.states * m.states)
   history_total act zero [] le acts hist = let all = start_total m is in omega arith
   history_total act zero (o ∷ H) le acts hist = absurd hist
   history_total act (suc t) [] le acts hist = absurd hist
@@ -117,7 +126,9 @@ module _ (m : Model) (is : IsModel m) (h : ℕ) (horizon : h ≤ 24) (cells : m.
       omega arith
 
   -- it is at most 2^40
-  history_small : (act : List ℕ → ℕ) (t : ℕ) (H : List ℕ) → t ≤ h → IsActing m t act → IsJointHistory (joint_observations m) t H → total_size m (history_weight_in (outward m.scales) m act H) ≤ 2 ^ 40
+  history_small : (act : List ℕ → ℕ) (t : ℕ) (H : List ℕ) → t ≤ h → IsActing m t act
+      → IsJointHistory (joint_observations m) t H
+      → total_size m (history_weight_in (outward m.scales) m act H) ≤ 2 ^ 40
   history_small act t H le acts hist =
       let most = history_total act t H le acts hist in
       let states = is.sizes.states_limit in
@@ -126,7 +137,9 @@ module _ (m : Model) (is : IsModel m) (h : ℕ) (horizon : h ≤ 24) (cells : m.
       omega arith
 
   -- all weights of a time
-  histories_total : (act : List ℕ → ℕ) (t : ℕ) → t ≤ h → IsActing m t act → nat_history_sum (joint_observations m) t (λ H. total_size m (history_weight_in (outward m.scales) m act H)) ≤ joint_observations m ^ t * 2 ^ 40
+  histories_total : (act : List ℕ → ℕ) (t : ℕ) → t ≤ h → IsActing m t act
+      → nat_history_sum (joint_observations m) t (λ H. total_size m (history_weight_in (outward m.scales) m act H))
+        ≤ joint_observations m ^ t * 2 ^ 40
   histories_total act t le acts =
       let each = nat_history_sum_le (joint_observations m) t (λ H. total_size m (history_weight_in (outward m.scales) m act H)) (λ H. 2 ^ 40) (λ H hist. history_small act t H le acts hist) in
       let flat = nat_history_sum_const (joint_observations m) t (2 ^ 40) in omega arith
@@ -137,7 +150,8 @@ module _ (m : Model) (is : IsModel m) (h : ℕ) (horizon : h ≤ 24) (cells : m.
   histories_to (suc t) le = let before = histories_before t le in let few = mul-le-mul before is.sizes.joint_observations_limit in let e = pow-suc (joint_observations m) t in omega arith
 
   -- the weights of a joint class
-  class_limit : (F : Front) (C : ℕ) → IsFront m h F → F.stage < h → total_size m (class_weight_in (outward m.scales) m F C) ≤ weight_limit false m F.stage
+  class_limit : (F : Front) (C : ℕ) → IsFront m h F → F.stage < h
+      → total_size m (class_weight_in (outward m.scales) m F C) ≤ weight_limit false m F.stage
   class_limit F C front lt =
       let all = histories_total (fixed_joint_action m F) F.stage (omega arith) (front_acting m h F front) in
       let classes = classes_total (outward m.scales) m F (suc C) in
@@ -145,12 +159,15 @@ module _ (m : Model) (is : IsModel m) (h : ℕ) (horizon : h ≤ 24) (cells : m.
       let few = mul-le-mul_right (2 ^ 40) (histories_before F.stage lt) in omega arith
 
   -- they are weights of the stage
-  weights_of_class : (F : Front) (C : ℕ) → IsFront m h F → F.stage < h → AreWeights false m F.stage (class_weight_in (outward m.scales) m F C)
+  weights_of_class : (F : Front) (C : ℕ) → IsFront m h F → F.stage < h
+      → AreWeights false m F.stage (class_weight_in (outward m.scales) m F C)
   unfolding outward
   weights_of_class F C front lt = class_weights (outward m.scales) (outward_calls m.scales) m h (outward_can_push m is h horizon) F C front lt (class_limit F C front lt)
 
   -- all weights of a time fit
-  weights_fit : (act : List ℕ → ℕ) (t : ℕ) → t ≤ h → IsActing m t act → nat_history_sum (joint_observations m) t (λ H. total_size m (history_weight_in (outward m.scales) m act H)) < 2 ^ 127
+  weights_fit : (act : List ℕ → ℕ) (t : ℕ) → t ≤ h → IsActing m t act
+      → nat_history_sum (joint_observations m) t (λ H. total_size m (history_weight_in (outward m.scales) m act H))
+        < 2 ^ 127
   weights_fit act t le acts = let all = histories_total act t le acts in let few = mul-le-mul_right (2 ^ 40) (histories_to t le) in omega arith
 
   -- in outward mode weights of joint classes can be added up
@@ -163,7 +180,9 @@ module _ (m : Model) (is : IsModel m) (h : ℕ) (horizon : h ≤ 24) (cells : m.
   classes_before F front lt = let classes = joint_classes_within_histories m h F front in let histories = histories_before F.stage lt in omega arith
 
   -- the best look-ahead of a joint class
-  class_look_most : (F : Front) (C r k : ℕ) → IsFront m h F → F.stage + suc r ≡ h → unsigned_abs (greatest (λ a. action_look_ahead_in (outward m.scales) m r (class_weight_in (outward m.scales) m F C) a k) (agreeing_actions m F C)) ≤ 2 ^ 97
+  class_look_most : (F : Front) (C r k : ℕ) → IsFront m h F → F.stage + suc r ≡ h
+      → unsigned_abs (greatest (λ a. action_look_ahead_in (outward m.scales) m r (class_weight_in (outward m.scales) m F C) a k) (agreeing_actions m F C))
+        ≤ 2 ^ 97
   class_look_most F C r k front e =
       let W = class_weight_in (outward m.scales) m F C in
       let are = weights_of_class F C front (omega arith) in
@@ -171,7 +190,8 @@ module _ (m : Model) (is : IsModel m) (h : ℕ) (horizon : h ≤ 24) (cells : m.
       (λ a inside. let parts = action_look_le (outward m.scales) m r W a k in let most = looks_room m is h horizon F.stage r (k - 1) W a e are (agreeing_below m F C a inside) in omega arith)
 
   -- those of all joint classes together
-  class_looks_most : (F : Front) (r k : ℕ) → IsFront m h F → F.stage + suc r ≡ h → class_look_size (outward m.scales) m r F k ≤ 2 ^ 119
+  class_looks_most : (F : Front) (r k : ℕ) → IsFront m h F → F.stage + suc r ≡ h
+      → class_look_size (outward m.scales) m r F k ≤ 2 ^ 119
   unfolding class_look_size
   class_looks_most F r k front e =
       let n = product (class_counts F.agents) in
@@ -180,7 +200,9 @@ module _ (m : Model) (is : IsModel m) (h : ℕ) (horizon : h ≤ 24) (cells : m.
       omega arith
 
   -- what a front has earned and its best look-aheads
-  front_fits : (F : Front) (r k : ℕ) → IsFront m h F → F.stage + suc r ≡ h → earned_size (outward m.scales) m (fixed_joint_action m F) h F.stage + class_look_size (outward m.scales) m r F k < 2 ^ 127
+  front_fits : (F : Front) (r k : ℕ) → IsFront m h F → F.stage + suc r ≡ h
+      → earned_size (outward m.scales) m (fixed_joint_action m F) h F.stage + class_look_size (outward m.scales) m r F k
+        < 2 ^ 127
   front_fits F r k front e =
       let earned = earned_most (fixed_joint_action m F) F.stage (omega arith) (front_acting m h F front) in
       let looks = class_looks_most F r k front e in omega arith
@@ -190,7 +212,8 @@ module _ (m : Model) (is : IsModel m) (h : ℕ) (horizon : h ≤ 24) (cells : m.
   outward_can_bound = record { add = front_fits }
 
   -- all next weights of a front's joint classes
-  advanced_fits : (F : Front) (act : ℕ → ℕ) → IsFront m h F → F.stage < h → IsChoosing m F act → advanced_size (outward m.scales) m F act < 2 ^ 127
+  advanced_fits : (F : Front) (act : ℕ → ℕ) → IsFront m h F → F.stage < h → IsChoosing m F act
+      → advanced_size (outward m.scales) m F act < 2 ^ 127
   unfolding advanced_size
   advanced_fits F act front lt chosen =
       let n = product (class_counts F.agents) in
@@ -204,7 +227,9 @@ module _ (m : Model) (is : IsModel m) (h : ℕ) (horizon : h ≤ 24) (cells : m.
       omega arith
 
   -- what a front has earned and its rewards
-  rewards_of_front_fit : (F : Front) (r : ℕ) (act : ℕ → ℕ) → IsFront m h F → F.stage + suc r ≡ h → IsChoosing m F act → earned_size (outward m.scales) m (fixed_joint_action m F) h F.stage + class_reward_size (outward m.scales) m r F act < 2 ^ 127
+  rewards_of_front_fit : (F : Front) (r : ℕ) (act : ℕ → ℕ) → IsFront m h F → F.stage + suc r ≡ h → IsChoosing m F act
+      → earned_size (outward m.scales) m (fixed_joint_action m F) h F.stage + class_reward_size (outward m.scales) m r F act
+        < 2 ^ 127
   unfolding class_reward_size
   rewards_of_front_fit F r act front e chosen =
       let lt : F.stage < h = omega arith in

@@ -1,4 +1,5 @@
--- In outward mode look-ahead stays within its type up to a horizon of 24: from above by the table, and from below by the true value.
+-- In outward mode look-ahead stays within its type up to a horizon of 24: from above by the table, and from below by
+-- the true value.
 use Rattle.std.proofs.Common.{◌≡◌, ℕ, zero, suc, ◌+◌, ◌*◌, ◌^◌, ◌<◌, ◌≤◌, max, false, ℤ, pos, negsuc, ◌*ℤ◌, neg_ℤ, ◌≤ℤ◌, unsigned_abs, refl, sym, ap, subst, arith}
 use Rattle.std.proofs.lemmas.Int.{ints, clamps, unsigned_abs-mul}
 use Rattle.std.proofs.Math.Nat.{le_of_mul-le-mul_right, mul-le-mul, mul-le-mul_right, mul-pos, one-le-pow}
@@ -27,7 +28,8 @@ use Rattle.dp_spec.specs.Sums.{nat_sum}
 use Rattle.dp_spec.proofs.NaturalSumLaws.{nat_sum_add, nat_sum_const, nat_sum_ext, nat_sum_le, nat_sum_most, nat_sum_times}
 
 -- a number over d that is at least x over c is not far below 0
-below_zero : (v x : ℤ) (c d B : ℕ) → (x *ℤ pos c) ≤ℤ (v *ℤ pos d) → unsigned_abs x * c ≤ B * d → 0 < d → neg_ℤ (pos B) ≤ℤ v
+below_zero : (v x : ℤ) (c d B : ℕ) → (x *ℤ pos c) ≤ℤ (v *ℤ pos d) → unsigned_abs x * c ≤ B * d → 0 < d
+    → neg_ℤ (pos B) ≤ℤ v
 below_zero (pos n) x c d B h small some = omega (arith, ints)
 below_zero (negsuc n) x c d B h small some =
     let e : unsigned_abs (negsuc n *ℤ pos d) ≡ suc n * d = unsigned_abs-mul (negsuc n) (pos d) in
@@ -76,14 +78,17 @@ module _ (m : Model) (is : IsModel m) where
       record { from = zle_of _ _ (ap (λ (x : ℤ). x *ℤ pos (10 ^ 12)) (sym e)); to = subst (λ (x : ℤ). (x *ℤ pos (10 ^ 12)) ≤ℤ (w.high *ℤ pos (10 ^ 12))) (sym e) (mul_le_right (10 ^ 12) w.low w.high o.order) }
 
   -- a true value of 2^64 weights over 24 steps
-  scaled_value : (W r most dr q : ℕ) → W ≤ 2 ^ 64 → r ≤ 24 → most ≤ 10 ^ 8 * dr → W * (r * most * q) * 10 ^ 9 ≤ 2 ^ 88 * (10 ^ 12 * (dr * q))
+  scaled_value : (W r most dr q : ℕ) → W ≤ 2 ^ 64 → r ≤ 24 → most ≤ 10 ^ 8 * dr
+      → W * (r * most * q) * 10 ^ 9 ≤ 2 ^ 88 * (10 ^ 12 * (dr * q))
   scaled_value W r most dr q p s le =
       let first = mul-le-mul p s in
       let second = mul-le-mul first le in
       let third = mul-le-mul_right (q * 10 ^ 9) second in omega arith
 
   -- the true value is not far below 0, and neither is what is computed
-  look_from : (r k : ℕ) (ws : ℕ → Span) → r ≤ 24 → total_size m ws ≤ 2 ^ 64 → ((s : ℕ) → s < m.states → IsOrdered (ws s)) → neg_ℤ (pos (2 ^ 88)) ≤ℤ look_ahead_in (outward m.scales) m r ws k
+  look_from : (r k : ℕ) (ws : ℕ → Span) → r ≤ 24 → total_size m ws ≤ 2 ^ 64
+      → ((s : ℕ) → s < m.states → IsOrdered (ws s))
+      → neg_ℤ (pos (2 ^ 88)) ≤ℤ look_ahead_in (outward m.scales) m r ws k
   unfolding value_most
   look_from r k ws few small ordered =
       let w = λ (s : ℕ). unsigned_abs (ws s).low in
@@ -96,11 +101,14 @@ module _ (m : Model) (is : IsModel m) where
 
   module _ (h : ℕ) (horizon : h ≤ 24) where
     -- one weight against the table
-    tail_part : (t r s : ℕ) (ws : ℕ → Span) → t + r ≡ h → AreWeights false m t ws → s < m.states → unsigned_abs ((outward m.scales).tail (ws s) (mdp_table_in (outward m.scales) m r s)) ≤ size (ws s) * 2 ^ 23 + 1
+    tail_part : (t r s : ℕ) (ws : ℕ → Span) → t + r ≡ h → AreWeights false m t ws → s < m.states
+        → unsigned_abs ((outward m.scales).tail (ws s) (mdp_table_in (outward m.scales) m r s))
+          ≤ size (ws s) * 2 ^ 23 + 1
     tail_part t r s ws e are ps = tail_most m is (ws s) (mdp_table_in (outward m.scales) m r s) (table_room m is h horizon r s (omega arith) ps)
 
     -- all weights against the table
-    weighted_table_most : (t r : ℕ) (ws : ℕ → Span) → t + r ≡ h → AreWeights false m t ws → weighted_table_size (outward m.scales) m r ws ≤ 2 ^ 88
+    weighted_table_most : (t r : ℕ) (ws : ℕ → Span) → t + r ≡ h → AreWeights false m t ws
+        → weighted_table_size (outward m.scales) m r ws ≤ 2 ^ 88
     unfolding weighted_table_size
     weighted_table_most t r ws e are =
         let each = nat_sum_le m.states (λ s. unsigned_abs ((outward m.scales).tail (ws s) (mdp_table_in (outward m.scales) m r s))) (λ s. size (ws s) * 2 ^ 23 + 1) (λ s ps. tail_part t r s ws e are ps) in
@@ -112,12 +120,14 @@ module _ (m : Model) (is : IsModel m) where
         omega arith
 
     -- their sum
-    weighted_table_abs : (t r : ℕ) (ws : ℕ → Span) → t + r ≡ h → AreWeights false m t ws → unsigned_abs (weighted_table_in (outward m.scales) m r ws) ≤ 2 ^ 88
+    weighted_table_abs : (t r : ℕ) (ws : ℕ → Span) → t + r ≡ h → AreWeights false m t ws
+        → unsigned_abs (weighted_table_in (outward m.scales) m r ws) ≤ 2 ^ 88
     unfolding weighted_table_in weighted_table_size
     weighted_table_abs t r ws e are = let parts = int_sum_abs m.states (λ s. (outward m.scales).tail (ws s) (mdp_table_in (outward m.scales) m r s)) in let most = weighted_table_most t r ws e are in omega arith
 
     -- look-ahead is at most 2^88
-    pub look_room : (t r k : ℕ) (ws : ℕ → Span) → t + r ≡ h → AreWeights false m t ws → unsigned_abs (look_ahead_in (outward m.scales) m r ws k) ≤ 2 ^ 88
+    pub look_room : (t r k : ℕ) (ws : ℕ → Span) → t + r ≡ h → AreWeights false m t ws
+        → unsigned_abs (look_ahead_in (outward m.scales) m r ws k) ≤ 2 ^ 88
     look_room t zero k ws e are = omega arith
     look_room t (suc r) zero ws e are = weighted_table_abs t (suc r) ws e are
     look_room t (suc r) (suc k) ws e are =
@@ -127,7 +137,9 @@ module _ (m : Model) (is : IsModel m) where
         (weighted_table_abs t (suc r) ws e are)
 
     -- the reward now and the look-aheads after it
-    pub looks_room : (t r k : ℕ) (ws : ℕ → Span) (a : ℕ) → t + suc r ≡ h → AreWeights false m t ws → a < joint_actions m → reward_size (outward m.scales) m r ws a + next_look_size (outward m.scales) m r ws a k ≤ 2 ^ 97
+    pub looks_room : (t r k : ℕ) (ws : ℕ → Span) (a : ℕ) → t + suc r ≡ h → AreWeights false m t ws
+        → a < joint_actions m
+        → reward_size (outward m.scales) m r ws a + next_look_size (outward m.scales) m r ws a k ≤ 2 ^ 97
     unfolding next_look_size
     looks_room t r k ws a e are pa =
         let O = joint_observations m in
@@ -138,7 +150,8 @@ module _ (m : Model) (is : IsModel m) where
         omega arith
 
     -- the call for a weight against the table
-    may_tail : (t r s : ℕ) (ws : ℕ → Span) → t + r ≡ h → AreWeights false m t ws → s < m.states → (outward_calls m.scales).Tail (ws s) (mdp_table_in (outward m.scales) m r s)
+    may_tail : (t r s : ℕ) (ws : ℕ → Span) → t + r ≡ h → AreWeights false m t ws → s < m.states
+        → (outward_calls m.scales).Tail (ws s) (mdp_table_in (outward m.scales) m r s)
     may_tail t r s ws e are ps = (weight_of (ws s) (weight_ordered are s ps) (weight_le m is h horizon t s ws (omega arith) are ps), table_room m is h horizon r s (omega arith) ps)
 
     -- in outward mode look-ahead can be computed

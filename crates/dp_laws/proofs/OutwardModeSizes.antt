@@ -56,7 +56,8 @@ module _ (m : Model) (is : IsModel m) where
   one_size = refl
 
   -- all parts of the reward now
-  table_reward_most : (r a s : ℕ) → a < joint_actions m → s < m.states → table_reward_size (outward m.scales) m r a s ≤ 10 ^ 17 + 10 ^ 10 - 256
+  table_reward_most : (r a s : ℕ) → a < joint_actions m → s < m.states
+      → table_reward_size (outward m.scales) m r a s ≤ 10 ^ 17 + 10 ^ 10 - 256
   unfolding table_reward_size
   table_reward_most r a s pa ps =
       let all = gained_total m is (outward m.scales).one a s r pa ps one_ordered in
@@ -65,7 +66,9 @@ module _ (m : Model) (is : IsModel m) where
       let states = is.sizes.states_limit in omega arith
 
   -- all parts of the value after it
-  table_later_most : (r a s V : ℕ) → a < joint_actions m → s < m.states → ((t : ℕ) → t < m.states → unsigned_abs (mdp_table_in (outward m.scales) m r t) ≤ V) → table_later_size (outward m.scales) m r a s ≤ V + 256
+  table_later_most : (r a s V : ℕ) → a < joint_actions m → s < m.states
+      → ((t : ℕ) → t < m.states → unsigned_abs (mdp_table_in (outward m.scales) m r t) ≤ V)
+      → table_later_size (outward m.scales) m r a s ≤ V + 256
   unfolding table_later_size
   table_later_most r a s V pa ps small =
       let all = shares m.states V m.scales.trans (trans_at m a s) (λ t. unsigned_abs ((outward m.scales).carry (mdp_table_in (outward m.scales) m r t) (trans_at m a s t))) is.scales.trans (is.rows.trans a s pa ps)
@@ -73,12 +76,14 @@ module _ (m : Model) (is : IsModel m) where
       let states = is.sizes.states_limit in omega arith
 
   -- both together
-  pub table_parts_most : (r a s V : ℕ) → a < joint_actions m → s < m.states → ((t : ℕ) → t < m.states → unsigned_abs (mdp_table_in (outward m.scales) m r t) ≤ V) →
+  pub table_parts_most : (r a s V : ℕ) → a < joint_actions m → s < m.states
+      → ((t : ℕ) → t < m.states → unsigned_abs (mdp_table_in (outward m.scales) m r t) ≤ V) →
       table_reward_size (outward m.scales) m r a s + table_later_size (outward m.scales) m r a s ≤ V + (10 ^ 17 + 10 ^ 10)
   table_parts_most r a s V pa ps small = let now = table_reward_most r a s pa ps in let after = table_later_most r a s V pa ps small in omega arith
 
   -- what a value over r steps is at most
-  pub table_most : (r s : ℕ) → s < m.states → unsigned_abs (mdp_table_in (outward m.scales) m r s) ≤ r * (10 ^ 17 + 10 ^ 10)
+  pub table_most : (r s : ℕ) → s < m.states
+      → unsigned_abs (mdp_table_in (outward m.scales) m r s) ≤ r * (10 ^ 17 + 10 ^ 10)
   table_most zero s ps = omega arith
   table_most (suc r) s ps =
       greatest_abs _ (suc r * (10 ^ 17 + 10 ^ 10)) (numbers_below (joint_actions m))
@@ -95,12 +100,14 @@ module _ (m : Model) (is : IsModel m) where
     weight_le t s ws le are ps = let one = nat_sum_at m.states (λ s. size (ws s)) s ps in let all = limit_room t ws le are in omega arith
 
     -- the call with chances
-    may_chance : (t : ℕ) (ws : ℕ → Span) (a s u o : ℕ) → t < h → AreWeights false m t ws → IsStep m a s u o → (outward_calls m.scales).Chance (ws s) (trans_at m a s u) (obs_at m a u o)
+    may_chance : (t : ℕ) (ws : ℕ → Span) (a s u o : ℕ) → t < h → AreWeights false m t ws → IsStep m a s u o
+        → (outward_calls m.scales).Chance (ws s) (trans_at m a s u) (obs_at m a u o)
     may_chance t ws a s u o lt are st =
         (weight_of (ws s) (weight_ordered are s st.state) (weight_le t s ws (omega arith) are st.state), trans_part m is a s u st.action st.state st.next, obs_part m is a u o st.action st.next st.seen)
 
     -- the call with the discount
-    may_later : (t : ℕ) (ws : ℕ → Span) (a s u o : ℕ) → t < h → AreWeights false m t ws → IsStep m a s u o → IsWeight ((outward m.scales).chance (ws s) (trans_at m a s u) (obs_at m a u o))
+    may_later : (t : ℕ) (ws : ℕ → Span) (a s u o : ℕ) → t < h → AreWeights false m t ws → IsStep m a s u o
+        → IsWeight ((outward m.scales).chance (ws s) (trans_at m a s u) (obs_at m a u o))
     may_later t ws a s u o lt are st =
         let ordered = weight_ordered are s st.state in
         let small = chance_small m is (ws s) (trans_at m a s u) (obs_at m a u o) ordered (trans_part m is a s u st.action st.state st.next) (obs_part m is a u o st.action st.next st.seen) in
@@ -108,7 +115,8 @@ module _ (m : Model) (is : IsModel m) where
         weight_of _ (chance_ordered m is (ws s) _ _ ordered) (omega arith)
 
     -- the parts of a next weight
-    may_add : (t : ℕ) (ws : ℕ → Span) (a u o : ℕ) → t < h → AreWeights false m t ws → a < joint_actions m → u < m.states → o < joint_observations m →
+    may_add : (t : ℕ) (ws : ℕ → Span) (a u o : ℕ) → t < h → AreWeights false m t ws → a < joint_actions m
+        → u < m.states → o < joint_observations m →
         nat_sum m.states (λ s. size ((outward m.scales).later ((outward m.scales).chance (ws s) (trans_at m a s u) (obs_at m a u o)))) < 2 ^ 127
     may_add t ws a u o lt are pa pu po =
         let all = next_parts m is ws a o pa po (λ s p. weight_ordered are s p) in
@@ -130,12 +138,14 @@ module _ (m : Model) (is : IsModel m) where
     }
 
     -- next weights are from 0 and in order
-    next_ordered : (t : ℕ) (ws : ℕ → Span) (a o u : ℕ) → AreWeights false m t ws → IsOrdered (weights_after_in (outward m.scales) m ws a o u)
+    next_ordered : (t : ℕ) (ws : ℕ → Span) (a o u : ℕ) → AreWeights false m t ws
+        → IsOrdered (weights_after_in (outward m.scales) m ws a o u)
     unfolding weights_after_in
     next_ordered t ws a o u are = sum_ordered m.states _ (λ s p. later_ordered m is _ (chance_ordered m is (ws s) (trans_at m a s u) (obs_at m a u o) (weight_ordered are s p)))
 
     -- the next weights are weights of the next time
-    pub next_weights : (t : ℕ) (ws : ℕ → Span) (a o : ℕ) → AreWeights false m t ws → a < joint_actions m → o < joint_observations m → AreWeights false m (suc t) (weights_after_in (outward m.scales) m ws a o)
+    pub next_weights : (t : ℕ) (ws : ℕ → Span) (a o : ℕ) → AreWeights false m t ws → a < joint_actions m
+        → o < joint_observations m → AreWeights false m (suc t) (weights_after_in (outward m.scales) m ws a o)
     next_weights t ws a o are pa po = record {
       from = λ u p. (next_ordered t ws a o u are).from;
       order = λ u p. (next_ordered t ws a o u are).order;
@@ -165,11 +175,13 @@ module _ (m : Model) (is : IsModel m) where
         let e = digits.2 in omega arith
 
     -- the call for a part of a reward
-    may_gain : (t r : ℕ) (ws : ℕ → Span) (a s u o : ℕ) → t + suc r ≡ h → AreWeights false m t ws → IsStep m a s u o → (outward_calls m.scales).Gain ((outward m.scales).chance (ws s) (trans_at m a s u) (obs_at m a u o)) (reward_at m a s u o) r
+    may_gain : (t r : ℕ) (ws : ℕ → Span) (a s u o : ℕ) → t + suc r ≡ h → AreWeights false m t ws → IsStep m a s u o
+        → (outward_calls m.scales).Gain ((outward m.scales).chance (ws s) (trans_at m a s u) (obs_at m a u o)) (reward_at m a s u o) r
     may_gain t r ws a s u o e are st = (may_later t ws a s u o (omega arith) are st, reward_call a s u o)
 
     -- all parts of a reward together
-    pub reward_room : (t r : ℕ) (ws : ℕ → Span) (a : ℕ) → t ≤ h → AreWeights false m t ws → a < joint_actions m → reward_size (outward m.scales) m r ws a ≤ 2 ^ 82
+    pub reward_room : (t r : ℕ) (ws : ℕ → Span) (a : ℕ) → t ≤ h → AreWeights false m t ws → a < joint_actions m
+        → reward_size (outward m.scales) m r ws a ≤ 2 ^ 82
     reward_room t r ws a le are pa =
         let all = reward_total m is ws a r pa (λ s p. weight_ordered are s p) in
         let most = limit_room t ws le are in
@@ -188,22 +200,26 @@ module _ (m : Model) (is : IsModel m) where
     table_room r s le ps = let most = table_most r s ps in omega arith
 
     -- the call with the weight 1
-    table_chance : (a s t o : ℕ) → IsStep m a s t o → (outward_calls m.scales).Chance (outward m.scales).one (trans_at m a s t) (obs_at m a t o)
+    table_chance : (a s t o : ℕ) → IsStep m a s t o
+        → (outward_calls m.scales).Chance (outward m.scales).one (trans_at m a s t) (obs_at m a t o)
     table_chance a s t o st = (weight_of _ one_ordered (let e = one_size in omega arith), trans_part m is a s t st.action st.state st.next, obs_part m is a t o st.action st.next st.seen)
 
     -- the call for a part of the reward now
-    table_gain : (r a s t o : ℕ) → r < h → IsStep m a s t o → (outward_calls m.scales).Gain ((outward m.scales).chance (outward m.scales).one (trans_at m a s t) (obs_at m a t o)) (reward_at m a s t o) r
+    table_gain : (r a s t o : ℕ) → r < h → IsStep m a s t o
+        → (outward_calls m.scales).Gain ((outward m.scales).chance (outward m.scales).one (trans_at m a s t) (obs_at m a t o)) (reward_at m a s t o) r
     table_gain r a s t o lt st =
         let small = chance_small m is (outward m.scales).one (trans_at m a s t) (obs_at m a t o) one_ordered (trans_part m is a s t st.action st.state st.next) (obs_part m is a t o st.action st.next st.seen) in
         let e = one_size in
         (weight_of _ (chance_ordered m is (outward m.scales).one _ _ one_ordered) (omega arith), reward_call a s t o)
 
     -- the call for a part of the value after it
-    table_carry : (r a s t : ℕ) → r < h → a < joint_actions m → s < m.states → t < m.states → (outward_calls m.scales).Carry (mdp_table_in (outward m.scales) m r t) (trans_at m a s t)
+    table_carry : (r a s t : ℕ) → r < h → a < joint_actions m → s < m.states → t < m.states
+        → (outward_calls m.scales).Carry (mdp_table_in (outward m.scales) m r t) (trans_at m a s t)
     table_carry r a s t lt pa ps pt = (table_room r t (omega arith) pt, trans_part m is a s t pa ps pt)
 
     -- all parts of a value of the table
-    table_fits : (r a s : ℕ) → r < h → a < joint_actions m → s < m.states → table_reward_size (outward m.scales) m r a s + table_later_size (outward m.scales) m r a s < 2 ^ 127
+    table_fits : (r a s : ℕ) → r < h → a < joint_actions m → s < m.states
+        → table_reward_size (outward m.scales) m r a s + table_later_size (outward m.scales) m r a s < 2 ^ 127
     table_fits r a s lt pa ps = let parts = table_parts_most r a s (2 ^ 62) pa ps (λ t pt. table_room r t (omega arith) pt) in omega arith
 
     -- in outward mode the table can be computed

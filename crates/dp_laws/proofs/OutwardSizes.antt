@@ -41,10 +41,12 @@ unfolding mul_up
 mul_up_abs a b d = let q = ceiling_abs (a *ℤ b) d in let e = unsigned_abs-mul a b in omega arith
 
 -- shares of w by chances p over d, each rounded
-pub shares : (n w d : ℕ) (p x : ℕ → ℕ) → 0 < d → nat_sum n p ≡ d → ((u : ℕ) → u < n → x u * d ≤ w * p u + d) → nat_sum n x ≤ w + n
+pub shares : (n w d : ℕ) (p x : ℕ → ℕ) → 0 < d → nat_sum n p ≡ d → ((u : ℕ) → u < n → x u * d ≤ w * p u + d)
+    → nat_sum n x ≤ w + n
 shares n w d p x some e h = le_of_mul-le-mul_right {m = nat_sum n x} {n = w + n} {k = d} (let all = parts n w d p x h in let f = ap (λ (k : ℕ). w * k) e in omega arith) some
   where
-    parts : (n w d : ℕ) (p x : ℕ → ℕ) → ((u : ℕ) → u < n → x u * d ≤ w * p u + d) → nat_sum n x * d ≤ w * nat_sum n p + n * d
+    parts : (n w d : ℕ) (p x : ℕ → ℕ) → ((u : ℕ) → u < n → x u * d ≤ w * p u + d)
+        → nat_sum n x * d ≤ w * nat_sum n p + n * d
     parts zero w d p x h = omega arith
     parts (suc n) w d p x h = let here = h n (omega arith) in let rest = parts n w d p x (λ u q. h u (omega arith)) in omega arith
 
@@ -61,7 +63,8 @@ in_order l h p d some le =
     le_of_mul_le_right d _ _ some (zle_trans _ _ _ (mul_down_le l (pos p) d some) (zle_trans _ _ _ (mul_le_right p l h le) (le_mul_up h (pos p) d some)))
 
 -- a part of a span of weights
-pub rounded_ordered : (l h : ℤ) (p d : ℕ) → 0 < d → pos 0 ≤ℤ l → l ≤ℤ h → IsOrdered (record { low = mul_down l (pos p) d; high = mul_up h (pos p) d })
+pub rounded_ordered : (l h : ℤ) (p d : ℕ) → 0 < d → pos 0 ≤ℤ l → l ≤ℤ h
+    → IsOrdered (record { low = mul_down l (pos p) d; high = mul_up h (pos p) d })
 rounded_ordered l h p d some from order = record { from = down_from l p d from; order = in_order l h p d some order }
 
 -- the magnitude of a span of weights is that of its high end
@@ -69,12 +72,14 @@ pub size_high : (w : Span) → IsOrdered w → size w ≡ unsigned_abs w.high
 size_high w o = ap unsigned_abs (sym (high_is_size w o))
 
 -- either end
-by_sign_size : (r : ℤ) (w : Span) → (unsigned_abs (by_sign r w.low w.high) ≤ size w) × (unsigned_abs (by_sign r w.high w.low) ≤ size w)
+by_sign_size : (r : ℤ) (w : Span)
+    → (unsigned_abs (by_sign r w.low w.high) ≤ size w) × (unsigned_abs (by_sign r w.high w.low) ≤ size w)
 by_sign_size (pos n) w = (omega arith, omega arith)
 by_sign_size (negsuc n) w = (omega arith, omega arith)
 
 -- a quotient by a reward's scale
-reward_part : (q x r dr W : ℕ) → 0 < dr → x ≤ W → r ≤ 10 ^ 8 * dr → q * (1000 * dr) ≤ x * r + 1000 * dr → q ≤ W * 10 ^ 5 + 1
+reward_part : (q x r dr W : ℕ) → 0 < dr → x ≤ W → r ≤ 10 ^ 8 * dr → q * (1000 * dr) ≤ x * r + 1000 * dr
+    → q ≤ W * 10 ^ 5 + 1
 reward_part q x r dr W some le small h = le_of_mul-le-mul_right {m = q} {n = W * 10 ^ 5 + 1} {k = 1000 * dr} (let both = mul-le-mul le small in omega arith) (omega arith)
 
 module _ (m : Model) (is : IsModel m) where
@@ -106,19 +111,22 @@ module _ (m : Model) (is : IsModel m) where
   state_part_le w p o le = let q = part_abs w.high p m.scales.trans is.scales.trans le in let e = size_high w o in omega arith
 
   -- a chance to observe makes it no larger
-  chance_le : (w : Span) (p z : ℕ) → IsOrdered w → z ≤ m.scales.obs → size ((outward m.scales).chance w p z) ≤ state_part w p
+  chance_le : (w : Span) (p z : ℕ) → IsOrdered w → z ≤ m.scales.obs
+      → size ((outward m.scales).chance w p z) ≤ state_part w p
   unfolding outward state_part
   chance_le w p z o le = let e = size_high _ (chance_ordered w p z o) in let q = part_abs (mul_up w.high (pos p) m.scales.trans) z m.scales.obs is.scales.obs le in omega arith
 
   -- and grows by at most one in rounding
-  chance_most : (w : Span) (p z : ℕ) → IsOrdered w → size ((outward m.scales).chance w p z) * m.scales.obs ≤ state_part w p * z + m.scales.obs
+  chance_most : (w : Span) (p z : ℕ) → IsOrdered w
+      → size ((outward m.scales).chance w p z) * m.scales.obs ≤ state_part w p * z + m.scales.obs
   unfolding outward state_part
   chance_most w p z o =
       let e = ap (λ (n : ℕ). n * m.scales.obs) (size_high _ (chance_ordered w p z o)) in
       let q = mul_up_abs (mul_up w.high (pos p) m.scales.trans) (pos z) m.scales.obs in omega arith
 
   -- a weight times chances is no larger than the weight
-  pub chance_small : (w : Span) (p z : ℕ) → IsOrdered w → p ≤ m.scales.trans → z ≤ m.scales.obs → size ((outward m.scales).chance w p z) ≤ size w
+  pub chance_small : (w : Span) (p z : ℕ) → IsOrdered w → p ≤ m.scales.trans → z ≤ m.scales.obs
+      → size ((outward m.scales).chance w p z) ≤ size w
   chance_small w p z o lp lz = let one = chance_le w p z o lz in let two = state_part_le w p o lp in omega arith
 
   -- nor is a weight times the discount
@@ -127,7 +135,8 @@ module _ (m : Model) (is : IsModel m) where
   later_le w o = let e = size_high _ (later_ordered w o) in let f = size_high w o in let q = part_abs w.high m.scales.gain m.scales.discount is.scales.discount is.scales.gain in omega arith
 
   -- a weight times a reward
-  pub gain_most : (w : Span) (r : ℤ) (rest : ℕ) → unsigned_abs r ≤ 10 ^ 8 * m.scales.reward → size ((outward m.scales).gain w r rest) ≤ size w * 10 ^ 5 + 1
+  pub gain_most : (w : Span) (r : ℤ) (rest : ℕ) → unsigned_abs r ≤ 10 ^ 8 * m.scales.reward
+      → size ((outward m.scales).gain w r rest) ≤ size w * 10 ^ 5 + 1
   unfolding outward
   gain_most w r rest small =
       let ends = by_sign_size r w in
@@ -136,7 +145,8 @@ module _ (m : Model) (is : IsModel m) where
       omega arith
 
   -- a value of the table one step earlier
-  pub carry_most : (v : ℤ) (p V : ℕ) → unsigned_abs v ≤ V → unsigned_abs ((outward m.scales).carry v p) * m.scales.trans ≤ V * p + m.scales.trans
+  pub carry_most : (v : ℤ) (p V : ℕ) → unsigned_abs v ≤ V
+      → unsigned_abs ((outward m.scales).carry v p) * m.scales.trans ≤ V * p + m.scales.trans
   unfolding outward
   carry_most v p V le =
       let one = part_abs (mul_up v (pos p) m.scales.trans) m.scales.gain m.scales.discount is.scales.discount is.scales.gain in
@@ -145,7 +155,8 @@ module _ (m : Model) (is : IsModel m) where
       let four = mul-le-mul_right p le in omega arith
 
   -- a weight against a value of the table
-  pub tail_most : (w : Span) (v : ℤ) → unsigned_abs v ≤ 2 ^ 62 → unsigned_abs ((outward m.scales).tail w v) ≤ size w * 2 ^ 23 + 1
+  pub tail_most : (w : Span) (v : ℤ) → unsigned_abs v ≤ 2 ^ 62
+      → unsigned_abs ((outward m.scales).tail w v) ≤ size w * 2 ^ 23 + 1
   unfolding outward
   tail_most w v small =
       le_of_mul-le-mul_right {m = unsigned_abs (mul_up (by_sign v w.high w.low) v (10 ^ 12))} {n = size w * 2 ^ 23 + 1} {k = 10 ^ 12}
@@ -167,7 +178,8 @@ module _ (m : Model) (is : IsModel m) where
   trans_part a s t pa ps pt = let le = nat_sum_at m.states (trans_at m a s) t pt in let e = is.rows.trans a s pa ps in omega arith
 
   -- so is that of a joint observation
-  pub obs_part : (a t o : ℕ) → a < joint_actions m → t < m.states → o < joint_observations m → obs_at m a t o ≤ m.scales.obs
+  pub obs_part : (a t o : ℕ) → a < joint_actions m → t < m.states → o < joint_observations m
+      → obs_at m a t o ≤ m.scales.obs
   obs_part a t o pa pt po = let le = nat_sum_at (joint_observations m) (obs_at m a t) o po in let e = is.rows.obs a t pa pt in omega arith
 
   -- the weights of the start
@@ -175,7 +187,8 @@ module _ (m : Model) (is : IsModel m) where
   start_total = shares m.states (10 ^ 12) m.scales.start (start_at m) (λ s. size ((outward m.scales).start (start_at m s))) is.scales.start is.rows.start (λ s p. start_most (start_at m s))
 
   -- all parts of the next weights after one joint observation
-  pub next_parts : (ws : ℕ → Span) (a o : ℕ) → a < joint_actions m → o < joint_observations m → ((s : ℕ) → s < m.states → IsOrdered (ws s)) →
+  pub next_parts : (ws : ℕ → Span) (a o : ℕ) → a < joint_actions m → o < joint_observations m
+      → ((s : ℕ) → s < m.states → IsOrdered (ws s)) →
       nat_sum m.states (λ u. nat_sum m.states (λ s. size ((outward m.scales).later ((outward m.scales).chance (ws s) (trans_at m a s u) (obs_at m a u o))))) ≤ total_size m ws + m.states * m.states
   next_parts ws a o pa po h =
       let S = m.states in
@@ -195,7 +208,9 @@ module _ (m : Model) (is : IsModel m) where
       omega arith
 
   -- the next weights after one joint observation
-  pub next_total : (ws : ℕ → Span) (a o : ℕ) → a < joint_actions m → o < joint_observations m → ((s : ℕ) → s < m.states → IsOrdered (ws s)) → total_size m (weights_after_in (outward m.scales) m ws a o) ≤ total_size m ws + m.states * m.states
+  pub next_total : (ws : ℕ → Span) (a o : ℕ) → a < joint_actions m → o < joint_observations m
+      → ((s : ℕ) → s < m.states → IsOrdered (ws s))
+      → total_size m (weights_after_in (outward m.scales) m ws a o) ≤ total_size m ws + m.states * m.states
   next_total ws a o pa po h =
       let parts = next_parts ws a o pa po h in
       let each = nat_sum_le m.states (λ u. size (weights_after_in (outward m.scales) m ws a o u)) (λ u. nat_sum m.states (λ s. size ((outward m.scales).later ((outward m.scales).chance (ws s) (trans_at m a s u) (obs_at m a u o)))))

@@ -26,7 +26,8 @@ pub next_history_below : (x n t p : ℕ) → x < n ^ t → p < n → x * n + p <
 next_history_below x n t p h g = rw pow-suc (row_below x (n ^ t) n p h g)
 
 -- own histories one step longer
-next_within : (ns : List ℕ) (t : ℕ) (xs ps : List ℕ) → Within ns t xs → AreBelow ns ps → Within ns (suc t) (next_own_histories ns xs ps)
+next_within : (ns : List ℕ) (t : ℕ) (xs ps : List ℕ) → Within ns t xs → AreBelow ns ps
+    → Within ns (suc t) (next_own_histories ns xs ps)
 next_within [] t [] ps h g = tt
 next_within [] t (x ∷ xs) ps h g = absurd h
 next_within (n ∷ ns) t [] ps h g = absurd h
@@ -39,7 +40,8 @@ none_within [] = tt
 none_within (n ∷ ns) = (rw pow-zero (omega arith), none_within ns)
 
 -- the own histories of a joint history
-pub own_histories_within : (ns : List ℕ) (t : ℕ) (H : List ℕ) → IsJointHistory (product ns) t H → Within ns t (own_histories ns H)
+pub own_histories_within : (ns : List ℕ) (t : ℕ) (H : List ℕ) → IsJointHistory (product ns) t H
+    → Within ns t (own_histories ns H)
 own_histories_within ns zero [] h = none_within ns
 own_histories_within ns zero (o ∷ H) h = absurd h
 own_histories_within ns (suc t) [] h = absurd h
@@ -53,7 +55,8 @@ trees_at (n ∷ ns) (q ∷ qs) t [] = []
 trees_at (n ∷ ns) (q ∷ qs) t (x ∷ xs) = tree_at n q t x ∷ trees_at ns qs t xs
 
 -- what remains one step on
-pub subtrees_at_next : (ns : List ℕ) (qs : List PolicyTree) (t : ℕ) (xs ps : List ℕ) → AreBelow ns ps → subtrees_at (trees_at ns qs t xs) ps ≡ trees_at ns qs (suc t) (next_own_histories ns xs ps)
+pub subtrees_at_next : (ns : List ℕ) (qs : List PolicyTree) (t : ℕ) (xs ps : List ℕ) → AreBelow ns ps
+    → subtrees_at (trees_at ns qs t xs) ps ≡ trees_at ns qs (suc t) (next_own_histories ns xs ps)
 subtrees_at_next [] qs t xs ps h = refl
 subtrees_at_next (n ∷ ns) [] t xs ps h = refl
 subtrees_at_next (n ∷ ns) (q ∷ qs) t [] ps h = refl
@@ -64,10 +67,13 @@ subtrees_at_next (n ∷ ns) (q ∷ qs) t (x ∷ xs) (p ∷ ps) h =
     rw (first, rest, subtrees_at_next ns qs t xs ps h.1)
 
 -- after no observations the trees are those of the start
-pub trees_at-start : {f : ℕ} {ns : List ℕ} {ds : List AgentFront} {qs : List PolicyTree} → KeepAgentFronts f ns ds qs → trees_at ns qs zero (map (λ n. 0) ns) ≡ qs
+pub trees_at-start : {f : ℕ} {ns : List ℕ} {ds : List AgentFront} {qs : List PolicyTree} → KeepAgentFronts f ns ds qs
+    → trees_at ns qs zero (map (λ n. 0) ns) ≡ qs
 trees_at-start none_keep = refl
 trees_at-start (and_keeps {q = q} k ks) = ap (λ x. q ∷ x) (trees_at-start ks)
 
 -- the same where the trees follow a front
-pub followed_from_start : {f r : ℕ} {bs ns : List ℕ} {ds : List AgentFront} {qs : List PolicyTree} {uss : List (ℕ → PolicyTree)} → FollowsAgentFronts f r bs ns ds qs uss → trees_at ns qs zero (map (λ n. 0) ns) ≡ qs
+pub followed_from_start : {f r : ℕ} {bs ns : List ℕ} {ds : List AgentFront} {qs : List PolicyTree}
+    {uss : List (ℕ → PolicyTree)} → FollowsAgentFronts f r bs ns ds qs uss
+    → trees_at ns qs zero (map (λ n. 0) ns) ≡ qs
 followed_from_start follows = trees_at-start (keep_agents follows)

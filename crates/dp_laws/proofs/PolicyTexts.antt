@@ -15,7 +15,8 @@ use Rattle.dp_laws.proofs.LineTexts.{HasItems, bytes_of, first_of_list, rest_of_
 -- ---- rows
 
 -- a row of plain numbers is allowed where each of them is
-row_allowed : (f : ℕ → ℕ) (high a k : ℕ) → ((x : ℕ) → a ≤ x → x < a + k → (f x ≤ high) × (f x < 2 ^ 32)) → Allows (replicate k (plain 0 high)) (map pos (map f (range_with_len a k)))
+row_allowed : (f : ℕ → ℕ) (high a k : ℕ) → ((x : ℕ) → a ≤ x → x < a + k → (f x ≤ high) × (f x < 2 ^ 32))
+    → Allows (replicate k (plain 0 high)) (map pos (map f (range_with_len a k)))
 row_allowed f high a zero each = tt
 row_allowed f high a (suc k) each =
     let here = each a (omega arith) (omega arith) in
@@ -27,7 +28,8 @@ replicate_items zero low high = tt
 replicate_items (suc k) low high = replicate_items k low high
 
 -- the row of a tree is a line that its form allows
-pub row_is : (b n h t : ℕ) (q : PolicyTree) → b ≤ 2 ^ 32 → t < h → IsPolicyTree b n h q → HasItems (row_form b n t) × Allows (row_form b n t) (map pos (row_actions n q t))
+pub row_is : (b n h t : ℕ) (q : PolicyTree) → b ≤ 2 ^ 32 → t < h → IsPolicyTree b n h q
+    → HasItems (row_form b n t) × Allows (row_form b n t) (map pos (row_actions n q t))
 row_is b n h t q small lt is = (
   replicate_items (n ^ t) 0 (b - 1),
   row_allowed (λ x. root_action (tree_at n q t x)) (b - 1) 0 (n ^ t) (λ x ge below.
@@ -41,7 +43,8 @@ map-unsigned_abs-pos [] = refl
 map-unsigned_abs-pos (x ∷ xs) = ap (λ l. x ∷ l) (map-unsigned_abs-pos xs)
 
 -- equal rows have equal actions
-same_row : (n t : ℕ) (q p : PolicyTree) → map pos (row_actions n q t) ≡ map pos (row_actions n p t) → (x : ℕ) → x < n ^ t → root_action (tree_at n q t x) ≡ root_action (tree_at n p t x)
+same_row : (n t : ℕ) (q p : PolicyTree) → map pos (row_actions n q t) ≡ map pos (row_actions n p t) → (x : ℕ)
+    → x < n ^ t → root_action (tree_at n q t x) ≡ root_action (tree_at n p t x)
 same_row n t q p e x lt =
     let rows : row_actions n q t ≡ row_actions n p t = sym (map-unsigned_abs-pos (row_actions n q t)) ∙ ap (map unsigned_abs) e ∙ map-unsigned_abs-pos (row_actions n p t) in
     sym (get_or-map-range_with_len (λ y. root_action (tree_at n q t y)) 0 (n ^ t) x x 0 lt (omega arith))
@@ -49,8 +52,10 @@ same_row n t q p e x lt =
     ∙ get_or-map-range_with_len (λ y. root_action (tree_at n p t y)) 0 (n ^ t) x x 0 lt (omega arith)
 
 -- the rows of k stages from a on determine the actions of these stages, and what follows them
-row_lines_injective : (b n h : ℕ) (q p : PolicyTree) → b ≤ 2 ^ 32 → IsPolicyTree b n h q → IsPolicyTree b n h p → (a k : ℕ) → a + k ≤ h → (more others : List Line)
-    → map bytes_of (map (row_line b n q) (range_with_len a k) ++ more) ≡ map bytes_of (map (row_line b n p) (range_with_len a k) ++ others)
+row_lines_injective : (b n h : ℕ) (q p : PolicyTree) → b ≤ 2 ^ 32 → IsPolicyTree b n h q → IsPolicyTree b n h p
+    → (a k : ℕ) → a + k ≤ h → (more others : List Line)
+    → map bytes_of (map (row_line b n q) (range_with_len a k) ++ more)
+    ≡ map bytes_of (map (row_line b n p) (range_with_len a k) ++ others)
     → ((t x : ℕ) → a ≤ t → t < a + k → x < n ^ t → root_action (tree_at n q t x) ≡ root_action (tree_at n p t x)) × (map bytes_of more ≡ map bytes_of others)
 unfolding bytes_of
 row_lines_injective b n h q p small is are a zero within more others e = (λ t x ge lt below. absurd (omega arith), e)
@@ -74,8 +79,10 @@ abbrev pub AreSmall : List ℕ → Type 0
 AreSmall bs = AllByRecursion (λ b. b ≤ 2 ^ 32) bs
 
 -- the lines of the agents from one on determine their trees, and what follows them
-pub agent_lines_injective : (h : ℕ) (bs ns : List ℕ) (qs ps : List PolicyTree) → 0 < h → AreSmall bs → IsJointPolicy h bs ns qs → IsJointPolicy h bs ns ps → (agent : ℕ) (more others : List Line)
-    → map bytes_of (agent_lines agent (policy_rows bs ns h qs) ++ more) ≡ map bytes_of (agent_lines agent (policy_rows bs ns h ps) ++ others)
+pub agent_lines_injective : (h : ℕ) (bs ns : List ℕ) (qs ps : List PolicyTree) → 0 < h → AreSmall bs
+    → IsJointPolicy h bs ns qs → IsJointPolicy h bs ns ps → (agent : ℕ) (more others : List Line)
+    → map bytes_of (agent_lines agent (policy_rows bs ns h qs) ++ more)
+    ≡ map bytes_of (agent_lines agent (policy_rows bs ns h ps) ++ others)
     → (qs ≡ ps) × (map bytes_of more ≡ map bytes_of others)
 agent_lines_injective h _ _ _ _ some small no_agents no_agents agent more others e = (refl, e)
 agent_lines_injective h (_ ∷ _) (_ ∷ _) (_ ∷ _) [] some small (and_agent is iss) none agent more others e = elim none [ ]

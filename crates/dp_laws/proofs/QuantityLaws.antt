@@ -15,14 +15,16 @@ use Rattle.dp_spec.specs.Quantities.{earned_reward_in, forward_worth_in}
 use Rattle.dp_spec.specs.Value.{joint_root_action, policy_value}
 
 -- the worth span encloses the value of the policy
-pub worth_enclosed : (m : Model) (A : Arithmetic) (R : Enclosure) → IsSound m A R → (h : ℕ) (qs : List PolicyTree) → R.Earns (value_scale m h) (policy_value m h qs) (forward_worth_in A m h qs)
+pub worth_enclosed : (m : Model) (A : Arithmetic) (R : Enclosure) → IsSound m A R → (h : ℕ) (qs : List PolicyTree)
+    → R.Earns (value_scale m h) (policy_value m h qs) (forward_worth_in A m h qs)
 unfolding forward_worth_in
 worth_enclosed m A R ok h qs =
     subst (λ (x : ℤ). R.Earns (value_scale m h) x (earned_reward_in A m (λ H. joint_root_action m (trees_after_history m qs H)) h h)) (sym (value_is_earned m h qs))
     (earned_reward_enclosed m A R ok (λ H. joint_root_action m (trees_after_history m qs H)) h h (omega arith))
 
 -- a sound arithmetic encloses every quantity
-pub quantities_enclosed : (m : Model) (A : Arithmetic) (R : Enclosure) → IsModel m → IsSound m A R → EnclosesQuantities m A R
+pub quantities_enclosed : (m : Model) (A : Arithmetic) (R : Enclosure) → IsModel m → IsSound m A R
+    → EnclosesQuantities m A R
 quantities_enclosed m A R is ok = record {
   history_weights = history_weight_enclosed m A R ok;
   class_weights = class_weight_enclosed m A R ok;

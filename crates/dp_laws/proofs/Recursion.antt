@@ -33,7 +33,8 @@ span_none_add : (a : Span) → span_add (point (pos 0)) a ≡ a
 span_none_add a = span_equal _ _ (+ℤ_idl a.low) (+ℤ_idl a.high)
 
 -- a sum of sums
-span_sum_add : (n : ℕ) (f g : ℕ → Span) → span_sum n (λ i. span_add (f i) (g i)) ≡ span_add (span_sum n f) (span_sum n g)
+span_sum_add : (n : ℕ) (f g : ℕ → Span)
+    → span_sum n (λ i. span_add (f i) (g i)) ≡ span_add (span_sum n f) (span_sum n g)
 span_sum_add zero f g = sym (span_add_none (point (pos 0)))
 span_sum_add (suc n) f g = ap (λ (x : Span). span_add x (span_add (f n) (g n))) (span_sum_add n f g) ∙ span_add_swap (span_sum n f) (span_sum n g) (f n) (g n)
 
@@ -43,12 +44,14 @@ span_sum_ext zero f g h = refl
 span_sum_ext (suc n) f g h = let here = h n (omega arith) in let rest : span_sum n f ≡ span_sum n g = span_sum_ext n f g (λ i p. h i (omega arith)) in cc
 
 -- the same over joint histories
-span_history_sum_ext : (n t : ℕ) (f g : List ℕ → Span) → ((H : List ℕ) → f H ≡ g H) → span_history_sum n t f ≡ span_history_sum n t g
+span_history_sum_ext : (n t : ℕ) (f g : List ℕ → Span) → ((H : List ℕ) → f H ≡ g H)
+    → span_history_sum n t f ≡ span_history_sum n t g
 span_history_sum_ext n zero f g h = h []
 span_history_sum_ext n (suc t) f g h = span_history_sum_ext n t _ _ (λ H. span_sum_ext n _ _ (λ o p. h (o ∷ H)))
 
 -- a sum of sums over joint histories
-span_history_sum_add : (n t : ℕ) (f g : List ℕ → Span) → span_history_sum n t (λ H. span_add (f H) (g H)) ≡ span_add (span_history_sum n t f) (span_history_sum n t g)
+span_history_sum_add : (n t : ℕ) (f g : List ℕ → Span)
+    → span_history_sum n t (λ H. span_add (f H) (g H)) ≡ span_add (span_history_sum n t f) (span_history_sum n t g)
 span_history_sum_add n zero f g = refl
 span_history_sum_add n (suc t) f g = span_history_sum_ext n t _ _ (λ H. span_sum_add n (λ o. f (o ∷ H)) (λ o. g (o ∷ H))) ∙ span_history_sum_add n t _ _
 
@@ -78,7 +81,8 @@ recursive_worth_at_stage A m qs h (suc f) r e =
     ∙ ap (λ (k : ℕ). span_add (span_add (earned_reward_in A m act h f) (span_history_sum O f (P k))) (span_history_sum O f Q)) (omega arith)
 
 -- and at the horizon it is what is earned
-pub recursive_worth_is_forward : (A : Arithmetic) (m : Model) (h : ℕ) (qs : List PolicyTree) → recursive_worth_in A m h (λ s. A.start (start_at m s)) qs ≡ forward_worth_in A m h qs
+pub recursive_worth_is_forward : (A : Arithmetic) (m : Model) (h : ℕ) (qs : List PolicyTree)
+    → recursive_worth_in A m h (λ s. A.start (start_at m s)) qs ≡ forward_worth_in A m h qs
 unfolding forward_worth_in
 recursive_worth_is_forward A m h qs =
     recursive_worth_at_stage A m qs h h 0 (omega arith)

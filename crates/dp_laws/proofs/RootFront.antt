@@ -57,7 +57,8 @@ root_agent_keeps n q = record {
   does_chosen = λ x a p e. let none = none_chosen (get_or root_agent.class_of x 0) in cc;
 }
 
-root_agents_keep : {h : ℕ} {bs ns : List ℕ} {qs : List PolicyTree} → IsJointPolicy h bs ns qs → KeepAgentFronts 0 ns (map (λ n. root_agent) bs) qs
+root_agents_keep : {h : ℕ} {bs ns : List ℕ} {qs : List PolicyTree} → IsJointPolicy h bs ns qs
+    → KeepAgentFronts 0 ns (map (λ n. root_agent) bs) qs
 root_agents_keep no_policies = none_keep
 root_agents_keep (and_policy {n = n} {q = q} tree trees) = and_keeps (root_agent_keeps n q) (root_agents_keep trees)
 

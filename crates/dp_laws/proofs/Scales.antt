@@ -22,13 +22,16 @@ times_gain : (T K a b c p d : ℕ) → a * b * c ≡ K → T * (a * b) * (c * p)
 times_gain T K a b c p d e = omega (arith, ap (λ (n : ℕ). T * (d * (p * n))) e)
 
 -- a reward of one step more
-pub scale_after_reward : (m : Model) (T r : ℕ) → T * (m.scales.trans * m.scales.obs) * (m.scales.discount * step_scale m ^ r) * m.scales.reward ≡ T * (m.scales.reward * step_scale m ^ suc r)
+pub scale_after_reward : (m : Model) (T r : ℕ)
+    → T * (m.scales.trans * m.scales.obs) * (m.scales.discount * step_scale m ^ r) * m.scales.reward
+      ≡ T * (m.scales.reward * step_scale m ^ suc r)
 scale_after_reward m T r =
     times_gain T (step_scale m) m.scales.trans m.scales.obs m.scales.discount (step_scale m ^ r) m.scales.reward (step_scale_is m)
     ∙ ap (λ (n : ℕ). T * (m.scales.reward * n)) (sym (pow-suc (step_scale m) r))
 
 -- a value of the table one step earlier
-pub scale_after_carry : (m : Model) (r : ℕ) → m.scales.reward * step_scale m ^ r * step_scale m ≡ m.scales.reward * step_scale m ^ suc r
+pub scale_after_carry : (m : Model) (r : ℕ)
+    → m.scales.reward * step_scale m ^ r * step_scale m ≡ m.scales.reward * step_scale m ^ suc r
 scale_after_carry m r = omega (arith, ap (λ (n : ℕ). m.scales.reward * n) (pow-suc (step_scale m) r))
 
 -- a factor as two
@@ -36,11 +39,13 @@ times_tail : (T d K p q : ℕ) → q ≡ p * K → T * K * (d * p) ≡ T * (d * 
 times_tail T d K p q e = omega (arith, ap (λ (n : ℕ). T * (d * n)) e)
 
 -- a value after one step
-pub scale_after_tail : (m : Model) (T r : ℕ) → T * step_scale m * (m.scales.reward * step_scale m ^ r) ≡ T * (m.scales.reward * step_scale m ^ suc r)
+pub scale_after_tail : (m : Model) (T r : ℕ)
+    → T * step_scale m * (m.scales.reward * step_scale m ^ r) ≡ T * (m.scales.reward * step_scale m ^ suc r)
 scale_after_tail m T r = times_tail T m.scales.reward (step_scale m) (step_scale m ^ r) (step_scale m ^ suc r) (pow-suc (step_scale m) r)
 
 -- weights of a stage against values of the steps that are left
-pub scale_at_stage : (m : Model) (t r : ℕ) → m.scales.start * step_scale m ^ t * (m.scales.reward * step_scale m ^ r) ≡ value_scale m (t + r)
+pub scale_at_stage : (m : Model) (t r : ℕ)
+    → m.scales.start * step_scale m ^ t * (m.scales.reward * step_scale m ^ r) ≡ value_scale m (t + r)
 unfolding value_scale
 scale_at_stage m t r = omega (arith, ap (λ (n : ℕ). m.scales.start * (m.scales.reward * n)) (pow-add (step_scale m) t r))
 
@@ -49,7 +54,8 @@ pub weights_times_value : (d p r x q k : ℕ) → p * q ≡ k → d * p * (r * x
 weights_times_value d p r x q k e = omega (arith, ap (λ (n : ℕ). r * d * n * x) e)
 
 -- weights of the next stage
-pub scale_of_next : (m : Model) (t : ℕ) → m.scales.start * step_scale m ^ t * step_scale m ≡ m.scales.start * step_scale m ^ suc t
+pub scale_of_next : (m : Model) (t : ℕ)
+    → m.scales.start * step_scale m ^ t * step_scale m ≡ m.scales.start * step_scale m ^ suc t
 scale_of_next m t = omega (arith, ap (λ (n : ℕ). m.scales.start * n) (pow-suc (step_scale m) t))
 
 -- weights of stage 0

@@ -21,37 +21,47 @@ use Rattle.dp_spec.specs.SizesOfTable.{CanTabulate}
 
 -- ---- up to a horizon of 24
 -- pushes are allowed
-pub mode_can_push : (m : Model) → IsModel m → (h : ℕ) → 0 < h → h ≤ 24 → (e : Bool) → e ≡ is_exact_mode m h → CanPush (arithmetic e m.scales) (calls_in e m.scales) m h
+pub mode_can_push : (m : Model) → IsModel m → (h : ℕ) → 0 < h → h ≤ 24 → (e : Bool) → e ≡ is_exact_mode m h
+    → CanPush (arithmetic e m.scales) (calls_in e m.scales) m h
 mode_can_push m is h some le true mode = exact_can_push m is h some mode
 mode_can_push m is h some le false mode = outward_can_push m is h le
 
 -- rewards are allowed
-pub mode_can_reward : (m : Model) → IsModel m → (h : ℕ) → 0 < h → h ≤ 24 → (e : Bool) → e ≡ is_exact_mode m h → CanReward (arithmetic e m.scales) (calls_in e m.scales) m h
+pub mode_can_reward : (m : Model) → IsModel m → (h : ℕ) → 0 < h → h ≤ 24 → (e : Bool) → e ≡ is_exact_mode m h
+    → CanReward (arithmetic e m.scales) (calls_in e m.scales) m h
 mode_can_reward m is h some le true mode = exact_can_reward m is h some mode
 mode_can_reward m is h some le false mode = outward_can_reward m is h le
 
 -- the table can be computed
-pub mode_can_tabulate : (m : Model) → IsModel m → (h : ℕ) → 0 < h → h ≤ 24 → (e : Bool) → e ≡ is_exact_mode m h → CanTabulate (arithmetic e m.scales) (calls_in e m.scales) m h
+pub mode_can_tabulate : (m : Model) → IsModel m → (h : ℕ) → 0 < h → h ≤ 24 → (e : Bool) → e ≡ is_exact_mode m h
+    → CanTabulate (arithmetic e m.scales) (calls_in e m.scales) m h
 mode_can_tabulate m is h some le true mode = exact_can_tabulate m is h some mode
 mode_can_tabulate m is h some le false mode = outward_can_tabulate m is h le
 
 -- look-ahead can be computed
-pub mode_can_look_ahead : (m : Model) → IsModel m → (h : ℕ) → 0 < h → h ≤ 24 → (e : Bool) → e ≡ is_exact_mode m h → CanLookAhead (arithmetic e m.scales) (calls_in e m.scales) m h
+pub mode_can_look_ahead : (m : Model) → IsModel m → (h : ℕ) → 0 < h → h ≤ 24 → (e : Bool) → e ≡ is_exact_mode m h
+    → CanLookAhead (arithmetic e m.scales) (calls_in e m.scales) m h
 mode_can_look_ahead m is h some le true mode = exact_can_look_ahead m is h some mode
 mode_can_look_ahead m is h some le false mode = outward_can_look_ahead m is h le
 
 -- weights of joint histories in exact mode
-exact_weights : (m : Model) → IsModel m → (h : ℕ) → 0 < h → true ≡ is_exact_mode m h → (act : List ℕ → ℕ) (t : ℕ) (H : List ℕ) → t ≤ h → IsActing m t act → IsJointHistory (joint_observations m) t H → AreWeights true m t (history_weight_in (exact m.scales) m act H)
+exact_weights : (m : Model) → IsModel m → (h : ℕ) → 0 < h → true ≡ is_exact_mode m h
+    → (act : List ℕ → ℕ) (t : ℕ) (H : List ℕ) → t ≤ h → IsActing m t act → IsJointHistory (joint_observations m) t H
+    → AreWeights true m t (history_weight_in (exact m.scales) m act H)
 unfolding exact
 exact_weights m is h some mode = history_weights (exact m.scales) (exact_calls m.scales) m h (exact_can_push m is h some mode)
 
 -- and in outward mode
-outward_weights : (m : Model) → IsModel m → (h : ℕ) → h ≤ 24 → (act : List ℕ → ℕ) (t : ℕ) (H : List ℕ) → t ≤ h → IsActing m t act → IsJointHistory (joint_observations m) t H → AreWeights false m t (history_weight_in (outward m.scales) m act H)
+outward_weights : (m : Model) → IsModel m → (h : ℕ) → h ≤ 24 → (act : List ℕ → ℕ) (t : ℕ) (H : List ℕ) → t ≤ h
+    → IsActing m t act → IsJointHistory (joint_observations m) t H
+    → AreWeights false m t (history_weight_in (outward m.scales) m act H)
 unfolding outward
 outward_weights m is h le = history_weights (outward m.scales) (outward_calls m.scales) m h (outward_can_push m is h le)
 
 -- the weights of a joint history are within the sum bound
-pub mode_history_weights : (m : Model) → IsModel m → (h : ℕ) → 0 < h → h ≤ 24 → (e : Bool) → e ≡ is_exact_mode m h → (act : List ℕ → ℕ) (t : ℕ) (H : List ℕ) → t ≤ h → IsActing m t act → IsJointHistory (joint_observations m) t H → AreWeights e m t (history_weight_in (arithmetic e m.scales) m act H)
+pub mode_history_weights : (m : Model) → IsModel m → (h : ℕ) → 0 < h → h ≤ 24 → (e : Bool) → e ≡ is_exact_mode m h
+    → (act : List ℕ → ℕ) (t : ℕ) (H : List ℕ) → t ≤ h → IsActing m t act → IsJointHistory (joint_observations m) t H
+    → AreWeights e m t (history_weight_in (arithmetic e m.scales) m act H)
 mode_history_weights m is h some le true mode = exact_weights m is h some mode
 mode_history_weights m is h some le false mode = outward_weights m is h le
 
@@ -63,26 +73,31 @@ arithmetic_is_exact false c = refl
 
 -- ---- along joint histories, in outward mode within the limit of stage cells
 -- earnings can be added up
-pub mode_can_earn : (m : Model) → IsModel m → (h : ℕ) → 0 < h → h ≤ 24 → (e : Bool) → e ≡ is_exact_mode m h → (e ≡ false → m.states * joint_observations m ^ (h - 1) ≤ 2 ^ 22) → CanEarn (arithmetic e m.scales) m h
+pub mode_can_earn : (m : Model) → IsModel m → (h : ℕ) → 0 < h → h ≤ 24 → (e : Bool) → e ≡ is_exact_mode m h
+    → (e ≡ false → m.states * joint_observations m ^ (h - 1) ≤ 2 ^ 22) → CanEarn (arithmetic e m.scales) m h
 mode_can_earn m is h some le true mode cells = exact_can_earn m is h some mode
 mode_can_earn m is h some le false mode cells = outward_can_earn m is h le (cells refl)
 
 -- worth can be added up
-pub mode_can_evaluate : (m : Model) → IsModel m → (h : ℕ) → 0 < h → h ≤ 24 → (e : Bool) → e ≡ is_exact_mode m h → (e ≡ false → m.states * joint_observations m ^ (h - 1) ≤ 2 ^ 22) → CanEvaluate (arithmetic e m.scales) m h
+pub mode_can_evaluate : (m : Model) → IsModel m → (h : ℕ) → 0 < h → h ≤ 24 → (e : Bool) → e ≡ is_exact_mode m h
+    → (e ≡ false → m.states * joint_observations m ^ (h - 1) ≤ 2 ^ 22) → CanEvaluate (arithmetic e m.scales) m h
 mode_can_evaluate m is h some le true mode cells = exact_can_evaluate m is h some mode
 mode_can_evaluate m is h some le false mode cells = outward_can_evaluate m is h le (cells refl)
 
 -- weights of joint classes can be added up
-pub mode_can_classify : (m : Model) → IsModel m → (h : ℕ) → 0 < h → h ≤ 24 → (e : Bool) → e ≡ is_exact_mode m h → (e ≡ false → m.states * joint_observations m ^ (h - 1) ≤ 2 ^ 22) → CanClassify (arithmetic e m.scales) m h
+pub mode_can_classify : (m : Model) → IsModel m → (h : ℕ) → 0 < h → h ≤ 24 → (e : Bool) → e ≡ is_exact_mode m h
+    → (e ≡ false → m.states * joint_observations m ^ (h - 1) ≤ 2 ^ 22) → CanClassify (arithmetic e m.scales) m h
 mode_can_classify m is h some le true mode cells = exact_can_classify m is h some mode
 mode_can_classify m is h some le false mode cells = outward_can_classify m is h le (cells refl)
 
 -- the bound of a front can be added up
-pub mode_can_bound : (m : Model) → IsModel m → (h : ℕ) → 0 < h → h ≤ 24 → (e : Bool) → e ≡ is_exact_mode m h → (e ≡ false → m.states * joint_observations m ^ (h - 1) ≤ 2 ^ 22) → CanBound (arithmetic e m.scales) m h
+pub mode_can_bound : (m : Model) → IsModel m → (h : ℕ) → 0 < h → h ≤ 24 → (e : Bool) → e ≡ is_exact_mode m h
+    → (e ≡ false → m.states * joint_observations m ^ (h - 1) ≤ 2 ^ 22) → CanBound (arithmetic e m.scales) m h
 mode_can_bound m is h some le true mode cells = exact_can_bound m is h some mode
 mode_can_bound m is h some le false mode cells = outward_can_bound m is h le (cells refl)
 
 -- a front can be advanced
-pub mode_can_advance : (m : Model) → IsModel m → (h : ℕ) → 0 < h → h ≤ 24 → (e : Bool) → e ≡ is_exact_mode m h → (e ≡ false → m.states * joint_observations m ^ (h - 1) ≤ 2 ^ 22) → CanAdvance (arithmetic e m.scales) m h
+pub mode_can_advance : (m : Model) → IsModel m → (h : ℕ) → 0 < h → h ≤ 24 → (e : Bool) → e ≡ is_exact_mode m h
+    → (e ≡ false → m.states * joint_observations m ^ (h - 1) ≤ 2 ^ 22) → CanAdvance (arithmetic e m.scales) m h
 mode_can_advance m is h some le true mode cells = exact_can_advance m is h some mode
 mode_can_advance m is h some le false mode cells = outward_can_advance m is h le (cells refl)

@@ -47,14 +47,16 @@ span_sum_size zero f = omega arith
 span_sum_size (suc n) f = let here = size_add (span_sum n f) (f n) in let rest = span_sum_size n f in omega arith
 
 -- the same over joint histories
-pub span_history_sum_size : (n t : ℕ) (v : List ℕ → Span) → size (span_history_sum n t v) ≤ nat_history_sum n t (λ H. size (v H))
+pub span_history_sum_size : (n t : ℕ) (v : List ℕ → Span)
+    → size (span_history_sum n t v) ≤ nat_history_sum n t (λ H. size (v H))
 span_history_sum_size n zero v = omega arith
 span_history_sum_size n (suc t) v =
     let outer = span_history_sum_size n t (λ H. span_sum n (λ o. v (o ∷ H))) in
     let inner = nat_history_sum_le n t (λ H. size (span_sum n (λ o. v (o ∷ H)))) (λ H. nat_sum n (λ o. size (v (o ∷ H)))) (λ H p. span_sum_size n (λ o. v (o ∷ H))) in omega arith
 
 -- a reward is no larger than its parts
-pub reward_size_le : (A : Arithmetic) (m : Model) (r : ℕ) (ws : ℕ → Span) (a : ℕ) → size (weighted_reward_in A m r ws a) ≤ reward_size A m r ws a
+pub reward_size_le : (A : Arithmetic) (m : Model) (r : ℕ) (ws : ℕ → Span) (a : ℕ)
+    → size (weighted_reward_in A m r ws a) ≤ reward_size A m r ws a
 unfolding weighted_reward_in reward_size
 reward_size_le A m r ws a =
     let S = m.states in
@@ -66,12 +68,15 @@ reward_size_le A m r ws a =
     omega arith
 
 -- a next weight is no larger than its parts
-pub pushed_size_le : (A : Arithmetic) (m : Model) (ws : ℕ → Span) (a o t : ℕ) → size (weights_after_in A m ws a o t) ≤ nat_sum m.states (λ s. size (A.later (A.chance (ws s) (trans_at m a s t) (obs_at m a t o))))
+pub pushed_size_le : (A : Arithmetic) (m : Model) (ws : ℕ → Span) (a o t : ℕ)
+    → size (weights_after_in A m ws a o t)
+      ≤ nat_sum m.states (λ s. size (A.later (A.chance (ws s) (trans_at m a s t) (obs_at m a t o))))
 unfolding weights_after_in
 pushed_size_le A m ws a o t = span_sum_size m.states (λ s. A.later (A.chance (ws s) (trans_at m a s t) (obs_at m a t o)))
 
 -- what is earned is no larger than its parts
-pub earned_size_le : (A : Arithmetic) (m : Model) (act : List ℕ → ℕ) (h f : ℕ) → size (earned_reward_in A m act h f) ≤ earned_size A m act h f
+pub earned_size_le : (A : Arithmetic) (m : Model) (act : List ℕ → ℕ) (h f : ℕ)
+    → size (earned_reward_in A m act h f) ≤ earned_size A m act h f
 earned_size_le A m act h zero = omega arith
 earned_size_le A m act h (suc f) =
     let O = joint_observations m in
@@ -82,7 +87,8 @@ earned_size_le A m act h (suc f) =
     let both = size_add (earned_reward_in A m act h f) (span_history_sum O f V) in omega arith
 
 -- look-ahead of a joint action is no larger than its parts
-pub action_look_le : (A : Arithmetic) (m : Model) (r : ℕ) (ws : ℕ → Span) (a k : ℕ) → unsigned_abs (action_look_ahead_in A m r ws a k) ≤ reward_size A m r ws a + next_look_size A m r ws a (k - 1)
+pub action_look_le : (A : Arithmetic) (m : Model) (r : ℕ) (ws : ℕ → Span) (a k : ℕ)
+    → unsigned_abs (action_look_ahead_in A m r ws a k) ≤ reward_size A m r ws a + next_look_size A m r ws a (k - 1)
 unfolding action_look_ahead_in next_look_size
 action_look_le A m r ws a k =
     let V = λ (o : ℕ). look_ahead_in A m r (weights_after_in A m ws a o) (k - 1) in
@@ -135,7 +141,8 @@ reward_next_le A m r ws a s t p q =
     let next = nat_sum_at m.states (λ t. nat_sum (joint_observations m) (λ o. size (A.gain (A.chance (ws s) (trans_at m a s t) (obs_at m a t o)) (reward_at m a s t o) r))) t q in omega arith
 
 -- the worth of a joint policy is no larger than its parts
-pub worth_size_le : (A : Arithmetic) (m : Model) (r : ℕ) (ws : ℕ → Span) (qs : List PolicyTree) → size (recursive_worth_in A m r ws qs) ≤ worth_size A m r ws qs
+pub worth_size_le : (A : Arithmetic) (m : Model) (r : ℕ) (ws : ℕ → Span) (qs : List PolicyTree)
+    → size (recursive_worth_in A m r ws qs) ≤ worth_size A m r ws qs
 worth_size_le A m zero ws qs = omega arith
 worth_size_le A m (suc r) ws qs =
     let O = joint_observations m in

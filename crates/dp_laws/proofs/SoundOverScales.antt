@@ -20,5 +20,6 @@ pub exact_holds : (c : Scales) (m : Model) → c ≡ m.scales → IsSound m (exa
 exact_holds c m e = subst (λ (b : Bool). IsSound m (exact c) (enclosure b)) (sym (exact_is c)) (subst (λ (c : Scales). IsSound m (exact c) equality) (sym e) (exact_sound m))
 
 -- the outward arithmetic, whose enclosure is containment
-pub outward_holds : (c : Scales) (m : Model) → IsModel m → c ≡ m.scales → IsSound m (outward c) (enclosure (outward c).is_exact)
+pub outward_holds : (c : Scales) (m : Model) → IsModel m → c ≡ m.scales
+    → IsSound m (outward c) (enclosure (outward c).is_exact)
 outward_holds c m is e = subst (λ (b : Bool). IsSound m (outward c) (enclosure b)) (sym (outward_is c)) (subst (λ (c : Scales). IsSound m (outward c) containment) (sym e) (outward_sound m is))

@@ -35,7 +35,8 @@ int_sum_mul c zero f = omega (arith, ints)
 int_sum_mul c (suc n) f = rw (int_sum_mul c n f) (sym (zmul_add c (int_sum n f) (f n)))
 
 -- a sum of sums in the other order
-pub int_sum_swap : (n m : ℕ) (f : ℕ → ℕ → ℤ) → int_sum n (λ i. int_sum m (λ j. f i j)) ≡ int_sum m (λ j. int_sum n (λ i. f i j))
+pub int_sum_swap : (n m : ℕ) (f : ℕ → ℕ → ℤ)
+    → int_sum n (λ i. int_sum m (λ j. f i j)) ≡ int_sum m (λ j. int_sum n (λ i. f i j))
 int_sum_swap zero m f = sym (int_sum_zero m)
 int_sum_swap (suc n) m f = rw (int_sum_swap n m f) (sym (int_sum_add m (λ j. int_sum n (λ i. f i j)) (f n)))
 
@@ -76,23 +77,30 @@ int_sum_one (suc n) k x h =
     ]
 
 -- c * (sum of sums), inside
-pub mul_two : (c : ℤ) (n k : ℕ) (f : ℕ → ℕ → ℤ) → c *ℤ int_sum n (λ i. int_sum k (λ j. f i j)) ≡ int_sum n (λ i. int_sum k (λ j. c *ℤ f i j))
+pub mul_two : (c : ℤ) (n k : ℕ) (f : ℕ → ℕ → ℤ)
+    → c *ℤ int_sum n (λ i. int_sum k (λ j. f i j)) ≡ int_sum n (λ i. int_sum k (λ j. c *ℤ f i j))
 mul_two c n k f = sym (int_sum_mul c n (λ i. int_sum k (λ j. f i j))) ∙ int_sum_ext n _ _ (λ i h. sym (int_sum_mul c k (f i)))
 
 -- sums of two, inside
-pub add_two : (n k : ℕ) (f g : ℕ → ℕ → ℤ) → int_sum n (λ i. int_sum k (λ j. f i j +ℤ g i j)) ≡ int_sum n (λ i. int_sum k (λ j. f i j)) +ℤ int_sum n (λ i. int_sum k (λ j. g i j))
+pub add_two : (n k : ℕ) (f g : ℕ → ℕ → ℤ)
+    → int_sum n (λ i. int_sum k (λ j. f i j +ℤ g i j))
+      ≡ int_sum n (λ i. int_sum k (λ j. f i j)) +ℤ int_sum n (λ i. int_sum k (λ j. g i j))
 add_two n k f g = int_sum_ext n _ _ (λ i h. int_sum_add k (f i) (g i)) ∙ int_sum_add n (λ i. int_sum k (f i)) (λ i. int_sum k (g i))
 
 -- equal numbers, inside
-pub ext_two : (n k : ℕ) (f g : ℕ → ℕ → ℤ) → ((i j : ℕ) → i < n → j < k → f i j ≡ g i j) → int_sum n (λ i. int_sum k (λ j. f i j)) ≡ int_sum n (λ i. int_sum k (λ j. g i j))
+pub ext_two : (n k : ℕ) (f g : ℕ → ℕ → ℤ) → ((i j : ℕ) → i < n → j < k → f i j ≡ g i j)
+    → int_sum n (λ i. int_sum k (λ j. f i j)) ≡ int_sum n (λ i. int_sum k (λ j. g i j))
 ext_two n k f g h = int_sum_ext n _ _ (λ i p. int_sum_ext k _ _ (λ j q. h i j p q))
 
 -- greater numbers, inside
-pub le_two : (n k : ℕ) (f g : ℕ → ℕ → ℤ) → ((i j : ℕ) → i < n → j < k → f i j ≤ℤ g i j) → int_sum n (λ i. int_sum k (λ j. f i j)) ≤ℤ int_sum n (λ i. int_sum k (λ j. g i j))
+pub le_two : (n k : ℕ) (f g : ℕ → ℕ → ℤ) → ((i j : ℕ) → i < n → j < k → f i j ≤ℤ g i j)
+    → int_sum n (λ i. int_sum k (λ j. f i j)) ≤ℤ int_sum n (λ i. int_sum k (λ j. g i j))
 le_two n k f g h = int_sum_le n _ _ (λ i p. int_sum_le k _ _ (λ j q. h i j p q))
 
 -- the sums of three, outermost first and last exchanged
-pub rotate : (n m k : ℕ) (f : ℕ → ℕ → ℕ → ℤ) → int_sum n (λ s. int_sum m (λ t. int_sum k (λ o. f s t o))) ≡ int_sum k (λ o. int_sum m (λ t. int_sum n (λ s. f s t o)))
+pub rotate : (n m k : ℕ) (f : ℕ → ℕ → ℕ → ℤ)
+    → int_sum n (λ s. int_sum m (λ t. int_sum k (λ o. f s t o)))
+      ≡ int_sum k (λ o. int_sum m (λ t. int_sum n (λ s. f s t o)))
 rotate n m k f =
     int_sum_ext n _ _ (λ s h. int_sum_swap m k (f s)) ∙ int_sum_swap n k (λ s o. int_sum m (λ t. f s t o)) ∙ int_sum_ext k _ _ (λ o h. int_sum_swap n m (λ s t. f s t o))
 
@@ -120,7 +128,8 @@ two_le : (r s fa fb ga gb : ℤ) → r ≡ s → (fa +ℤ fb) ≤ℤ (ga +ℤ gb
 two_le r s fa fb ga gb e h = omega (arith, ints)
 
 -- two sums that differ at two places
-pub int_sum_two : (n a b : ℕ) (f g : ℕ → ℤ) → a < n → b < n → a ≢ b → ((c : ℕ) → c < n → a ≢ c → b ≢ c → f c ≡ g c) → (f a +ℤ f b) ≤ℤ (g a +ℤ g b) → int_sum n f ≤ℤ int_sum n g
+pub int_sum_two : (n a b : ℕ) (f g : ℕ → ℤ) → a < n → b < n → a ≢ b → ((c : ℕ) → c < n → a ≢ c → b ≢ c → f c ≡ g c)
+    → (f a +ℤ f b) ≤ℤ (g a +ℤ g b) → int_sum n f ≤ℤ int_sum n g
 int_sum_two n a b f g p q ne same h =
     let out : (f : ℕ → ℤ) → int_sum n f ≡ int_sum n (λ c. cond (eqb b c) (pos 0) (cond (eqb a c) (pos 0) (f c))) +ℤ f b +ℤ f a =
     λ f. int_sum_out n a f p ∙ ap (λ x. x +ℤ f a) (int_sum_out n b _ q ∙ ap (λ x. int_sum n (λ c. cond (eqb b c) (pos 0) (cond (eqb a c) (pos 0) (f c))) +ℤ x) (ite_other a b (pos 0) (f b) ne)) in

@@ -1,5 +1,6 @@
 -- On a path of a tree that fits a front there are at most as many inner nodes as own histories.
--- Each choice and each merge leaves one unassigned class less, and an advance opens at most one class for each own history of the next length.
+-- Each choice and each merge leaves one unassigned class less, and an advance opens at most one class for each own
+-- history of the next length.
 use Rattle.std.proofs.Common.{◌≡◌, inl, inr, ℕ, zero, suc, ◌+◌, ◌-◌, ◌*◌, ◌^◌, ◌<◌, ◌≤◌, Bool, true, false, ℤ, List, [], ◌∷◌, length, get_or, set, Option, Some, None, refl, ap, arith}
 use Rattle.std.proofs.lemmas.List.{length-replicate}
 use Rattle.std.proofs.Math.ListN.{length-set}
@@ -30,14 +31,16 @@ abbrev unassigned_count : List AgentFront → ℕ
 unassigned_count [] = 0
 unassigned_count (d ∷ ds) = none_count d.chosen + unassigned_count ds
 
-none_count-set : (os : List (Option ℕ)) (c a : ℕ) → c < length os → get_or os c None ≡ None → suc (none_count (set os c (Some a))) ≡ none_count os
+none_count-set : (os : List (Option ℕ)) (c a : ℕ) → c < length os → get_or os c None ≡ None
+    → suc (none_count (set os c (Some a))) ≡ none_count os
 none_count-set [] c a h e = absurd (omega arith)
 none_count-set (None ∷ os) zero a h e = refl
 none_count-set (Some b ∷ os) zero a h e = cc
 none_count-set (None ∷ os) (suc c) a h e = ap suc (none_count-set os c a (omega arith) e)
 none_count-set (Some b ∷ os) (suc c) a h e = none_count-set os c a (omega arith) e
 
-none_count-without : (os : List (Option ℕ)) (c : ℕ) → c < length os → get_or os c None ≡ None → suc (none_count (without c os)) ≡ none_count os
+none_count-without : (os : List (Option ℕ)) (c : ℕ) → c < length os → get_or os c None ≡ None
+    → suc (none_count (without c os)) ≡ none_count os
 none_count-without [] c h e = absurd (omega arith)
 none_count-without (None ∷ os) zero h e = refl
 none_count-without (Some b ∷ os) zero h e = cc
@@ -54,12 +57,14 @@ none_count-chosen [] e = refl
 none_count-chosen (None ∷ os) e = cc
 none_count-chosen (Some a ∷ os) e = none_count-chosen os e
 
-choice_assigns_one : (i c a : ℕ) (ds : List AgentFront) → IsUnassigned i c ds → suc (unassigned_count (with_choice i c a ds)) ≡ unassigned_count ds
+choice_assigns_one : (i c a : ℕ) (ds : List AgentFront) → IsUnassigned i c ds
+    → suc (unassigned_count (with_choice i c a ds)) ≡ unassigned_count ds
 choice_assigns_one i c a [] free = absurd free
 choice_assigns_one zero c a (d ∷ ds) free = omega (arith, none_count-set d.chosen c a free.0 free.1)
 choice_assigns_one (suc i) c a (d ∷ ds) free = omega (arith, choice_assigns_one i c a ds free)
 
-merge_joins_one : (i a b : ℕ) (ds : List AgentFront) → IsUnassigned i b ds → suc (unassigned_count (merged_agents i a b ds)) ≡ unassigned_count ds
+merge_joins_one : (i a b : ℕ) (ds : List AgentFront) → IsUnassigned i b ds
+    → suc (unassigned_count (merged_agents i a b ds)) ≡ unassigned_count ds
 merge_joins_one i a b [] free = absurd free
 merge_joins_one zero a b (d ∷ ds) free = omega (arith, none_count-without d.chosen b free.0 free.1)
 merge_joins_one (suc i) a b (d ∷ ds) free = omega (arith, merge_joins_one i a b ds free)
@@ -74,7 +79,8 @@ abbrev histories_of_length : List ℕ → ℕ → ℕ
 histories_of_length [] t = 0
 histories_of_length (n ∷ ns) t = n ^ t + histories_of_length ns t
 
-shorter_histories : (ns : List ℕ) (t : ℕ) → own_history_count ns (suc t) ≡ own_history_count ns t + histories_of_length ns t
+shorter_histories : (ns : List ℕ) (t : ℕ)
+    → own_history_count ns (suc t) ≡ own_history_count ns t + histories_of_length ns t
 shorter_histories [] t = refl
 shorter_histories (n ∷ ns) t = omega (arith, shorter_histories ns t)
 
@@ -91,13 +97,15 @@ ClassesWithin f ns [] = Unit {0}
 ClassesWithin f [] (d ∷ ds) = ⊥
 ClassesWithin f (n ∷ ns) (d ∷ ds) = (length d.chosen ≤ n ^ f) × ClassesWithin f ns ds
 
-choice_within : (f i c a : ℕ) (ns : List ℕ) (ds : List AgentFront) → ClassesWithin f ns ds → ClassesWithin f ns (with_choice i c a ds)
+choice_within : (f i c a : ℕ) (ns : List ℕ) (ds : List AgentFront) → ClassesWithin f ns ds
+    → ClassesWithin f ns (with_choice i c a ds)
 choice_within f i c a ns [] w = tt
 choice_within f i c a [] (d ∷ ds) w = absurd w
 choice_within f zero c a (n ∷ ns) (d ∷ ds) w = (omega (arith, w.0, length-set d.chosen c (Some a)), w.1)
 choice_within f (suc i) c a (n ∷ ns) (d ∷ ds) w = (w.0, choice_within f i c a ns ds w.1)
 
-merge_within : (f i a b : ℕ) (ns : List ℕ) (ds : List AgentFront) → IsUnassigned i b ds → ClassesWithin f ns ds → ClassesWithin f ns (merged_agents i a b ds)
+merge_within : (f i a b : ℕ) (ns : List ℕ) (ds : List AgentFront) → IsUnassigned i b ds → ClassesWithin f ns ds
+    → ClassesWithin f ns (merged_agents i a b ds)
 merge_within f i a b ns [] free w = tt
 merge_within f i a b [] (d ∷ ds) free w = absurd w
 merge_within f zero a b (n ∷ ns) (d ∷ ds) free w = (omega (arith, w.0, length-without b d.chosen free.0), w.1)
@@ -107,13 +115,15 @@ next_classes : (n f : ℕ) (d : AgentFront) → length d.chosen ≤ n ^ f → le
 unfolding advanced_agent
 next_classes n f d h = let nothing : Option ℕ = None in omega (arith, length-replicate (length d.chosen * n) nothing, pow-suc n f, mul-le-mul_right n h)
 
-advance_within : (f : ℕ) (ns : List ℕ) (ds : List AgentFront) → ClassesWithin f ns ds → ClassesWithin (suc f) ns (advanced_agents ns f ds)
+advance_within : (f : ℕ) (ns : List ℕ) (ds : List AgentFront) → ClassesWithin f ns ds
+    → ClassesWithin (suc f) ns (advanced_agents ns f ds)
 advance_within f [] [] w = tt
 advance_within f (n ∷ ns) [] w = tt
 advance_within f [] (d ∷ ds) w = absurd w
 advance_within f (n ∷ ns) (d ∷ ds) w = (next_classes n f d w.0, advance_within f ns ds w.1)
 
-unassigned_within : (f : ℕ) (ns : List ℕ) (ds : List AgentFront) → ClassesWithin f ns ds → unassigned_count ds ≤ histories_of_length ns f
+unassigned_within : (f : ℕ) (ns : List ℕ) (ds : List AgentFront) → ClassesWithin f ns ds
+    → unassigned_count ds ≤ histories_of_length ns f
 unassigned_within f ns [] w = omega arith
 unassigned_within f [] (d ∷ ds) w = absurd w
 unassigned_within f (n ∷ ns) (d ∷ ds) w = omega (arith, w.0, none_count-le-length d.chosen, unassigned_within f ns ds w.1)
@@ -123,7 +133,8 @@ unassigned_within f (n ∷ ns) (d ∷ ds) w = omega (arith, w.0, none_count-le-l
 abbrev IsDepthBelow : Model → ℕ → Front → ℕ → Type 0
 IsDepthBelow m h F d = d + own_history_count m.observations (suc F.stage) ≤ unassigned_count F.agents + own_history_count m.observations h
 
-after_advance : (m : Model) (h : ℕ) (F : Front) (t : Bool) → is_complete F.agents ≡ t → F.stage < h → ClassesWithin F.stage m.observations F.agents →
+after_advance : (m : Model) (h : ℕ) (F : Front) (t : Bool) → is_complete F.agents ≡ t → F.stage < h
+    → ClassesWithin F.stage m.observations F.agents →
     ClassesWithin (advanced_if m F t).stage m.observations (advanced_if m F t).agents
     × ((d : ℕ) → ((advanced_if m F t).stage < h → IsDepthBelow m h (advanced_if m F t) d) → (h ≤ (advanced_if m F t).stage → d ≡ 0) → IsDepthBelow m h F d)
 after_advance m h F false some lt w = (w, λ d below none. below lt)
@@ -140,7 +151,8 @@ after_advance m h F true all lt w =
       ],
     )
 
-after_choice : (m : Model) (h i c a : ℕ) (F : Front) → IsUnassigned i c F.agents → F.stage < h → ClassesWithin F.stage m.observations F.agents →
+after_choice : (m : Model) (h i c a : ℕ) (F : Front) → IsUnassigned i c F.agents → F.stage < h
+    → ClassesWithin F.stage m.observations F.agents →
     ClassesWithin (front_after_choice m F i c a).stage m.observations (front_after_choice m F i c a).agents
     × ((d : ℕ) → ((front_after_choice m F i c a).stage < h → IsDepthBelow m h (front_after_choice m F i c a) d) → (h ≤ (front_after_choice m F i c a).stage → d ≡ 0) → IsDepthBelow m h F (suc d))
 unfolding front_after_choice
@@ -149,20 +161,25 @@ after_choice m h i c a F free lt w =
     let one = choice_assigns_one i c a F.agents free in
     (next.0, λ d below none. omega (arith, one, next.1 d below none))
 
-no_inner_node : (A : Arithmetic) (m : Model) (h look : ℕ) (T : BoundTree) (F : Front) (cap : ℤ) → FitsFront A m h look T F cap → h ≤ F.stage → depth_of T ≡ 0
+no_inner_node : (A : Arithmetic) (m : Model) (h look : ℕ) (T : BoundTree) (F : Front) (cap : ℤ)
+    → FitsFront A m h look T F cap → h ≤ F.stage → depth_of T ≡ 0
 no_inner_node A m h look (leaf x) F cap fits le = refl
 no_inner_node A m h look (branch i c Ts) F cap fits le = absurd (omega (arith, fits.0))
 no_inner_node A m h look (merge i a b T) F cap fits le = absurd (omega (arith, fits.0))
 
 mutual
-  tree_depth : (A : Arithmetic) (m : Model) (h look : ℕ) (T : BoundTree) (F : Front) (cap : ℤ) → FitsFront A m h look T F cap → F.stage < h → ClassesWithin F.stage m.observations F.agents → IsDepthBelow m h F (depth_of T)
+  tree_depth : (A : Arithmetic) (m : Model) (h look : ℕ) (T : BoundTree) (F : Front) (cap : ℤ)
+      → FitsFront A m h look T F cap → F.stage < h → ClassesWithin F.stage m.observations F.agents
+      → IsDepthBelow m h F (depth_of T)
   tree_depth A m h look (leaf x) F cap fits lt w = omega (arith, longer_histories m.observations F.stage h lt)
   tree_depth A m h look (branch i c Ts) F cap fits lt w = trees_depth A m h look Ts F i c 0 cap fits.2 fits.1 lt w
   tree_depth A m h look (merge i a b T) F cap fits lt w =
       let rest = tree_depth A m h look T (merged_front F i a b) _ fits.5 lt (merge_within F.stage i a b m.observations F.agents fits.3 w) in
       omega (arith, rest, merge_joins_one i a b F.agents fits.3)
 
-  trees_depth : (A : Arithmetic) (m : Model) (h look : ℕ) (Ts : BoundTrees) (F : Front) (i c a : ℕ) (cap : ℤ) → FitEachAction A m h look Ts F i c a cap → IsUnassigned i c F.agents → F.stage < h → ClassesWithin F.stage m.observations F.agents →
+  trees_depth : (A : Arithmetic) (m : Model) (h look : ℕ) (Ts : BoundTrees) (F : Front) (i c a : ℕ) (cap : ℤ)
+      → FitEachAction A m h look Ts F i c a cap → IsUnassigned i c F.agents → F.stage < h
+      → ClassesWithin F.stage m.observations F.agents →
       IsDepthBelow m h F (suc (greatest_depth Ts))
   trees_depth A m h look no_bound_trees F i c a cap fits free lt w = omega (arith, longer_histories m.observations F.stage h lt, choice_assigns_one i c 0 F.agents free)
   trees_depth A m h look (more_bound_trees T Ts) F i c a cap fits free lt w =
@@ -175,8 +192,11 @@ fronts_within : {f : ℕ} {bs ns : List ℕ} {ds : List AgentFront} → AreAgent
 fronts_within no_agents = tt
 fronts_within {f} (and_agent {b = b} {n = n} {d = d} front fronts) = (classes_within_histories b n f d front, fronts_within fronts)
 
--- a path of a tree that fits a well-formed front has at most as many inner nodes as there are own histories from the stage on
-pub depth_below : (A : Arithmetic) (m : Model) (h look : ℕ) (T : BoundTree) (F : Front) (cap : ℤ) → IsFront m h F → FitsFront A m h look T F cap → depth_of T + own_history_count m.observations F.stage ≤ own_history_count m.observations h
+-- a path of a tree that fits a well-formed front has at most as many inner nodes as there are own histories from the
+-- stage on
+pub depth_below : (A : Arithmetic) (m : Model) (h look : ℕ) (T : BoundTree) (F : Front) (cap : ℤ) → IsFront m h F
+    → FitsFront A m h look T F cap
+    → depth_of T + own_history_count m.observations F.stage ≤ own_history_count m.observations h
 depth_below A m h look T F cap front fits =
     let ns = m.observations in
     let w = fronts_within front.agents in
@@ -186,7 +206,8 @@ depth_below A m h look T F cap front fits =
     ]
 
 -- a path of a tree that fits the root front has at most as many inner nodes as there are own histories
-pub root_depth : (A : Arithmetic) (m : Model) (h look : ℕ) (T : BoundTree) → IsModel m → FitsRoot A m h look T → depth_of T ≤ own_history_count m.observations h
+pub root_depth : (A : Arithmetic) (m : Model) (h look : ℕ) (T : BoundTree) → IsModel m → FitsRoot A m h look T
+    → depth_of T ≤ own_history_count m.observations h
 root_depth A m h look T model fits = omega (arith, depth_below A m h look T (root_front m) _ (root_is_front m h model) fits)
 
 -- so a path of a valid certificate's tree has at most 2048 inner nodes

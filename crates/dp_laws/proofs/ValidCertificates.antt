@@ -22,11 +22,13 @@ use Rattle.dp_spec.specs.Steps.{root_front}
 use Rattle.dp_spec.specs.Value.{policy_value}
 
 -- the unit of a valid certificate is that of its mode
-unit_of_valid : (m : Model) (c : Certificate) → IsValid m c → pos ((enclosure c.is_exact).unit (value_scale m c.horizon)) ≡ c.unit
+unit_of_valid : (m : Model) (c : Certificate) → IsValid m c
+    → pos ((enclosure c.is_exact).unit (value_scale m c.horizon)) ≡ c.unit
 unit_of_valid m c v = ap (λ (n : ℕ). pos n) (sym (mode_unit m c.horizon c.is_exact v.mode)) ∙ sym v.unit
 
 -- what is at least each leaf bounds every joint policy
-bounds_every_policy : (m : Model) (c : Certificate) → IsModel m → IsValid m c → (u : ℤ) → LeavesAtMost u c.tree → BoundsEveryPolicy m c.horizon c.unit u
+bounds_every_policy : (m : Model) (c : Certificate) → IsModel m → IsValid m c → (u : ℤ) → LeavesAtMost u c.tree
+    → BoundsEveryPolicy m c.horizon c.unit u
 bounds_every_policy m c is v u below =
     subst (λ (z : ℤ). BoundsEveryPolicy m c.horizon z u) (unit_of_valid m c v)
     (fitting_root_bounds (arithmetic_for m c) (enclosure c.is_exact) m is (arithmetic_sound m is c.is_exact) c.horizon c.look c.tree u v.tree below)
@@ -36,7 +38,8 @@ upper_bounds : (m : Model) (c : Certificate) → IsModel m → IsValid m c → B
 upper_bounds m c is v = bounds_every_policy m c is v c.upper (subst (λ (u : ℤ). LeavesAtMost u c.tree) (sym v.upper) (greatest_leaf-at_most c.tree))
 
 -- the policy is worth at least the lower end
-lower_reached : (m : Model) (c : Certificate) → IsModel m → IsValid m c → (c.lower *ℤ pos (value_scale m c.horizon)) ≤ℤ (policy_value m c.horizon c.policy *ℤ c.unit)
+lower_reached : (m : Model) (c : Certificate) → IsModel m → IsValid m c
+    → (c.lower *ℤ pos (value_scale m c.horizon)) ≤ℤ (policy_value m c.horizon c.policy *ℤ c.unit)
 lower_reached m c is v =
     let span = forward_worth_in (arithmetic_for m c) m c.horizon c.policy in
     let low = low_reads c.is_exact (value_scale m c.horizon) _ span (worth_enclosed m (arithmetic_for m c) (enclosure c.is_exact) (arithmetic_sound m is c.is_exact) c.horizon c.policy) in
@@ -56,7 +59,8 @@ ends_in_order m c is v = le_of_mul_le_right (value_scale m c.horizon) _ _ (value
 -- ---- in exact mode
 
 -- the lower end is the value of the policy
-pub lower_is_value : (m : Model) (c : Certificate) → IsValid m c → c.is_exact ≡ true → c.lower ≡ policy_value m c.horizon c.policy
+pub lower_is_value : (m : Model) (c : Certificate) → IsValid m c → c.is_exact ≡ true
+    → c.lower ≡ policy_value m c.horizon c.policy
 lower_is_value m c v e =
     v.lower
     ∙ ap (λ (t : Bool). (forward_worth_in (arithmetic t m.scales) m c.horizon c.policy).low) e
@@ -67,11 +71,13 @@ exact_unit : (m : Model) (c : Certificate) → IsValid m c → c.is_exact ≡ tr
 exact_unit m c v e = sym (unit_of_valid m c v) ∙ ap (λ (t : Bool). pos ((enclosure t).unit (value_scale m c.horizon))) e
 
 -- what bounds every policy does so in the value scale
-exact_bound_of : (m : Model) (c : Certificate) → IsModel m → IsValid m c → c.is_exact ≡ true → (u : ℤ) → BoundsEveryPolicy m c.horizon c.unit u → BoundsEveryPolicy m c.horizon (pos (value_scale m c.horizon)) u
+exact_bound_of : (m : Model) (c : Certificate) → IsModel m → IsValid m c → c.is_exact ≡ true → (u : ℤ)
+    → BoundsEveryPolicy m c.horizon c.unit u → BoundsEveryPolicy m c.horizon (pos (value_scale m c.horizon)) u
 exact_bound_of m c is v e u h = subst (λ (z : ℤ). BoundsEveryPolicy m c.horizon z u) (exact_unit m c v e) h
 
 -- a closed certificate has equal ends and an optimal policy
-pub closed_is_optimal : (m : Model) (c : Certificate) → IsModel m → IsValid m c → IsClosed m c → c.is_exact ≡ true → (c.lower ≡ c.upper) × IsOptimal m c.horizon c.policy
+pub closed_is_optimal : (m : Model) (c : Certificate) → IsModel m → IsValid m c → IsClosed m c → c.is_exact ≡ true
+    → (c.lower ≡ c.upper) × IsOptimal m c.horizon c.policy
 closed_is_optimal m c is v closed e =
     let n = value_scale m c.horizon in
     let some = value_scale_positive m c.horizon is in

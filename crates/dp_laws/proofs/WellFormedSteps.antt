@@ -20,7 +20,8 @@ use Rattle.std.proofs.lemmas.Bool.{and_parts, cases_eq, cases_lt}
 use Rattle.dp_laws.proofs.Order.{last_or_before}
 
 -- ---- choosing
-chosen_agent : (b n f : ℕ) (d : AgentFront) (c a : ℕ) → IsAgentFront b n f d → c < length d.chosen → a < b → IsAgentFront b n f (record d { chosen = set d.chosen c (Some a) })
+chosen_agent : (b n f : ℕ) (d : AgentFront) (c a : ℕ) → IsAgentFront b n f d → c < length d.chosen → a < b
+    → IsAgentFront b n f (record d { chosen = set d.chosen c (Some a) })
 chosen_agent b n f d c a k p a_in =
     let len : length (set d.chosen c (Some a)) ≡ length d.chosen = simp length-set in
     record {
@@ -39,13 +40,15 @@ chosen_agent b n f d c a k p a_in =
       ];
     }
 
-chosen_agents : {f : ℕ} {bs ns : List ℕ} {ds : List AgentFront} → AreAgentFronts f bs ns ds → (i c a : ℕ) → IsUnassigned i c ds → a < get_or bs i 0 → AreAgentFronts f bs ns (with_choice i c a ds)
+chosen_agents : {f : ℕ} {bs ns : List ℕ} {ds : List AgentFront} → AreAgentFronts f bs ns ds → (i c a : ℕ)
+    → IsUnassigned i c ds → a < get_or bs i 0 → AreAgentFronts f bs ns (with_choice i c a ds)
 chosen_agents no_agents i c a free p = absurd free
 chosen_agents (and_agent k ks) zero c a free p = and_agent (chosen_agent _ _ _ _ c a k free.0 p) ks
 chosen_agents (and_agent k ks) (suc i) c a free p = and_agent k (chosen_agents ks i c a free p)
 
 -- an unassigned class is given an action of its agent
-pub chosen_is_front : (m : Model) (h : ℕ) (F : Front) (i c a : ℕ) → IsFront m h F → F.stage < h → IsUnassigned i c F.agents → a < get_or m.actions i 0 → IsFront m h (chosen_front F i c a)
+pub chosen_is_front : (m : Model) (h : ℕ) (F : Front) (i c a : ℕ) → IsFront m h F → F.stage < h
+    → IsUnassigned i c F.agents → a < get_or m.actions i 0 → IsFront m h (chosen_front F i c a)
 chosen_is_front m h F i c a front lt free p = record {
   stage_limit = front.stage_limit;
   agents = chosen_agents front.agents i c a free p;
@@ -53,7 +56,8 @@ chosen_is_front m h F i c a front lt free p = record {
 }
 
 -- ---- advancing
-next_agent : (b n f : ℕ) (d : AgentFront) → IsAgentFront b n f d → all_chosen d.chosen ≡ true → IsAgentFront b n (suc f) (advanced_agent n f d)
+next_agent : (b n f : ℕ) (d : AgentFront) → IsAgentFront b n f d → all_chosen d.chosen ≡ true
+    → IsAgentFront b n (suc f) (advanced_agent n f d)
 unfolding advanced_agent
 next_agent b n f d k all =
     let act : ℕ → ℕ = λ x. unwrap_or (get_or d.chosen (get_or d.class_of x 0) None) 0 in
@@ -94,10 +98,12 @@ next_agent b n f d k all =
       chosen_below = λ c a u s. let none = get_or-replicate (length d.chosen * n) c nothing None (omega arith) in cc;
     }
   where
-    put_together : (n c x y : ℕ) (class : ℕ → ℕ) → x / n ≡ y → x % n ≡ c % n → class y ≡ c / n → class (x / n) * n + x % n ≡ c
+    put_together : (n c x y : ℕ) (class : ℕ → ℕ) → x / n ≡ y → x % n ≡ c % n → class y ≡ c / n
+        → class (x / n) * n + x % n ≡ c
     put_together n c x y class e f g = rw (e, f, g) (omega arith)
 
-next_agents : {f : ℕ} {bs ns : List ℕ} {ds : List AgentFront} → AreAgentFronts f bs ns ds → is_complete ds ≡ true → AreAgentFronts (suc f) bs ns (advanced_agents ns f ds)
+next_agents : {f : ℕ} {bs ns : List ℕ} {ds : List AgentFront} → AreAgentFronts f bs ns ds → is_complete ds ≡ true
+    → AreAgentFronts (suc f) bs ns (advanced_agents ns f ds)
 next_agents no_agents all = no_agents
 next_agents (and_agent k ks) all = let both = and_parts _ _ all in and_agent (next_agent _ _ _ _ k both.0) (next_agents ks both.1)
 
@@ -114,7 +120,8 @@ none_chosen (n ∷ ns) f [] = tt
 none_chosen (n ∷ ns) f (d ∷ ds) = (no_choice (length d.chosen * n), none_chosen ns f ds)
 
 -- a complete front goes on to the next stage
-pub advanced_is_front : (m : Model) (h : ℕ) (F : Front) → IsFront m h F → F.stage < h → is_complete F.agents ≡ true → IsFront m h (advanced_front m F)
+pub advanced_is_front : (m : Model) (h : ℕ) (F : Front) → IsFront m h F → F.stage < h → is_complete F.agents ≡ true
+    → IsFront m h (advanced_front m F)
 advanced_is_front m h F front lt all = record {
   stage_limit = lt;
   agents = next_agents front.agents all;
@@ -122,16 +129,19 @@ advanced_is_front m h F front lt all = record {
 }
 
 -- ---- a choice, and the advance where it follows
-next_is_front : (m : Model) (h : ℕ) (F : Front) → IsFront m h F → F.stage < h → (t : Bool) → is_complete F.agents ≡ t → IsFront m h (advanced_if m F t)
+next_is_front : (m : Model) (h : ℕ) (F : Front) → IsFront m h F → F.stage < h → (t : Bool) → is_complete F.agents ≡ t
+    → IsFront m h (advanced_if m F t)
 next_is_front m h F front lt true all = advanced_is_front m h F front lt all
 next_is_front m h F front lt false some = front
 
-pub after_choice_is_front : (m : Model) (h : ℕ) (F : Front) (i c a : ℕ) → IsFront m h F → F.stage < h → IsUnassigned i c F.agents → a < get_or m.actions i 0 → IsFront m h (front_after_choice m F i c a)
+pub after_choice_is_front : (m : Model) (h : ℕ) (F : Front) (i c a : ℕ) → IsFront m h F → F.stage < h
+    → IsUnassigned i c F.agents → a < get_or m.actions i 0 → IsFront m h (front_after_choice m F i c a)
 unfolding front_after_choice
 after_choice_is_front m h F i c a front lt free p = next_is_front m h (chosen_front F i c a) (chosen_is_front m h F i c a front lt free p) lt (is_complete (with_choice i c a F.agents)) refl
 
 -- ---- merging
-joined_agent : (b n f : ℕ) (d : AgentFront) (first second : ℕ) → IsAgentFront b n f d → first < second → second < length d.chosen → IsAgentFront b n f (merged_agent first second d)
+joined_agent : (b n f : ℕ) (d : AgentFront) (first second : ℕ) → IsAgentFront b n f d → first < second
+    → second < length d.chosen → IsAgentFront b n f (merged_agent first second d)
 joined_agent b n f d first second k lt p =
     let len = length-without second d.chosen p in
     let new : (x c c' : ℕ) → get_or d.class_of x 0 ≡ c → renumbered first second c ≡ c' → get_or (map (renumbered first second) d.class_of) x 0 ≡ c' =
@@ -152,13 +162,15 @@ joined_agent b n f d first second k lt p =
       ];
     }
 
-joined_agents : {f : ℕ} {bs ns : List ℕ} {ds : List AgentFront} → AreAgentFronts f bs ns ds → (i a b : ℕ) → a < b → IsUnassigned i b ds → AreAgentFronts f bs ns (merged_agents i a b ds)
+joined_agents : {f : ℕ} {bs ns : List ℕ} {ds : List AgentFront} → AreAgentFronts f bs ns ds → (i a b : ℕ) → a < b
+    → IsUnassigned i b ds → AreAgentFronts f bs ns (merged_agents i a b ds)
 joined_agents no_agents i a b lt free = absurd free
 joined_agents (and_agent k ks) zero a b lt free = and_agent (joined_agent _ _ _ _ a b k lt free.0) ks
 joined_agents (and_agent k ks) (suc i) a b lt free = and_agent k (joined_agents ks i a b lt free)
 
 -- two unassigned classes are merged
-pub merged_is_front : (m : Model) (h : ℕ) (F : Front) (i a b : ℕ) → IsFront m h F → F.stage < h → a < b → IsUnassigned i a F.agents → IsUnassigned i b F.agents → IsFront m h (merged_front F i a b)
+pub merged_is_front : (m : Model) (h : ℕ) (F : Front) (i a b : ℕ) → IsFront m h F → F.stage < h → a < b
+    → IsUnassigned i a F.agents → IsUnassigned i b F.agents → IsFront m h (merged_front F i a b)
 merged_is_front m h F i a b front lt ab free free' = record {
   stage_limit = front.stage_limit;
   agents = joined_agents front.agents i a b ab free';

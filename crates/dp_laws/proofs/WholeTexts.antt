@@ -38,12 +38,14 @@ AllAllowed-append (line ∷ lines) more p q = (p.0, AllAllowed-append lines more
 -- ---- the agents' lines
 
 -- the rows of k stages from a on are lines
-rows_are_lines : (b n h : ℕ) (q : PolicyTree) → b ≤ 2 ^ 32 → IsPolicyTree b n h q → (a k : ℕ) → a + k ≤ h → AreLines (map (row_line b n q) (range_with_len a k))
+rows_are_lines : (b n h : ℕ) (q : PolicyTree) → b ≤ 2 ^ 32 → IsPolicyTree b n h q → (a k : ℕ) → a + k ≤ h
+    → AreLines (map (row_line b n q) (range_with_len a k))
 rows_are_lines b n h q small is a zero within = tt
 rows_are_lines b n h q small is a (suc k) within = (row_is b n h a q small (omega arith) is, rows_are_lines b n h q small is (a + 1) k (omega arith))
 
 -- the lines of the agents from one on are lines
-pub agents_are_lines : (h : ℕ) (bs ns : List ℕ) (qs : List PolicyTree) → AreSmall bs → IsJointPolicy h bs ns qs → (agent : ℕ) → agent + length bs < 10 ^ 64 → AreLines (agent_lines agent (policy_rows bs ns h qs))
+pub agents_are_lines : (h : ℕ) (bs ns : List ℕ) (qs : List PolicyTree) → AreSmall bs → IsJointPolicy h bs ns qs
+    → (agent : ℕ) → agent + length bs < 10 ^ 64 → AreLines (agent_lines agent (policy_rows bs ns h qs))
 agents_are_lines h _ _ _ small no_agents agent few = tt
 agents_are_lines h (b ∷ bs) (n ∷ ns) (q ∷ qs) small (and_agent is iss) agent few = (
   ((assumption, (decimal_item agent (omega arith), tt)), tt),
@@ -70,7 +72,8 @@ actions_small m is = small_factors m.actions 256 (omega arith) is.sizes.some_act
 -- ---- policies
 
 -- the lines of the text of a joint policy are lines
-policy_are_lines : (m : Model) → IsModel m → (h : ℕ) (qs : List PolicyTree) → Allows horizon_form (pos h ∷ []) → IsPolicyOf m h qs → AreLines (policy_lines m.actions m.observations h qs)
+policy_are_lines : (m : Model) → IsModel m → (h : ℕ) (qs : List PolicyTree) → Allows horizon_form (pos h ∷ [])
+    → IsPolicyOf m h qs → AreLines (policy_lines m.actions m.observations h qs)
 policy_are_lines m is h qs horizon policy =
     let agents = is.sizes.agents_limit in (
       (assumption, tt),
@@ -83,7 +86,8 @@ policy_are_lines m is h qs horizon policy =
     )
 
 -- every joint policy of a horizon of 32 bits has a text
-pub policy_has_text : (m : Model) → IsModel m → (h : ℕ) (qs : List PolicyTree) → 0 < h → h < 2 ^ 32 → IsPolicyOf m h qs → IsPolicyText m (policy_text m.actions m.observations h qs) h qs
+pub policy_has_text : (m : Model) → IsModel m → (h : ℕ) (qs : List PolicyTree) → 0 < h → h < 2 ^ 32
+    → IsPolicyOf m h qs → IsPolicyText m (policy_text m.actions m.observations h qs) h qs
 policy_has_text m is h qs some wide policy = record {
   policy = policy;
   allowed = allowed_of (policy_lines m.actions m.observations h qs) (policy_are_lines m is h qs (omega arith, omega arith, omega arith, tt) policy);
@@ -91,19 +95,23 @@ policy_has_text m is h qs some wide policy = record {
 }
 
 -- the line of a horizon determines it
-pub horizon_line_injective : (h k : ℕ) → Allows horizon_form (pos h ∷ []) → Allows horizon_form (pos k ∷ []) → line_text horizon_form (pos h ∷ []) ≡ line_text horizon_form (pos k ∷ []) → h ≡ k
+pub horizon_line_injective : (h k : ℕ) → Allows horizon_form (pos h ∷ []) → Allows horizon_form (pos k ∷ [])
+    → line_text horizon_form (pos h ∷ []) ≡ line_text horizon_form (pos k ∷ []) → h ≡ k
 horizon_line_injective h k p q e = ap (λ (l : List ℤ). unsigned_abs (get_or l 0 (pos 0))) (line_text_injective horizon_form (pos h ∷ []) (pos k ∷ []) (assumption) p q e)
 
 -- where the horizons are equal, the lines of all agents of a model determine the policy, and what follows them
-pub all_agent_lines_injective : (m : Model) → IsModel m → (h k : ℕ) (qs ps : List PolicyTree) → h ≡ k → 0 < h → IsPolicyOf m h qs → IsPolicyOf m k ps → (more others : List Line)
-    → map bytes_of (agent_lines 0 (policy_rows m.actions m.observations h qs) ++ more) ≡ map bytes_of (agent_lines 0 (policy_rows m.actions m.observations k ps) ++ others)
+pub all_agent_lines_injective : (m : Model) → IsModel m → (h k : ℕ) (qs ps : List PolicyTree) → h ≡ k → 0 < h
+    → IsPolicyOf m h qs → IsPolicyOf m k ps → (more others : List Line)
+    → map bytes_of (agent_lines 0 (policy_rows m.actions m.observations h qs) ++ more)
+    ≡ map bytes_of (agent_lines 0 (policy_rows m.actions m.observations k ps) ++ others)
     → (qs ≡ ps) × (map bytes_of more ≡ map bytes_of others)
 all_agent_lines_injective m is h k qs ps same some mine yours more others e =
     agent_lines_injective h m.actions m.observations qs ps some (actions_small m is) mine (subst (λ (x : ℕ). IsPolicyOf m x ps) (sym same) yours) 0 more others
     (subst (λ (x : ℕ). map bytes_of (agent_lines 0 (policy_rows m.actions m.observations h qs) ++ more) ≡ map bytes_of (agent_lines 0 (policy_rows m.actions m.observations x ps) ++ others)) (sym same) e)
 
 -- a text is that of one joint policy of one horizon
-pub policy_text_injective : (m : Model) → IsModel m → (bytes : List ℕ) (h k : ℕ) (qs ps : List PolicyTree) → IsPolicyText m bytes h qs → IsPolicyText m bytes k ps → (h ≡ k) × (qs ≡ ps)
+pub policy_text_injective : (m : Model) → IsModel m → (bytes : List ℕ) (h k : ℕ) (qs ps : List PolicyTree)
+    → IsPolicyText m bytes h qs → IsPolicyText m bytes k ps → (h ≡ k) × (qs ≡ ps)
 unfolding policy_text bytes_of
 policy_text_injective m is bytes h k qs ps mine yours =
     let lines = text_of_lines_injective (policy_lines m.actions m.observations h qs) (policy_lines m.actions m.observations k ps)

@@ -33,22 +33,32 @@ ArithmeticIsSound = (m : Model) → IsModel m → (e : Bool) → IsSound m (arit
 abbrev pub WeighEach : Model → Enclosure → ℕ → (ℕ → ℕ) → (ℕ → Span) → Type 0
 WeighEach m R T w spans = (s : ℕ) → s < m.states → R.Weighs T (w s) (spans s)
 
--- What an arithmetic computes for each quantity encloses its exact definition. (Under `equality` it is the exact number; under `containment` a span round it or a number above it, weights in 10^-12 and values in 10^-9.)
+-- What an arithmetic computes for each quantity encloses its exact definition. (Under `equality` it is the exact
+-- number; under `containment` a span round it or a number above it, weights in 10^-12 and values in 10^-9.)
 pub record EnclosesQuantities (m : Model) (A : Arithmetic) (R : Enclosure) : Type 0 where
   -- weights of joint histories and of joint classes, and the weights one step on
-  pub history_weights : (act : List ℕ → ℕ) (t : ℕ) (H : List ℕ) (s : ℕ) → IsJointHistory (joint_observations m) t H → R.Weighs (m.scales.start * step_scale m ^ t) (history_weight m act H s) (history_weight_in A m act H s)
-  pub class_weights : (F : Front) (C s : ℕ) → R.Weighs (m.scales.start * step_scale m ^ F.stage) (class_weight m F C s) (class_weight_in A m F C s)
-  pub next_weights : (T : ℕ) (w : ℕ → ℕ) (spans : ℕ → Span) (a o t : ℕ) → WeighEach m R T w spans → R.Weighs (T * step_scale m) (weights_after m w a o t) (weights_after_in A m spans a o t)
+  pub history_weights : (act : List ℕ → ℕ) (t : ℕ) (H : List ℕ) (s : ℕ) → IsJointHistory (joint_observations m) t H
+      → R.Weighs (m.scales.start * step_scale m ^ t) (history_weight m act H s) (history_weight_in A m act H s)
+  pub class_weights : (F : Front) (C s : ℕ)
+      → R.Weighs (m.scales.start * step_scale m ^ F.stage) (class_weight m F C s) (class_weight_in A m F C s)
+  pub next_weights : (T : ℕ) (w : ℕ → ℕ) (spans : ℕ → Span) (a o t : ℕ) → WeighEach m R T w spans
+      → R.Weighs (T * step_scale m) (weights_after m w a o t) (weights_after_in A m spans a o t)
   -- the reward of a joint action, what is earned before a stage, and the worth of a joint policy
-  pub rewards : (T r : ℕ) (w : ℕ → ℕ) (spans : ℕ → Span) (a : ℕ) → WeighEach m R T w spans → R.Earns (T * (m.scales.reward * step_scale m ^ suc r)) (weighted_reward m r w a) (weighted_reward_in A m r spans a)
-  pub earned_rewards : (act : List ℕ → ℕ) (h f : ℕ) → f ≤ h → R.Earns (value_scale m h) (earned_reward m act h f) (earned_reward_in A m act h f)
-  pub worths : (h : ℕ) (qs : List PolicyTree) → R.Earns (value_scale m h) (policy_value m h qs) (forward_worth_in A m h qs)
+  pub rewards : (T r : ℕ) (w : ℕ → ℕ) (spans : ℕ → Span) (a : ℕ) → WeighEach m R T w spans
+      → R.Earns (T * (m.scales.reward * step_scale m ^ suc r)) (weighted_reward m r w a) (weighted_reward_in A m r spans a)
+  pub earned_rewards : (act : List ℕ → ℕ) (h f : ℕ) → f ≤ h
+      → R.Earns (value_scale m h) (earned_reward m act h f) (earned_reward_in A m act h f)
+  pub worths : (h : ℕ) (qs : List PolicyTree)
+      → R.Earns (value_scale m h) (policy_value m h qs) (forward_worth_in A m h qs)
   -- the table, look-ahead, look-ahead of a joint action, and the bound of a front
   pub tables : (r s : ℕ) → R.Tops (m.scales.reward * step_scale m ^ r) (mdp_table m r s) (mdp_table_in A m r s)
-  pub look_aheads : (T r k : ℕ) (w : ℕ → ℕ) (spans : ℕ → Span) → WeighEach m R T w spans → R.Tops (T * (m.scales.reward * step_scale m ^ r)) (look_ahead m r w k) (look_ahead_in A m r spans k)
-  pub action_look_aheads : (T r k : ℕ) (w : ℕ → ℕ) (spans : ℕ → Span) (a : ℕ) → WeighEach m R T w spans →
-      R.Tops (T * (m.scales.reward * step_scale m ^ suc r)) (action_look_ahead m r w a k) (action_look_ahead_in A m r spans a k)
-  pub bounds : (r : ℕ) (F : Front) (look : ℕ) → R.Tops (value_scale m (F.stage + r)) (bound_of m r F look) (bound_in A m r F look)
+  pub look_aheads : (T r k : ℕ) (w : ℕ → ℕ) (spans : ℕ → Span) → WeighEach m R T w spans
+      → R.Tops (T * (m.scales.reward * step_scale m ^ r)) (look_ahead m r w k) (look_ahead_in A m r spans k)
+  pub action_look_aheads : (T r k : ℕ) (w : ℕ → ℕ) (spans : ℕ → Span) (a : ℕ) → WeighEach m R T w spans
+      → R.Tops (T * (m.scales.reward * step_scale m ^ suc r)) (action_look_ahead m r w a k)
+        (action_look_ahead_in A m r spans a k)
+  pub bounds : (r : ℕ) (F : Front) (look : ℕ)
+      → R.Tops (value_scale m (F.stage + r)) (bound_of m r F look) (bound_in A m r F look)
 
 -- the exact arithmetic gives the number of each exact definition
 abbrev pub ExactArithmeticGivesTheNumbers : Type 0
@@ -60,10 +70,13 @@ OutwardArithmeticEnclosesTheNumbers = (m : Model) → IsModel m → EnclosesQuan
 
 -- the same of either mode
 abbrev pub ArithmeticEnclosesTheNumbers : Type 0
-ArithmeticEnclosesTheNumbers = (m : Model) → IsModel m → (e : Bool) → EnclosesQuantities m (arithmetic e m.scales) (enclosure e)
+ArithmeticEnclosesTheNumbers =
+    (m : Model) → IsModel m → (e : Bool) → EnclosesQuantities m (arithmetic e m.scales) (enclosure e)
 
 -- ---- the recursion that pushes weights forwards along the trees
 
 -- it gives the forward worth, in any arithmetic
 abbrev pub RecursionGivesForwardWorth : Type 0
-RecursionGivesForwardWorth = (A : Arithmetic) (m : Model) (h : ℕ) (qs : List PolicyTree) → recursive_worth_in A m h (λ s. A.start (start_at m s)) qs ≡ forward_worth_in A m h qs
+RecursionGivesForwardWorth =
+    (A : Arithmetic) (m : Model) (h : ℕ) (qs : List PolicyTree) →
+    recursive_worth_in A m h (λ s. A.start (start_at m s)) qs ≡ forward_worth_in A m h qs

@@ -16,8 +16,11 @@ EndsAreInOrder = (m : Model) (c : Certificate) → IsModel m → IsValid m c →
 
 -- in exact mode the lower end is the value of the policy
 abbrev pub LowerEndIsTheValue : Type 0
-LowerEndIsTheValue = (m : Model) (c : Certificate) → IsValid m c → c.is_exact ≡ true → c.lower ≡ policy_value m c.horizon c.policy
+LowerEndIsTheValue =
+    (m : Model) (c : Certificate) → IsValid m c → c.is_exact ≡ true → c.lower ≡ policy_value m c.horizon c.policy
 
 -- in exact mode a closed certificate has equal ends and an optimal policy
 abbrev pub ClosedCertificatesAreOptimal : Type 0
-ClosedCertificatesAreOptimal = (m : Model) (c : Certificate) → IsModel m → IsValid m c → IsClosed m c → c.is_exact ≡ true → (c.lower ≡ c.upper) × IsOptimal m c.horizon c.policy
+ClosedCertificatesAreOptimal =
+    (m : Model) (c : Certificate) → IsModel m → IsValid m c → IsClosed m c → c.is_exact ≡ true →
+    (c.lower ≡ c.upper) × IsOptimal m c.horizon c.policy

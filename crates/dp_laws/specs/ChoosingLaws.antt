@@ -1,4 +1,5 @@
--- Choosing an action for a class changes no weight and nothing that is earned, and equivalence of classes does not depend on choices.
+-- Choosing an action for a class changes no weight and nothing that is earned, and equivalence of classes does not
+-- depend on choices.
 use Rattle.std.specs.Prelude.{ℕ, ◌≡◌, ◌↔◌, List}
 use Rattle.dp_spec.specs.Model.{Model}
 use Rattle.dp_spec.specs.JointHistory.{earned_reward}
@@ -19,4 +20,5 @@ ChoosingChangesNoWeight = (m : Model) (F : Front) (i c a : ℕ) → WeighAlike m
 
 abbrev pub EquivalenceIgnoresChoices : Type 0
 EquivalenceIgnoresChoices =
-    (m : Model) (F : Front) (i c a j first second : ℕ) → (AreEquivalent m (chosen_front F i c a) j first second) ↔ (AreEquivalent m F j first second)
+    (m : Model) (F : Front) (i c a j first second : ℕ) →
+    (AreEquivalent m (chosen_front F i c a) j first second) ↔ (AreEquivalent m F j first second)

@@ -13,29 +13,36 @@ use Rattle.dp_spec.specs.Merge.{merged_front}
 -- no policy that keeps a front from whose stage on r steps are left is worth more than its bound, with any look
 abbrev pub NoKeepingPolicyAboveBound : Type 0
 NoKeepingPolicyAboveBound =
-    (m : Model) → IsModel m → (h r look : ℕ) (F : Front) (qs : List PolicyTree) → IsFront m h F → F.stage + r ≡ h → IsPolicyOf m h qs → KeepsFront m F qs →
+    (m : Model) → IsModel m → (h r look : ℕ) (F : Front) (qs : List PolicyTree) → IsFront m h F → F.stage + r ≡ h →
+    IsPolicyOf m h qs → KeepsFront m F qs →
     policy_value m h qs ≤ℤ bound_of m r F look
 
 -- a bound does not grow where an unassigned class is given an action of its agent (exact numbers)
 abbrev pub ChoosingNeverRaisesBound : Type 0
 ChoosingNeverRaisesBound =
-    (m : Model) → IsModel m → (h r look : ℕ) (F : Front) (i c a : ℕ) → IsFront m h F → F.stage < h → IsUnassigned i c F.agents → a < get_or m.actions i 0 →
+    (m : Model) → IsModel m → (h r look : ℕ) (F : Front) (i c a : ℕ) → IsFront m h F → F.stage < h →
+    IsUnassigned i c F.agents → a < get_or m.actions i 0 →
     bound_of m r (chosen_front F i c a) look ≤ℤ bound_of m r F look
 
 -- a bound with a look of at least 1 does not grow where a complete front goes on to the next stage (exact numbers)
 abbrev pub AdvancingNeverRaisesBound : Type 0
 AdvancingNeverRaisesBound =
-    (m : Model) → IsModel m → (h r look : ℕ) (F : Front) → IsFront m h F → F.stage < h → is_complete F.agents ≡ true → 0 < look →
+    (m : Model) → IsModel m → (h r look : ℕ) (F : Front) → IsFront m h F → F.stage < h → is_complete F.agents ≡ true →
+    0 < look →
     bound_of m r (advanced_front m F) look ≤ℤ bound_of m (suc r) F look
 
 -- a bound does not grow where two unassigned classes are merged, equivalent or not (exact numbers)
 abbrev pub MergingNeverRaisesBound : Type 0
 MergingNeverRaisesBound =
-    (m : Model) (h r look : ℕ) (F : Front) (i a b : ℕ) → IsFront m h F → F.stage < h → a < b → IsUnassigned i a F.agents → IsUnassigned i b F.agents →
+    (m : Model) (h r look : ℕ) (F : Front) (i a b : ℕ) → IsFront m h F → F.stage < h → a < b →
+    IsUnassigned i a F.agents → IsUnassigned i b F.agents →
     bound_of m r (merged_front F i a b) look ≤ℤ bound_of m r F look
 
--- a bound with a look of at least 1 does not grow by a choice and the advance that may follow, where r steps are left before and left steps after it (exact numbers)
+-- a bound with a look of at least 1 does not grow by a choice and the advance that may follow, where r steps are left
+-- before and left steps after it (exact numbers)
 abbrev pub ChoiceNeverRaisesBound : Type 0
 ChoiceNeverRaisesBound =
-    (m : Model) → IsModel m → (h r left look : ℕ) (F : Front) (i c a : ℕ) → IsFront m h F → F.stage < h → IsUnassigned i c F.agents → a < get_or m.actions i 0 → 0 < look →
-    F.stage + r ≡ h → (front_after_choice m F i c a).stage + left ≡ h → bound_of m left (front_after_choice m F i c a) look ≤ℤ bound_of m r F look
+    (m : Model) → IsModel m → (h r left look : ℕ) (F : Front) (i c a : ℕ) → IsFront m h F → F.stage < h →
+    IsUnassigned i c F.agents → a < get_or m.actions i 0 → 0 < look →
+    F.stage + r ≡ h → (front_after_choice m F i c a).stage + left ≡ h →
+    bound_of m left (front_after_choice m F i c a) look ≤ℤ bound_of m r F look

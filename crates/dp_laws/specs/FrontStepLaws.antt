@@ -11,39 +11,46 @@ use Rattle.dp_spec.specs.Merge.{merged_front}
 -- a well-formed front stays so where an unassigned class is given an action of its agent
 abbrev pub ChoosingKeepsWellFormed : Type 0
 ChoosingKeepsWellFormed =
-    (m : Model) (h : ℕ) (F : Front) (i c a : ℕ) → IsFront m h F → F.stage < h → IsUnassigned i c F.agents → a < get_or m.actions i 0 →
+    (m : Model) (h : ℕ) (F : Front) (i c a : ℕ) → IsFront m h F → F.stage < h → IsUnassigned i c F.agents →
+    a < get_or m.actions i 0 →
     IsFront m h (chosen_front F i c a)
 
 -- where a complete front goes on to the next stage
 abbrev pub AdvancingKeepsWellFormed : Type 0
 AdvancingKeepsWellFormed =
-    (m : Model) (h : ℕ) (F : Front) → IsFront m h F → F.stage < h → is_complete F.agents ≡ true → IsFront m h (advanced_front m F)
+    (m : Model) (h : ℕ) (F : Front) → IsFront m h F → F.stage < h → is_complete F.agents ≡ true →
+    IsFront m h (advanced_front m F)
 
 -- where two unassigned classes are merged
 abbrev pub MergingKeepsWellFormed : Type 0
 MergingKeepsWellFormed =
-    (m : Model) (h : ℕ) (F : Front) (i a b : ℕ) → IsFront m h F → F.stage < h → a < b → IsUnassigned i a F.agents → IsUnassigned i b F.agents →
+    (m : Model) (h : ℕ) (F : Front) (i a b : ℕ) → IsFront m h F → F.stage < h → a < b → IsUnassigned i a F.agents →
+    IsUnassigned i b F.agents →
     IsFront m h (merged_front F i a b)
 
 -- after a choice, and the advance where it follows
 abbrev pub FrontAfterChoiceIsWellFormed : Type 0
 FrontAfterChoiceIsWellFormed =
-    (m : Model) (h : ℕ) (F : Front) (i c a : ℕ) → IsFront m h F → F.stage < h → IsUnassigned i c F.agents → a < get_or m.actions i 0 →
+    (m : Model) (h : ℕ) (F : Front) (i c a : ℕ) → IsFront m h F → F.stage < h → IsUnassigned i c F.agents →
+    a < get_or m.actions i 0 →
     IsFront m h (front_after_choice m F i c a)
 
 -- a policy that keeps a front keeps one of its fronts after a choice of any unassigned class
 abbrev pub KeepingPolicyMakesChoice : Type 0
 KeepingPolicyMakesChoice =
-    (m : Model) (h : ℕ) (F : Front) (qs : List PolicyTree) (i c : ℕ) → IsFront m h F → F.stage < h → IsPolicyOf m h qs → KeepsFront m F qs → IsUnassigned i c F.agents →
+    (m : Model) (h : ℕ) (F : Front) (qs : List PolicyTree) (i c : ℕ) → IsFront m h F → F.stage < h →
+    IsPolicyOf m h qs → KeepsFront m F qs → IsUnassigned i c F.agents →
     (a : ℕ) × (a < get_or m.actions i 0) × KeepsFront m (chosen_front F i c a) qs
 
 -- a policy that keeps a complete front keeps the advanced front
 abbrev pub KeepingPolicyAdvances : Type 0
 KeepingPolicyAdvances =
-    (m : Model) (h : ℕ) (F : Front) (qs : List PolicyTree) → IsFront m h F → KeepsFront m F qs → is_complete F.agents ≡ true → KeepsFront m (advanced_front m F) qs
+    (m : Model) (h : ℕ) (F : Front) (qs : List PolicyTree) → IsFront m h F → KeepsFront m F qs →
+    is_complete F.agents ≡ true → KeepsFront m (advanced_front m F) qs
 
 -- a policy that keeps a front keeps one of its fronts after a choice, and after the advance where it follows
 abbrev pub KeepingPolicyGoesOn : Type 0
 KeepingPolicyGoesOn =
-    (m : Model) (h : ℕ) (F : Front) (qs : List PolicyTree) (i c : ℕ) → IsFront m h F → F.stage < h → IsPolicyOf m h qs → KeepsFront m F qs → IsUnassigned i c F.agents →
+    (m : Model) (h : ℕ) (F : Front) (qs : List PolicyTree) (i c : ℕ) → IsFront m h F → F.stage < h →
+    IsPolicyOf m h qs → KeepsFront m F qs → IsUnassigned i c F.agents →
     (a : ℕ) × (a < get_or m.actions i 0) × KeepsFront m (front_after_choice m F i c a) qs

@@ -11,7 +11,9 @@ use Rattle.dp_spec.specs.WellFormed.{IsFront}
 
 -- what a well-formed full front fixes is a joint policy, and keeps the front
 abbrev pub FullPolicyKeepsItsFront : Type 0
-FullPolicyKeepsItsFront = (m : Model) (h : ℕ) (F : Front) → IsFront m h F → F.stage ≡ h → IsPolicyOf m h (full_policy m F) × KeepsFront m F (full_policy m F)
+FullPolicyKeepsItsFront =
+    (m : Model) (h : ℕ) (F : Front) → IsFront m h F → F.stage ≡ h →
+    IsPolicyOf m h (full_policy m F) × KeepsFront m F (full_policy m F)
 
 -- two joint policies of some steps that keep one full front are equal
 abbrev pub FullFrontHasOnePolicy : Type 0
@@ -21,4 +23,6 @@ FullFrontHasOnePolicy =
 
 -- the value of a joint policy that keeps a full front is what the front earns
 abbrev pub FullFrontEarnsTheValue : Type 0
-FullFrontEarnsTheValue = (m : Model) (h : ℕ) (F : Front) (qs : List PolicyTree) → F.stage ≡ h → KeepsFront m F qs → policy_value m h qs ≡ earned_reward m (fixed_joint_action m F) h h
+FullFrontEarnsTheValue =
+    (m : Model) (h : ℕ) (F : Front) (qs : List PolicyTree) → F.stage ≡ h → KeepsFront m F qs →
+    policy_value m h qs ≡ earned_reward m (fixed_joint_action m F) h h

@@ -10,10 +10,12 @@ use Rattle.dp_spec.specs.Steps.{root_front}
 
 -- a constant policy is a joint policy of the model
 abbrev pub ConstantPolicyIsPolicy : Type 0
-ConstantPolicyIsPolicy = (m : Model) → IsModel m → (h a : ℕ) → a < joint_actions m → IsPolicyOf m h (constant_policy m h a)
+ConstantPolicyIsPolicy =
+    (m : Model) → IsModel m → (h a : ℕ) → a < joint_actions m → IsPolicyOf m h (constant_policy m h a)
 
 -- with any look
 abbrev pub RootBoundIsBestConstantAction : Type 0
 RootBoundIsBestConstantAction =
     (m : Model) → IsModel m → (look : ℕ) →
-    bound_of m 1 (root_front m) look ≡ greatest (λ a. policy_value m 1 (constant_policy m 1 a)) (numbers_below (joint_actions m))
+    bound_of m 1 (root_front m) look ≡
+    greatest (λ a. policy_value m 1 (constant_policy m 1 a)) (numbers_below (joint_actions m))

@@ -22,7 +22,8 @@ LookAheadBoundsEveryPolicy =
 -- the same of the joint policies that begin with joint action a
 abbrev pub ActionLookAheadBoundsEveryPolicy : Type 0
 ActionLookAheadBoundsEveryPolicy =
-    (m : Model) → IsModel m → (r k : ℕ) (w : ℕ → ℕ) (a : ℕ) (qs : List PolicyTree) → IsPolicyOf m (suc r) qs → joint_root_action m qs ≡ a →
+    (m : Model) → IsModel m → (r k : ℕ) (w : ℕ → ℕ) (a : ℕ) (qs : List PolicyTree) → IsPolicyOf m (suc r) qs →
+    joint_root_action m qs ≡ a →
     int_sum m.states (λ s. pos (w s) *ℤ backward_value m (suc r) s qs) ≤ℤ action_look_ahead m r w a k
 
 -- a longer look gives no greater look-ahead
@@ -33,4 +34,5 @@ MoreLookNeverRaises =
 -- the same where a joint action is done first
 abbrev pub MoreLookNeverRaisesAction : Type 0
 MoreLookNeverRaisesAction =
-    (m : Model) → IsModel m → (r k l : ℕ) (w : ℕ → ℕ) (a : ℕ) → k ≤ l → action_look_ahead m r w a l ≤ℤ action_look_ahead m r w a k
+    (m : Model) → IsModel m → (r k l : ℕ) (w : ℕ → ℕ) (a : ℕ) → k ≤ l →
+    action_look_ahead m r w a l ≤ℤ action_look_ahead m r w a k

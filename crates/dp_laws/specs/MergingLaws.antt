@@ -9,17 +9,22 @@ use Rattle.dp_spec.specs.Keeping.{KeepsFront}
 use Rattle.dp_spec.specs.Steps.{IsUnassigned}
 use Rattle.dp_spec.specs.Merge.{AreEquivalent, class_total, merged_front}
 
--- For each joint policy that keeps a front, where a and b are two classes of agent i that are equivalent and have no action, some joint policy that keeps the merged front is worth at least as much. (Nothing is asked of the totals of the classes: they may be 0.)
+-- For each joint policy that keeps a front, where a and b are two classes of agent i that are equivalent and have no
+-- action, some joint policy that keeps the merged front is worth at least as much. (Nothing is asked of the totals of
+-- the classes: they may be 0.)
 abbrev pub MergingLosesNothing : Type 0
 MergingLosesNothing =
-    (m : Model) (h : ℕ) (F : Front) (i a b : ℕ) → IsFront m h F → F.stage < h → a < b → IsUnassigned i a F.agents → IsUnassigned i b F.agents → AreEquivalent m F i a b →
+    (m : Model) (h : ℕ) (F : Front) (i a b : ℕ) → IsFront m h F → F.stage < h → a < b → IsUnassigned i a F.agents →
+    IsUnassigned i b F.agents → AreEquivalent m F i a b →
     (qs : List PolicyTree) → IsPolicyOf m h qs → KeepsFront m F qs →
-    (new : List PolicyTree) × IsPolicyOf m h new × KeepsFront m (merged_front F i a b) new × (policy_value m h qs ≤ℤ policy_value m h new)
+    (new : List PolicyTree) × IsPolicyOf m h new × KeepsFront m (merged_front F i a b) new
+    × (policy_value m h qs ≤ℤ policy_value m h new)
 
 -- whoever keeps the merged front keeps the front
 abbrev pub KeepingTheMergedKeepsTheFront : Type 0
 KeepingTheMergedKeepsTheFront =
-    (m : Model) (F : Front) (i a b : ℕ) → a < b → IsUnassigned i b F.agents → (qs : List PolicyTree) → KeepsFront m (merged_front F i a b) qs → KeepsFront m F qs
+    (m : Model) (F : Front) (i a b : ℕ) → a < b → IsUnassigned i b F.agents → (qs : List PolicyTree) →
+    KeepsFront m (merged_front F i a b) qs → KeepsFront m F qs
 
 -- a class of total 0 is equivalent to every class
 abbrev pub EmptyClassesAreEquivalent : Type 0

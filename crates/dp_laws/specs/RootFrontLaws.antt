@@ -12,4 +12,5 @@ RootFrontIsWellFormed = (m : Model) (h : ℕ) → IsModel m → IsFront m h (roo
 
 -- every joint policy keeps the root front
 abbrev pub EveryPolicyKeepsTheRootFront : Type 0
-EveryPolicyKeepsTheRootFront = (m : Model) (h : ℕ) (qs : List PolicyTree) → IsPolicyOf m h qs → KeepsFront m (root_front m) qs
+EveryPolicyKeepsTheRootFront =
+    (m : Model) (h : ℕ) (qs : List PolicyTree) → IsPolicyOf m h qs → KeepsFront m (root_front m) qs

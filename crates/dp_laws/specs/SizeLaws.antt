@@ -16,24 +16,33 @@ use Rattle.dp_spec.specs.SizesOfTable.{CanTabulate}
 
 -- the next weights
 abbrev pub ModeAllowsPushes : Type 0
-ModeAllowsPushes = (m : Model) → IsModel m → (h : ℕ) → 0 < h → h ≤ 24 → (e : Bool) → e ≡ is_exact_mode m h → CanPush (arithmetic e m.scales) (calls_in e m.scales) m h
+ModeAllowsPushes =
+    (m : Model) → IsModel m → (h : ℕ) → 0 < h → h ≤ 24 → (e : Bool) → e ≡ is_exact_mode m h →
+    CanPush (arithmetic e m.scales) (calls_in e m.scales) m h
 
 -- the reward of a joint action
 abbrev pub ModeAllowsRewards : Type 0
-ModeAllowsRewards = (m : Model) → IsModel m → (h : ℕ) → 0 < h → h ≤ 24 → (e : Bool) → e ≡ is_exact_mode m h → CanReward (arithmetic e m.scales) (calls_in e m.scales) m h
+ModeAllowsRewards =
+    (m : Model) → IsModel m → (h : ℕ) → 0 < h → h ≤ 24 → (e : Bool) → e ≡ is_exact_mode m h →
+    CanReward (arithmetic e m.scales) (calls_in e m.scales) m h
 
 -- the table of the Markov decision process
 abbrev pub ModeAllowsTable : Type 0
-ModeAllowsTable = (m : Model) → IsModel m → (h : ℕ) → 0 < h → h ≤ 24 → (e : Bool) → e ≡ is_exact_mode m h → CanTabulate (arithmetic e m.scales) (calls_in e m.scales) m h
+ModeAllowsTable =
+    (m : Model) → IsModel m → (h : ℕ) → 0 < h → h ≤ 24 → (e : Bool) → e ≡ is_exact_mode m h →
+    CanTabulate (arithmetic e m.scales) (calls_in e m.scales) m h
 
 -- look-ahead
 abbrev pub ModeAllowsLookAhead : Type 0
-ModeAllowsLookAhead = (m : Model) → IsModel m → (h : ℕ) → 0 < h → h ≤ 24 → (e : Bool) → e ≡ is_exact_mode m h → CanLookAhead (arithmetic e m.scales) (calls_in e m.scales) m h
+ModeAllowsLookAhead =
+    (m : Model) → IsModel m → (h : ℕ) → 0 < h → h ≤ 24 → (e : Bool) → e ≡ is_exact_mode m h →
+    CanLookAhead (arithmetic e m.scales) (calls_in e m.scales) m h
 
 -- the weights of a joint history are within the sum bound of its time
 abbrev pub HistoryWeightsAreWithinBound : Type 0
 HistoryWeightsAreWithinBound =
-    (m : Model) → IsModel m → (h : ℕ) → 0 < h → h ≤ 24 → (e : Bool) → e ≡ is_exact_mode m h → (act : List ℕ → ℕ) (t : ℕ) (H : List ℕ) → t ≤ h → IsActing m t act → IsJointHistory (joint_observations m) t H →
+    (m : Model) → IsModel m → (h : ℕ) → 0 < h → h ≤ 24 → (e : Bool) → e ≡ is_exact_mode m h →
+    (act : List ℕ → ℕ) (t : ℕ) (H : List ℕ) → t ≤ h → IsActing m t act → IsJointHistory (joint_observations m) t H →
     AreWeights e m t (history_weight_in (arithmetic e m.scales) m act H)
 
 -- ---- sums along joint histories, in outward mode within the limit of stage cells
@@ -41,24 +50,29 @@ HistoryWeightsAreWithinBound =
 -- what is earned
 abbrev pub ModeAllowsEarnings : Type 0
 ModeAllowsEarnings =
-    (m : Model) → IsModel m → (h : ℕ) → 0 < h → h ≤ 24 → (e : Bool) → e ≡ is_exact_mode m h → (e ≡ false → m.states * joint_observations m ^ (h - 1) ≤ 2 ^ 22) → CanEarn (arithmetic e m.scales) m h
+    (m : Model) → IsModel m → (h : ℕ) → 0 < h → h ≤ 24 → (e : Bool) → e ≡ is_exact_mode m h →
+    (e ≡ false → m.states * joint_observations m ^ (h - 1) ≤ 2 ^ 22) → CanEarn (arithmetic e m.scales) m h
 
 -- the worth of a joint policy
 abbrev pub ModeAllowsWorth : Type 0
 ModeAllowsWorth =
-    (m : Model) → IsModel m → (h : ℕ) → 0 < h → h ≤ 24 → (e : Bool) → e ≡ is_exact_mode m h → (e ≡ false → m.states * joint_observations m ^ (h - 1) ≤ 2 ^ 22) → CanEvaluate (arithmetic e m.scales) m h
+    (m : Model) → IsModel m → (h : ℕ) → 0 < h → h ≤ 24 → (e : Bool) → e ≡ is_exact_mode m h →
+    (e ≡ false → m.states * joint_observations m ^ (h - 1) ≤ 2 ^ 22) → CanEvaluate (arithmetic e m.scales) m h
 
 -- the weights of joint classes
 abbrev pub ModeAllowsClassWeights : Type 0
 ModeAllowsClassWeights =
-    (m : Model) → IsModel m → (h : ℕ) → 0 < h → h ≤ 24 → (e : Bool) → e ≡ is_exact_mode m h → (e ≡ false → m.states * joint_observations m ^ (h - 1) ≤ 2 ^ 22) → CanClassify (arithmetic e m.scales) m h
+    (m : Model) → IsModel m → (h : ℕ) → 0 < h → h ≤ 24 → (e : Bool) → e ≡ is_exact_mode m h →
+    (e ≡ false → m.states * joint_observations m ^ (h - 1) ≤ 2 ^ 22) → CanClassify (arithmetic e m.scales) m h
 
 -- the bound of a front
 abbrev pub ModeAllowsBounds : Type 0
 ModeAllowsBounds =
-    (m : Model) → IsModel m → (h : ℕ) → 0 < h → h ≤ 24 → (e : Bool) → e ≡ is_exact_mode m h → (e ≡ false → m.states * joint_observations m ^ (h - 1) ≤ 2 ^ 22) → CanBound (arithmetic e m.scales) m h
+    (m : Model) → IsModel m → (h : ℕ) → 0 < h → h ≤ 24 → (e : Bool) → e ≡ is_exact_mode m h →
+    (e ≡ false → m.states * joint_observations m ^ (h - 1) ≤ 2 ^ 22) → CanBound (arithmetic e m.scales) m h
 
 -- the advance of a front
 abbrev pub ModeAllowsAdvances : Type 0
 ModeAllowsAdvances =
-    (m : Model) → IsModel m → (h : ℕ) → 0 < h → h ≤ 24 → (e : Bool) → e ≡ is_exact_mode m h → (e ≡ false → m.states * joint_observations m ^ (h - 1) ≤ 2 ^ 22) → CanAdvance (arithmetic e m.scales) m h
+    (m : Model) → IsModel m → (h : ℕ) → 0 < h → h ≤ 24 → (e : Bool) → e ≡ is_exact_mode m h →
+    (e ≡ false → m.states * joint_observations m ^ (h - 1) ≤ 2 ^ 22) → CanAdvance (arithmetic e m.scales) m h

@@ -9,15 +9,19 @@ use Rattle.dp_spec.specs.Fitting.{FitsFront}
 use Rattle.dp_spec.specs.WellFormed.{IsFront}
 use Rattle.dp_spec.specs.Certificate.{Certificate, FitsRoot, IsValid}
 
--- on a path of a tree that fits a well-formed front there are at most as many branches and merges as own histories from the front's stage on
+-- on a path of a tree that fits a well-formed front there are at most as many branches and merges as own histories
+-- from the front's stage on
 abbrev pub PathsBelowAFrontAreShort : Type 0
 PathsBelowAFrontAreShort =
-    (A : Arithmetic) (m : Model) (h look : ℕ) (T : BoundTree) (F : Front) (cap : ℤ) → IsFront m h F → FitsFront A m h look T F cap →
+    (A : Arithmetic) (m : Model) (h look : ℕ) (T : BoundTree) (F : Front) (cap : ℤ) → IsFront m h F →
+    FitsFront A m h look T F cap →
     depth_of T + own_history_count m.observations F.stage ≤ own_history_count m.observations h
 
 -- on a path of a tree that fits the root front there are at most as many as own histories shorter than the horizon
 abbrev pub PathsBelowTheRootAreShort : Type 0
-PathsBelowTheRootAreShort = (A : Arithmetic) (m : Model) (h look : ℕ) (T : BoundTree) → IsModel m → FitsRoot A m h look T → depth_of T ≤ own_history_count m.observations h
+PathsBelowTheRootAreShort =
+    (A : Arithmetic) (m : Model) (h look : ℕ) (T : BoundTree) → IsModel m → FitsRoot A m h look T →
+    depth_of T ≤ own_history_count m.observations h
 
 -- so a path of a valid certificate's tree has at most 2048 of them
 abbrev pub PathsOfValidTreesAreShort : Type 0

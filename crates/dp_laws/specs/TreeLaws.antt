@@ -6,7 +6,9 @@ use Rattle.dp_spec.specs.FullPolicy.{tree_doing}
 
 -- a tree of r steps does an action of its agent after each own history shorter than r
 abbrev pub ActionsAreOfTheAgent : Type 0
-ActionsAreOfTheAgent = (b n r : ℕ) (q : PolicyTree) → IsPolicyTree b n r q → (t x : ℕ) → t < r → x < n ^ t → root_action (tree_at n q t x) < b
+ActionsAreOfTheAgent =
+    (b n r : ℕ) (q : PolicyTree) → IsPolicyTree b n r q → (t x : ℕ) → t < r → x < n ^ t →
+    root_action (tree_at n q t x) < b
 
 -- two trees of r steps that do the same after each own history shorter than r are equal
 abbrev pub TreesWithEqualActionsAreEqual : Type 0
@@ -18,4 +20,5 @@ TreesWithEqualActionsAreEqual =
 abbrev pub TreeOfAnyActionsExists : Type 0
 TreeOfAnyActionsExists =
     (b n r : ℕ) (act : ℕ → ℕ → ℕ) → ((t x : ℕ) → t < r → x < n ^ t → act t x < b) →
-    IsPolicyTree b n r (tree_doing n act r) × ((t x : ℕ) → t < r → x < n ^ t → root_action (tree_at n (tree_doing n act r) t x) ≡ act t x)
+    IsPolicyTree b n r (tree_doing n act r)
+    × ((t x : ℕ) → t < r → x < n ^ t → root_action (tree_at n (tree_doing n act r) t x) ≡ act t x)

@@ -153,7 +153,8 @@ skips tokens text at len (Err bad) = refl
 module _ {text : List ℕ} {tokens : List Token} {at line : ℕ} (here : IsAt text tokens at line) where
   -- a piece that is a token
   pub keeps_token : (more : ℕ) (class : Class) (kind : Kind) (token : Token) (next_line : ℕ)
-      → IsPiece text at more class (Some kind) → token ≡ record { start = at; end = at + 1 + more; line = line; kind = kind }
+      → IsPiece text at more class (Some kind)
+      → token ≡ record { start = at; end = at + 1 + more; line = line; kind = kind }
       → next_line ≡ line_at text (at + 1 + more) → IsAt text (tokens ++ token ∷ []) (at + 1 + more) next_line
   keeps_token more class kind token next_line piece token_is line_is =
       let len : at + 1 + more ≡ at + suc more = omega arith in
@@ -175,7 +176,8 @@ module _ {text : List ℕ} {tokens : List Token} {at line : ℕ} (here : IsAt te
   }
 
   -- the line behind a line feed is one more
-  pub next_line_feed : (more : ℕ) (class : Class) (kind : Option Kind) → IsPiece text at more class kind → class ≡ LineFeed
+  pub next_line_feed : (more : ℕ) (class : Class) (kind : Option Kind) → IsPiece text at more class kind
+      → class ≡ LineFeed
       → line + 1 ≡ line_at text (at + 1 + more)
   next_line_feed more class kind piece feed =
       let one : cond {A = ℕ} (is_line_feed (get_or text at 0)) 1 0 ≡ 1
@@ -183,7 +185,8 @@ module _ {text : List ℕ} {tokens : List Token} {at line : ℕ} (here : IsAt te
       omega (arith, here.line_is, line_moves piece, one)
 
   -- the line behind another piece is the same
-  pub next_line_other : (more : ℕ) (class : Class) (kind : Option Kind) → IsPiece text at more class kind → (class ≡ LineFeed → ⊥)
+  pub next_line_other : (more : ℕ) (class : Class) (kind : Option Kind) → IsPiece text at more class kind
+      → (class ≡ LineFeed → ⊥)
       → line ≡ line_at text (at + 1 + more)
   next_line_other more class kind piece other =
       let none : cond {A = ℕ} (is_line_feed (get_or text at 0)) 1 0 ≡ 0

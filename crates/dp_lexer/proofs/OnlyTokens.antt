@@ -107,7 +107,8 @@ module _ (text : List ℕ) (at : ℕ) where
   )
 
 -- a token is its four fields
-token_same : (token : Token) (start end line : ℕ) (kind : Kind) → token.start ≡ start → token.end ≡ end → token.line ≡ line
+token_same : (token : Token) (start end line : ℕ) (kind : Kind) → token.start ≡ start → token.end ≡ end
+    → token.line ≡ line
     → token.kind ≡ kind → token ≡ record { start = start; end = end; line = line; kind = kind }
 token_same token start end line kind a b c d = λ i. record { start = a i; end = b i; line = c i; kind = d i }
 
@@ -190,7 +191,8 @@ module _ (text : List ℕ) where
           ap (λ m. filter (is_kept text) (range_with_len at m)) more
           ∙ ap (λ v. cond v (at ∷ kept_from text (at + 1)) (kept_from text (at + 1))) parts.0
 
-      not_kept : (tokens : List Token) → All (IsTokenOf text) tokens → flat_map offsets_of tokens ≡ at ∷ kept_from text (at + 1)
+      not_kept : (tokens : List Token) → All (IsTokenOf text) tokens
+          → flat_map offsets_of tokens ≡ at ∷ kept_from text (at + 1)
           → ⊥
       not_kept [] each in_place = cc
       not_kept (token ∷ others) each in_place =
@@ -221,7 +223,8 @@ module _ (text : List ℕ) where
       ∙ ap (λ l. Ok l) (sym (none_here tokens each (in_place ∙ ap (λ m. filter (is_kept text) (range_with_len at m)) none)))
 
   -- `fuel` is at least the number of bytes that are left
-  pub only_from : (fuel at : ℕ) (tokens : List Token) → length text ≤ at + fuel → IsOutside text at → All (IsTokenOf text) tokens
+  pub only_from : (fuel at : ℕ) (tokens : List Token) → length text ≤ at + fuel → IsOutside text at
+      → All (IsTokenOf text) tokens
       → flat_map offsets_of tokens ≡ kept_from text at → tokens_at text at ≡ Ok tokens
   only_from zero at tokens enough outside each in_place = ends at tokens (omega arith) each in_place
   only_from (suc fuel) at tokens enough outside each in_place = elim (cases_lt at (length text)) [

@@ -24,7 +24,8 @@ passes text (suc more) at (b ∷ rest) =
     passes text more (at + 1) rest ∙ ap (λ n. tokens_from text 0 n (drop more rest)) on
 
 -- a byte that is not bad does not end the tokens
-not_bad : (class : Class) (at : ℕ) (others : Result (List Token) ℕ) → (class ≡ Bad → ⊥) → unless_bad class at others ≡ others
+not_bad : (class : Class) (at : ℕ) (others : Result (List Token) ℕ) → (class ≡ Bad → ⊥)
+    → unless_bad class at others ≡ others
 not_bad Bad at others good = absurd (good refl)
 not_bad Blank at others good = refl
 not_bad Comment at others good = refl
@@ -62,7 +63,8 @@ module _ (text : List ℕ) (at : ℕ) (inside : at < length text) where
 
     -- the tokens from here on are those behind the piece, and its own where it is one
     pub moves : (class ≡ Bad → ⊥)
-        → tokens_at text at ≡ with_token text at len (kind_of class (take len (drop at text))) (tokens_at text (at + len))
+        → tokens_at text at
+        ≡ with_token text at len (kind_of class (take len (drop at text))) (tokens_at text (at + len))
     unfolding tokens_from
     moves good =
         let b : ℕ = get_or text at 0 in

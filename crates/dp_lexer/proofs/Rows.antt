@@ -14,7 +14,8 @@ abbrev token : ℕ → ℕ → ℕ → Kind → Token
 token start end line kind = record { start = start; end = end; line = line; kind = kind }
 
 -- a comment is left out, and its line end is not
-commented : tokens_of (codes "T: a # x\n") ≡ Ok (token 0 1 1 Word ∷ token 1 2 1 Colon ∷ token 3 4 1 Word ∷ token 8 9 1 LineEnd ∷ [])
+commented : tokens_of (codes "T: a # x\n")
+    ≡ Ok (token 0 1 1 Word ∷ token 1 2 1 Colon ∷ token 3 4 1 Word ∷ token 8 9 1 LineEnd ∷ [])
 unfolding tokens_of tokens_from is_decimal
 commented = refl
 

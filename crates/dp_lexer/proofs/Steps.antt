@@ -56,7 +56,8 @@ all_pass p [] = refl
 all_pass p (x ∷ xs) = more_pass p x xs (p x) refl (all_pass p xs)
 
 -- a run of the bytes of names and numbers is a word or a number
-run_kind : (b : ℕ) (rest : List ℕ) (decimal : Bool) → list_all is_name_byte (b ∷ rest) ≡ true → is_decimal (b ∷ rest) ≡ decimal
+run_kind : (b : ℕ) (rest : List ℕ) (decimal : Bool) → list_all is_name_byte (b ∷ rest) ≡ true
+    → is_decimal (b ∷ rest) ≡ decimal
     → IsOfKind (cond decimal Number Word) (b ∷ rest)
 unfolding is_word
 run_kind b rest true named decimal = (named, decimal)
@@ -182,7 +183,8 @@ module _ (text : List ℕ) (at : ℕ) (inside : at < length text) (outside : IsO
 
   -- a piece that is one byte and a token
   mark : (b : ℕ) (class : Class) (kind : Kind) → byte ≡ b → class ≡ class_of b → (class ≡ Bad → ⊥)
-      → ((others : List ℕ) → more_of class others ≡ 0) → kind_of class (b ∷ []) ≡ Some kind → IsPlain true b → IsOfKind kind (b ∷ [])
+      → ((others : List ℕ) → more_of class others ≡ 0) → kind_of class (b ∷ []) ≡ Some kind → IsPlain true b
+      → IsOfKind kind (b ∷ [])
       → IsLongest kind (get_or text (at + 1) 0) → Step text at
   mark b class kind is class_is good none kind_is plain kind_fits longest =
       let bytes : take 1 (drop at text) ≡ b ∷ [] = ap (take 1) (cut text at inside) ∙ ap (λ x. x ∷ []) is in

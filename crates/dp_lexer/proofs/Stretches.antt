@@ -35,7 +35,8 @@ filter-range p v a (suc n) each = rw (here, filter-range p v (a + 1) n later) (b
     later k lt = let next : a + suc k ≡ a + 1 + k = omega arith in rw next at (each (suc k) (omega arith))
 
     both : (w : Bool)
-        → cond w (a ∷ cond w (range_with_len (a + 1) n) []) (cond w (range_with_len (a + 1) n) []) ≡ cond w (a ∷ range_with_len (a + 1) n) []
+        → cond w (a ∷ cond w (range_with_len (a + 1) n) []) (cond w (range_with_len (a + 1) n) [])
+        ≡ cond w (a ∷ range_with_len (a + 1) n) []
     both true = refl
     both false = refl
 
@@ -102,7 +103,8 @@ module _ (text : List ℕ) where
       ∙ ap (λ l. l ++ kept_from (at + n)) (filter-range (is_kept text) kept at n stretch.kept_is)
 
   -- a stretch has no bad byte
-  pub bad-stretch : (at n : ℕ) (kept : Bool) → at + n ≤ length text → IsStretch at n kept → bad_from at ≡ bad_from (at + n)
+  pub bad-stretch : (at n : ℕ) (kept : Bool) → at + n ≤ length text → IsStretch at n kept
+      → bad_from at ≡ bad_from (at + n)
   bad-stretch at n kept within stretch =
       ap (find (is_bad text)) (apart at n within)
       ∙ find-append (is_bad text) (range_with_len at n) (range_with_len (at + n) (length text - (at + n)))

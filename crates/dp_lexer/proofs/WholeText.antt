@@ -53,7 +53,8 @@ module _ (text : List ℕ) where
   later_from at n tokens later k d lt = omega (arith, later k d lt)
 
   -- a piece that is no token
-  skips : (at n : ℕ) (others : List Token) → Advances text at n None → AreTokensFrom (at + n) others → AreTokensFrom at others
+  skips : (at n : ℕ) (others : List Token) → Advances text at n None → AreTokensFrom (at + n) others
+      → AreTokensFrom at others
   skips at n others step rest =
       let kept : kept_from text at ≡ kept_from text (at + n) = kept-stretch text at n false step.within step.stretch in
       record {
@@ -103,7 +104,8 @@ module _ (text : List ℕ) where
 
   -- a piece, and the tokens behind it
   after : (at n : ℕ) (kind : Option Kind) (tokens : List Token) (rest : Result (List Token) ℕ) → Advances text at n kind
-      → with_token text at n kind rest ≡ Ok tokens → ((others : List Token) → rest ≡ Ok others → AreTokensFrom (at + n) others)
+      → with_token text at n kind rest ≡ Ok tokens
+      → ((others : List Token) → rest ≡ Ok others → AreTokensFrom (at + n) others)
       → AreTokensFrom at tokens
   after at n None tokens (Ok others) step is so_far = let same : others ≡ tokens = cc in subst (AreTokensFrom at) same
       (skips at n others step (so_far others refl))

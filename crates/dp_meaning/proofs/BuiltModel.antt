@@ -93,7 +93,8 @@ start_is_repair end text x e =
     }
 
 -- the row of the start sums to its scale
-pub sum_of_start : (end : ℕ) (text : Text) (x : Repaired) → states_in text < 1000 → repair_all end (start_row text ∷ []) ≡ done x
+pub sum_of_start : (end : ℕ) (text : Text) (x : Repaired) → states_in text < 1000
+    → repair_all end (start_row text ∷ []) ≡ done x
     → (length x.cells ≡ states_in text) × (nat_sum (states_in text) (λ s. get_or x.cells s 0) ≡ (scales_of text).start)
 sum_of_start end text x short e =
     let is = start_is_repair end text x e in
@@ -102,7 +103,8 @@ sum_of_start end text x short e =
 
 -- ---- rewards
 
-pub length_of_rewards : (text : Text) → length (rewards_of text) ≡ joint_actions_in text * states_in text * states_in text * joint_observations_in text
+pub length_of_rewards : (text : Text)
+    → length (rewards_of text) ≡ joint_actions_in text * states_in text * states_in text * joint_observations_in text
 unfolding rewards_of
 length_of_rewards text = length-map-range_with_len _ 0 _
 

@@ -16,12 +16,14 @@ use Rattle.dp_meaning.proofs.CellValues.{reward_uncovered}
 use Rattle.dp_meaning.proofs.Meant.{meant_text}
 use Rattle.dp_meaning.proofs.BuiltModel.{built_of, trans_table, obs_table, start_is_repair, reward_of_place}
 
-given_trans_row : (text : Text) (a s : ℕ) → (given_row text Trans (scales_of text).trans (states_in text) a s).cells ≡ map
+given_trans_row : (text : Text) (a s : ℕ)
+    → (given_row text Trans (scales_of text).trans (states_in text) a s).cells ≡ map
     (given_trans text) (row_cells (a ∷ s ∷ []) (states_in text))
 unfolding table_row
 given_trans_row text a s = refl
 
-given_obs_row : (text : Text) (a t : ℕ) → (given_row text Obs (scales_of text).obs (joint_observations_in text) a t).cells ≡ map
+given_obs_row : (text : Text) (a t : ℕ)
+    → (given_row text Obs (scales_of text).obs (joint_observations_in text) a t).cells ≡ map
     (given_obs text) (row_cells (a ∷ t ∷ []) (joint_observations_in text))
 unfolding table_row
 given_obs_row text a t = refl

@@ -7,7 +7,8 @@ row_number : (actions states a s : ℕ) → a * states + s ≡ joint_number (act
 row_number actions states a s = omega arith
 
 -- the row of a joint action and a state
-pub parts_of_row : (actions states a s : ℕ) → a < actions → s < states → parts_of (actions ∷ states ∷ []) (a * states + s) ≡ a ∷ s ∷ []
+pub parts_of_row : (actions states a s : ℕ) → a < actions → s < states
+    → parts_of (actions ∷ states ∷ []) (a * states + s) ≡ a ∷ s ∷ []
 parts_of_row actions states a s h k =
     ap (parts_of (actions ∷ states ∷ [])) (row_number actions states a s) ∙ parts_of-joint_number (actions ∷ states ∷ []) (a ∷ s ∷ []) (h, (k, tt))
 

@@ -45,6 +45,7 @@ each_reverse P [] p = tt
 each_reverse P (x ∷ xs) p = subst (Each P) (sym (reverse-append (x ∷ []) xs))
     (each_append P (reverse xs) (x ∷ []) (each_reverse P xs p.1) (p.0, tt))
 
-pub each_of_range : {X : Type 0} (P : X → Type 0) (f : ℕ → X) (a n : ℕ) → ((k : ℕ) → P (f k)) → Each P (map f (range_with_len a n))
+pub each_of_range : {X : Type 0} (P : X → Type 0) (f : ℕ → X) (a n : ℕ) → ((k : ℕ) → P (f k))
+    → Each P (map f (range_with_len a n))
 each_of_range P f a zero h = tt
 each_of_range P f a (suc n) h = (h a, each_of_range P f (a + 1) n h)

@@ -16,7 +16,8 @@ error_is (Err bad) at e = ap Err (same e)
     same : Some bad ≡ Some at → bad ≡ at
     same e = cc
 
-pub bad_byte_first : (bytes : List ℕ) (at : ℕ) → first_bad bytes ≡ Some at → meaning bytes ≡ FaultAt (place_at bytes at) BadByte
+pub bad_byte_first : (bytes : List ℕ) (at : ℕ) → first_bad bytes ≡ Some at
+    → meaning bytes ≡ FaultAt (place_at bytes at) BadByte
 unfolding meaning text_of
 bad_byte_first bytes at e =
     let tokens : tokens_of bytes ≡ Err at = error_is (tokens_of bytes) at (first_bad_byte_is_named bytes ∙ e) in rw tokens

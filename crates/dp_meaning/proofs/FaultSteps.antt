@@ -17,6 +17,7 @@ pub err_not_ok : {A : Type 0} (y : A) (f : Fault) → failed f ≡ done y → �
 err_not_ok y f e = cc
 
 -- a step and what follows it do not fail where both do not
-pub bind_ok : {A B : Type 0} (x : Result A Fault) (f : A → Result B Fault) (y : B) → (x >>= f) ≡ Ok y → (a : A) × (x ≡ Ok a) × (f a ≡ Ok y)
+pub bind_ok : {A B : Type 0} (x : Result A Fault) (f : A → Result B Fault) (y : B) → (x >>= f) ≡ Ok y
+    → (a : A) × (x ≡ Ok a) × (f a ≡ Ok y)
 bind_ok (Ok a) f y e = (a, refl, e)
 bind_ok (Err w) f y e = absurd (err_not_ok y w e)

@@ -30,7 +30,8 @@ pub most_above : {X : Type 0} (f : X → ℕ) (acc : ℕ) (xs : List X) → acc 
 most_above f acc [] = omega arith
 most_above f acc (x ∷ xs) = let h = most_above f (max acc (f x)) xs in omega arith
 
-pub each_below_most : {X : Type 0} (f : X → ℕ) (acc : ℕ) (xs : List X) → Each (λ x. f x ≤ fold (λ m y. max m (f y)) acc xs) xs
+pub each_below_most : {X : Type 0} (f : X → ℕ) (acc : ℕ) (xs : List X)
+    → Each (λ x. f x ≤ fold (λ m y. max m (f y)) acc xs) xs
 each_below_most f acc [] = tt
 each_below_most f acc (x ∷ xs) = ((let h = most_above f (max acc (f x)) xs in omega arith), each_below_most f (max acc (f x)) xs)
 
@@ -43,7 +44,8 @@ pub below_greatest : (xs : List ℕ) → All (λ x. x ≤ fold max 0 xs) xs
 below_greatest xs = all_from_each (λ x. x ≤ fold max 0 xs) xs (each_below_most (λ x. x) 0 xs)
 
 -- one is the greatest, or the greatest is what they are compared with
-greatest_at : (acc : ℕ) (xs : List ℕ) → (fold max acc xs ≡ acc) ⊎ ((k : ℕ) × (k < length xs) × (get_or xs k 0 ≡ fold max acc xs))
+greatest_at : (acc : ℕ) (xs : List ℕ)
+    → (fold max acc xs ≡ acc) ⊎ ((k : ℕ) × (k < length xs) × (get_or xs k 0 ≡ fold max acc xs))
 greatest_at acc [] = inl refl
 greatest_at acc (x ∷ xs) = elim (greatest_at (max acc x) xs) [
   | inl e ↦ elim (cases_lt acc x) [
@@ -54,7 +56,8 @@ greatest_at acc (x ∷ xs) = elim (greatest_at (max acc x) xs) [
 ]
 
 -- the first that passes stands no later than one that passes
-first_no_later : {X : Type 0} (p : X → Bool) (xs : List X) (k : ℕ) (d : X) → p (get_or xs k d) ≡ true → position_or_len p xs ≤ k
+first_no_later : {X : Type 0} (p : X → Bool) (xs : List X) (k : ℕ) (d : X) → p (get_or xs k d) ≡ true
+    → position_or_len p xs ≤ k
 first_no_later p xs k d e =
     let not_before : k < position_or_len p xs → ⊥ = λ h. clash (fails_before_first p xs k d h) in omega (arith, not_before)
   where
@@ -89,7 +92,8 @@ last_none p (x ∷ xs) h =
     here true e f = absurd (cc)
     here false e f = e
 
-pub last_is : {X : Type 0} (p : X → Bool) (before : List X) (x : X) (after : List X) → p x ≡ true → list_any p after ≡ false
+pub last_is : {X : Type 0} (p : X → Bool) (before : List X) (x : X) (after : List X) → p x ≡ true
+    → list_any p after ≡ false
     → find p (reverse (before ++ x ∷ after)) ≡ Some x
 last_is p before x after h none =
     ap (find p) (reverse-append before (x ∷ after)) ∙ find-append p (reverse (x ∷ after)) (reverse before)

@@ -18,7 +18,8 @@ pub record IsWithin (bytes : List ℕ) (text : Text) (r : ReadModel) : Type 0 wh
 means_same : (x y : ReadModel) → Means x ≡ Means y → x ≡ y
 means_same x y e = cc
 
-of_model : (bytes : List ℕ) (m : Result ReadModel Fault) (r : ReadModel) → meaning_of_model bytes m ≡ Means r → m ≡ done r
+of_model : (bytes : List ℕ) (m : Result ReadModel Fault) (r : ReadModel) → meaning_of_model bytes m ≡ Means r
+    → m ≡ done r
 of_model bytes (Ok x) r e = ap done (means_same x r e)
 of_model bytes (Err f) r e = cc
 
@@ -27,7 +28,8 @@ of_limit : (bytes : List ℕ) (text : Text) (p : Option TooLarge) (r : ReadModel
 of_limit bytes text (Some passed) r e = cc
 of_limit bytes text None r e = (refl, of_model bytes (model_of (length bytes) text) r e)
 
-of_text : (bytes : List ℕ) (t : Result Text Fault) (r : ReadModel) → text_of bytes ≡ t → meaning_of_text bytes t ≡ Means r
+of_text : (bytes : List ℕ) (t : Result Text Fault) (r : ReadModel) → text_of bytes ≡ t
+    → meaning_of_text bytes t ≡ Means r
     → (text : Text) × IsWithin bytes text r
 of_text bytes (Err f) r s e = cc
 of_text bytes (Ok text) r s e =

@@ -59,10 +59,12 @@ some_product [] each = omega arith
 some_product (l ∷ lists) each =
     let h = mul-le 1 1 (size_of l) (product (map size_of lists)) each.0.some (some_product lists each.1) in omega arith
 
-count_of : (agents : GivenList) (lists : List GivenList) → AreLists agents lists → length (map size_of lists) ≡ size_of agents
+count_of : (agents : GivenList) (lists : List GivenList) → AreLists agents lists
+    → length (map size_of lists) ≡ size_of agents
 count_of agents lists are = length-map lists size_of ∙ are.count
 
-table_model_sizes : (text : Text) (start trans obs : List ℕ) → IsText text → IsSmall text → AreSizes (table_model text start trans obs)
+table_model_sizes : (text : Text) (start trans obs : List ℕ) → IsText text → IsSmall text
+    → AreSizes (table_model text start trans obs)
 unfolding joint_actions joint_observations
 table_model_sizes text start trans obs is fits =
     let actions = count_of text.header.agents text.header.actions is.header.actions in
@@ -105,7 +107,8 @@ scales_are text is fits =
 
 -- ---- tables
 
-rewards_bound : (text : Text) → IsText text → (i : ℕ) → unsigned_abs (get_or (rewards_of text) i (pos 0)) ≤ 10 ^ 8 * (scales_of text).reward
+rewards_bound : (text : Text) → IsText text → (i : ℕ)
+    → unsigned_abs (get_or (rewards_of text) i (pos 0)) ≤ 10 ^ 8 * (scales_of text).reward
 unfolding rewards_of scales_of
 rewards_bound text is i =
     each_at (λ r. unsigned_abs r ≤ 10 ^ 8 * 10 ^ digits_of_statements (statements_for Reward text.statements)) (rewards_of text) i (pos 0)
@@ -154,7 +157,8 @@ table_names text start trans obs is =
     }
 
 -- a list in a product is no longer than the product
-names_within : (lists : List GivenList) (most : ℕ) → Each IsList lists → product (map size_of lists) ≤ most → most ≤ 2 ^ 26
+names_within : (lists : List GivenList) (most : ℕ) → Each IsList lists → product (map size_of lists) ≤ most
+    → most ≤ 2 ^ 26
     → (i : ℕ) → IsNameList (get_or (map names_in lists) i [])
 names_within [] most each h fits i = empty-kept
 names_within (l ∷ lists) most each h fits zero =

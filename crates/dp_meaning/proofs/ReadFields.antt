@@ -78,7 +78,8 @@ name_below (Named names) text n e = (position-Some (bytes_eq text) names n [] e)
 place_below : (list : GivenList) (piece : Piece) (n : ℕ) → place_in list piece ≡ Some n → n < size_of list
 place_below list piece n e = by (is_index piece.text) e
   where
-    by : (b : Bool) → cond b (if_below (size_of list) (index piece)) (place_of (names_in list) piece.text) ≡ Some n → n < size_of list
+    by : (b : Bool) → cond b (if_below (size_of list) (index piece)) (place_of (names_in list) piece.text) ≡ Some n
+        → n < size_of list
     by true f = index_below (size_of list) (index piece) n f
     by false f = name_below list piece.text n f
 
@@ -86,7 +87,8 @@ found_below : (list : GivenList) (piece : Piece) (n : ℕ) → find_in list piec
 unfolding find_in
 found_below list piece n e = by (is_index piece.text || is_name piece.text) e
   where
-    by : (b : Bool) → cond b (found_at piece.at (place_in list piece)) (fault Expected piece.at) ≡ done n → n < size_of list
+    by : (b : Bool) → cond b (found_at piece.at (place_in list piece)) (fault Expected piece.at) ≡ done n
+        → n < size_of list
     by true f = place_below list piece n (found_some piece.at (place_in list piece) n f)
     by false f = absurd (err_not_ok n _ f)
 
@@ -100,7 +102,8 @@ part_is list piece part e = by (is_star piece.kind) e
         let n = bind_ok (find_in list piece) _ part f in
         subst (IsPartOf list) (ok_same (Only n.0) part n.2) (found_below list piece n.0 n.1)
 
-parts_are : (axis : Axis) (field : Field) (pieces : List Piece) (parts : List Part) → parts_in axis field pieces ≡ done parts
+parts_are : (axis : Axis) (field : Field) (pieces : List Piece) (parts : List Part)
+    → parts_in axis field pieces ≡ done parts
     → ArePartsOf axis parts
 unfolding parts_in
 parts_are [] field pieces parts e = subst (ArePartsOf []) (ended_same [] parts pieces e) tt
@@ -115,14 +118,17 @@ all_any : (axis : Axis) → ArePartsOf axis (map (λ _. Any) axis)
 all_any [] = tt
 all_any (list ∷ lists) = (tt, all_any lists)
 
-field_is : (axis : Axis) (field : Field) (parts : List Part) → field_parts axis field ≡ done parts → ArePartsOf axis parts
+field_is : (axis : Axis) (field : Field) (parts : List Part) → field_parts axis field ≡ done parts
+    → ArePartsOf axis parts
 field_is axis field parts e = by (is_one_star field.pieces) e
   where
-    by : (b : Bool) → cond b (done (map (λ _. Any) axis)) (parts_in axis field field.pieces) ≡ done parts → ArePartsOf axis parts
+    by : (b : Bool) → cond b (done (map (λ _. Any) axis)) (parts_in axis field field.pieces) ≡ done parts
+        → ArePartsOf axis parts
     by true f = subst (ArePartsOf axis) (ok_same _ parts f) (all_any axis)
     by false f = parts_are axis field field.pieces parts f
 
-fields_are : (axes : List Axis) (line : List Field) (fields : List (List Part)) → all_parts axes line ≡ done fields → AreFieldsOf axes fields
+fields_are : (axes : List Axis) (line : List Field) (fields : List (List Part)) → all_parts axes line ≡ done fields
+    → AreFieldsOf axes fields
 unfolding all_parts
 fields_are axes [] fields e = subst (AreFieldsOf axes) (ok_same [] fields e) tt
 fields_are [] (field ∷ line) fields e = absurd (err_not_ok fields _ e)
@@ -140,7 +146,8 @@ Fills table rest Uniform = allows_uniform table rest ≡ true
 Fills table rest Identity = allows_identity table rest ≡ true
 Fills table rest (Numbers ns) = length ns ≡ product (map axis_size rest)
 
-numbers_count : (fits : Decimal → Bool) (next n : ℕ) (pieces : List Piece) (ns : List Decimal) → numbers fits next n pieces ≡ done ns
+numbers_count : (fits : Decimal → Bool) (next n : ℕ) (pieces : List Piece) (ns : List Decimal)
+    → numbers fits next n pieces ≡ done ns
     → length ns ≡ n
 unfolding numbers
 numbers_count fits next zero pieces ns e = ap length (sym (ended_same [] ns pieces e))
@@ -150,7 +157,8 @@ numbers_count fits next (suc n) (piece ∷ pieces) ns e =
     let others = bind_ok (numbers fits next n pieces) _ ns first.2 in
     ap length (sym (ok_same _ ns others.2)) ∙ ap suc (numbers_count fits next n pieces others.0 others.1)
 
-value_fills : (table : Table) (rest : List Axis) (next : ℕ) (pieces : List Piece) (v : Value) → value_of table rest next pieces ≡ done v
+value_fills : (table : Table) (rest : List Axis) (next : ℕ) (pieces : List Piece) (v : Value)
+    → value_of table rest next pieces ≡ done v
     → Fills table rest v
 unfolding value_of
 value_fills table rest next [] v e = absurd (err_not_ok v _ e)
@@ -167,7 +175,8 @@ value_fills table rest next (piece ∷ pieces) v e =
         (numbers_count (is_number_of table) next (product (map axis_size rest)) (piece ∷ pieces) w.0 w.1)
 
     by : (a : Bool) → allows_uniform table rest ≡ a → (b : Bool) → allows_identity table rest ≡ b → (c d : Bool)
-        → cond (a && c) (ended Uniform pieces) (cond (b && d) (ended Identity pieces) more) ≡ done v → Fills table rest v
+        → cond (a && c) (ended Uniform pieces) (cond (b && d) (ended Identity pieces) more) ≡ done v
+        → Fills table rest v
     by true s b t true d f = subst (Fills table rest) (ended_same Uniform v pieces f) s
     by true s true t false true f = subst (Fills table rest) (ended_same Identity v pieces f) t
     by true s true t false false f = given f
@@ -187,11 +196,13 @@ pub record IsStatementOver (axes : List Axis) (s : Statement) : Type 0 where
 abbrev pub IsStatementOf : Header → Statement → Type 0
 IsStatementOf header s = IsStatementOver (axes_of header s.table) s
 
-not_too_few : (least : ℕ) (fields : List (List Part)) (ends : ℕ) (u : Unit {0}) → unless_too_few least fields ends ≡ done u
+not_too_few : (least : ℕ) (fields : List (List Part)) (ends : ℕ) (u : Unit {0})
+    → unless_too_few least fields ends ≡ done u
     → least ≤ length fields
 not_too_few least fields ends u e = by (nat_lt (length fields) least) refl e
   where
-    by : (b : Bool) → nat_lt (length fields) least ≡ b → cond b (fault Expected ends) (done tt) ≡ done u → least ≤ length fields
+    by : (b : Bool) → nat_lt (length fields) least ≡ b → cond b (fault Expected ends) (done tt) ≡ done u
+        → least ≤ length fields
     by true t f = absurd (err_not_ok u _ f)
     by false t f = grind (arith, nat_tests)
 
@@ -210,7 +221,8 @@ statement_is header table item s e =
           ((fields_of (after_colon item)).rest ++ flat_map pieces_of item.more) value.0 value.1;
     })
 
-statement_of_kind_is : (header : Header) (item : Item) (kind : ItemKind) (s : Statement) → statement_of_kind header item kind ≡ done s
+statement_of_kind_is : (header : Header) (item : Item) (kind : ItemKind) (s : Statement)
+    → statement_of_kind header item kind ≡ done s
     → IsStatementOf header s
 statement_of_kind_is header item (HeaderEntry k) s e = absurd (err_not_ok s _ e)
 statement_of_kind_is header item (StatementOf table) s e = statement_is header table item s e

@@ -43,7 +43,8 @@ record AreEntries (e : Entries) : Type 0 where
   discount : (d : Decimal) → e.discount ≡ Some d → is_chance d ≡ true
   start : (x : Start) → e.start ≡ Some x → IsStart x
   actions : (ls : List GivenList) → e.actions ≡ Some ls → (l : GivenList) × (e.agents ≡ Some l) × AreLists l ls
-  observations : (ls : List GivenList) → e.observations ≡ Some ls → (l : GivenList) × (e.agents ≡ Some l) × AreLists l ls
+  observations : (ls : List GivenList) → e.observations ≡ Some ls
+      → (l : GivenList) × (e.agents ≡ Some l) × AreLists l ls
 
 -- what is known of the header
 pub record IsHeader (h : Header) : Type 0 where
@@ -74,7 +75,8 @@ discount_fits next (piece ∷ pieces) d e =
     subst (λ n. is_chance n ≡ true) (ended_same w.0 d pieces w.2) (number_fits is_chance piece w.0 w.1)
 
 -- a start that is read is by chances
-start_is : (states : GivenList) (next : ℕ) (pieces : List Piece) (start : Start) → start_of states next pieces ≡ done start → IsStart start
+start_is : (states : GivenList) (next : ℕ) (pieces : List Piece) (start : Start)
+    → start_of states next pieces ≡ done start → IsStart start
 unfolding start_of
 start_is states next [] start e = absurd (err_not_ok start _ e)
 start_is states next (piece ∷ pieces) start e =
@@ -95,7 +97,8 @@ read_lists : (next : ℕ) (agents : GivenList) (lines : List (List Piece)) (list
     → name_lists next (size_of agents) lines ≡ done lists → AreLists agents lists
 read_lists next agents lines lists e = let w = lists_are next (size_of agents) lines lists e in record { count = w.0; each = w.1 }
 
-with_entry_is : (kind : Entry) (item : Item) (e more : Entries) → AreEntries e → with_entry kind item e ≡ done more → AreEntries more
+with_entry_is : (kind : Entry) (item : Item) (e more : Entries) → AreEntries e → with_entry kind item e ≡ done more
+    → AreEntries more
 unfolding with_entry
 with_entry_is Agents item e more is f =
     let first = bind_ok (unless_come (item_at item) e.agents) _ more f in
@@ -220,7 +223,8 @@ header_with_is at e h is f =
           (is.observations observations.0 (entry_come at e.observations observations.0 observations.1));
     })
 
-header_from : (end : ℕ) (e : Entries) (items : List Item) (h : Header × List Item) → AreEntries e → header_of end e items ≡ done h
+header_from : (end : ℕ) (e : Entries) (items : List Item) (h : Header × List Item) → AreEntries e
+    → header_of end e items ≡ done h
     → IsHeader h.0
 unfolding header_of
 header_from end e [] h is f =
@@ -238,7 +242,8 @@ header_from end e (item ∷ items) h is f = by (kind_of item) f (λ more is g. h
         (header_with_is (item_at item) e w.0 is w.1)
     by NoItem g rest = absurd (err_not_ok h _ g)
 
-pub header_is : (end : ℕ) (items : List Item) (h : Header × List Item) → header_of end no_entries items ≡ done h → IsHeader h.0
+pub header_is : (end : ℕ) (items : List Item) (h : Header × List Item) → header_of end no_entries items ≡ done h
+    → IsHeader h.0
 header_is end items h f = header_from end no_entries items h (record {
   agents = λ l s. absurd (never l s);
   states = λ l s. absurd (never l s);

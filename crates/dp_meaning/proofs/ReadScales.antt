@@ -80,13 +80,15 @@ GivesRewards s = Each IsReward (numbers_in s.value)
 pub reward_parts : (d : Decimal) → is_reward d ≡ true → IsReward d
 reward_parts d e = by (nat_le (unsigned_abs d.units) (10 ^ (8 + d.digits))) refl (nat_le d.digits 9) refl e
   where
-    by : (b : Bool) → nat_le (unsigned_abs d.units) (10 ^ (8 + d.digits)) ≡ b → (c : Bool) → nat_le d.digits 9 ≡ c → (b && c) ≡ true
+    by : (b : Bool) → nat_le (unsigned_abs d.units) (10 ^ (8 + d.digits)) ≡ b → (c : Bool) → nat_le d.digits 9 ≡ c
+        → (b && c) ≡ true
         → IsReward d
     by true s true t f = (leb-true _ _ t, leb-true _ _ s)
     by true s false t f = cc
     by false s c t f = cc
 
-of_reward_table : (s : Statement) (table : Table) → s.table ≡ table → IsStatement s → is_same_table Reward table ≡ true → GivesRewards s
+of_reward_table : (s : Statement) (table : Table) → s.table ≡ table → IsStatement s
+    → is_same_table Reward table ≡ true → GivesRewards s
 of_reward_table s Reward e is same = subst (λ t. Each (λ d. is_number_of t d ≡ true) (numbers_in s.value) → GivesRewards s) (sym e)
     (each_from _ IsReward reward_parts (numbers_in s.value)) is
 of_reward_table s Trans e is same = cc
@@ -113,7 +115,8 @@ number_digits Obs d e = (chance_parts d e).0
 number_digits Reward d e = let h = (reward_parts d e).0 in omega arith
 
 -- the numbers of a table have at most eighteen fraction digits
-pub table_digits : (table : Table) (ss : List Statement) → Each IsStatement ss → digits_of_statements (statements_for table ss) ≤ 18
+pub table_digits : (table : Table) (ss : List Statement) → Each IsStatement ss
+    → digits_of_statements (statements_for table ss) ≤ 18
 table_digits table ss each =
     most_below (λ s. digits_of_value s.value) 18 0 (statements_for table ss) (omega arith)
     (each_filter (λ s. digits_of_value s.value ≤ 18) (λ s. is_same_table table s.table) ss
@@ -156,7 +159,8 @@ reward_bound cost digits d is h = by cost
     by true = subst (λ k. k ≤ 10 ^ 8 * 10 ^ digits) (sym (unsigned_abs-neg _)) positive
     by false = positive
 
-given_bound : (cost : Bool) (digits : ℕ) (sizes : List ℕ) (fields : ℕ) (cell : Cell) (v : Value) → Each IsReward (numbers_in v)
+given_bound : (cost : Bool) (digits : ℕ) (sizes : List ℕ) (fields : ℕ) (cell : Cell) (v : Value)
+    → Each IsReward (numbers_in v)
     → digits_of_value v ≤ digits
     → unsigned_abs (given_reward cost (10 ^ digits) sizes fields cell v) ≤ 10 ^ 8 * 10 ^ digits
 given_bound cost digits sizes fields cell (Numbers ns) each h =
@@ -169,7 +173,8 @@ given_bound cost digits sizes fields cell Identity each h = omega arith
 
 by_bound : (cost : Bool) (digits : ℕ) (axes : List Axis) (cell : Cell) (ss : List Statement)
     → Each (λ s. GivesRewards s × (digits_of_value s.value ≤ digits)) ss
-    → unsigned_abs (reward_by cost (10 ^ digits) axes cell (find (λ s. covers axes s.fields cell) ss)) ≤ 10 ^ 8 * 10 ^ digits
+    → unsigned_abs (reward_by cost (10 ^ digits) axes cell (find (λ s. covers axes s.fields cell) ss))
+    ≤ 10 ^ 8 * 10 ^ digits
 by_bound cost digits axes cell [] each = omega arith
 by_bound cost digits axes cell (s ∷ ss) each = by (covers axes s.fields cell) (by_bound cost digits axes cell ss each.1)
   where
@@ -182,7 +187,8 @@ by_bound cost digits axes cell (s ∷ ss) each = by (covers axes s.fields cell) 
 
 -- no cell of the reward table is past its limit
 pub cell_bound : (cost : Bool) (axes : List Axis) (ss : List Statement) (cell : Cell) → Each GivesRewards ss
-    → unsigned_abs (reward_of_cell cost (10 ^ digits_of_statements ss) axes ss cell) ≤ 10 ^ 8 * 10 ^ digits_of_statements ss
+    → unsigned_abs (reward_of_cell cost (10 ^ digits_of_statements ss) axes ss cell)
+    ≤ 10 ^ 8 * 10 ^ digits_of_statements ss
 unfolding reward_of_cell
 cell_bound cost axes ss cell each =
     let both = each_with GivesRewards (λ s. digits_of_value s.value ≤ digits_of_statements ss) ss each

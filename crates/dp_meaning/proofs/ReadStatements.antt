@@ -31,7 +31,8 @@ numbers_in _ = []
 abbrev pub AreNumbersOf : Table → Value → Type 0
 AreNumbersOf table value = Each (λ d. is_number_of table d ≡ true) (numbers_in value)
 
-value_is : (table : Table) (rest : List Axis) (next : ℕ) (pieces : List Piece) (v : Value) → value_of table rest next pieces ≡ done v
+value_is : (table : Table) (rest : List Axis) (next : ℕ) (pieces : List Piece) (v : Value)
+    → value_of table rest next pieces ≡ done v
     → AreNumbersOf table v
 unfolding value_of
 value_is table rest next [] v e = absurd (err_not_ok v _ e)
@@ -52,7 +53,8 @@ value_is table rest next (piece ∷ pieces) v e =
 abbrev pub IsStatement : Statement → Type 0
 IsStatement s = AreNumbersOf s.table s.value
 
-statement_is : (header : Header) (table : Table) (item : Item) (s : Statement) → statement header table item ≡ done s → IsStatement s
+statement_is : (header : Header) (table : Table) (item : Item) (s : Statement) → statement header table item ≡ done s
+    → IsStatement s
 unfolding statement
 statement_is header table item s e =
     let fields = bind_ok (all_parts (axes_of header table) (fields_of (after_colon item)).fields) _ s e in
@@ -63,7 +65,8 @@ statement_is header table item s e =
     (value_is table (drop (length fields.0) (axes_of header table)) item.next
     ((fields_of (after_colon item)).rest ++ flat_map pieces_of item.more) value.0 value.1)
 
-statement_of_kind_is : (header : Header) (item : Item) (kind : ItemKind) (s : Statement) → statement_of_kind header item kind ≡ done s
+statement_of_kind_is : (header : Header) (item : Item) (kind : ItemKind) (s : Statement)
+    → statement_of_kind header item kind ≡ done s
     → IsStatement s
 statement_of_kind_is header item (HeaderEntry k) s e = absurd (err_not_ok s _ e)
 statement_of_kind_is header item (StatementOf table) s e = statement_is header table item s e

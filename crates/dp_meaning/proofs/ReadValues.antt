@@ -23,7 +23,8 @@ use Rattle.dp_meaning.proofs.FaultSteps.{done, ok_same, err_not_ok, bind_ok}
 
 -- ---- numbers
 
-in_range : (fits : Decimal → Bool) (at : ℕ) (r : Result Decimal NumFault) (d : Decimal) → number_in fits at r ≡ done d → fits d ≡ true
+in_range : (fits : Decimal → Bool) (at : ℕ) (r : Result Decimal NumFault) (d : Decimal) → number_in fits at r ≡ done d
+    → fits d ≡ true
 in_range fits at (Ok x) d e = by (fits x) refl e
   where
     by : (b : Bool) → fits x ≡ b → cond b (done x) (fault Number at) ≡ done d → fits d ≡ true
@@ -42,7 +43,8 @@ pub ended_same : {A : Type 0} (x y : A) (pieces : List Piece) → ended x pieces
 ended_same x y [] e = ok_same x y e
 ended_same x y (piece ∷ pieces) e = absurd (err_not_ok y _ e)
 
-pub numbers_fit : (fits : Decimal → Bool) (next n : ℕ) (pieces : List Piece) (ns : List Decimal) → numbers fits next n pieces ≡ done ns
+pub numbers_fit : (fits : Decimal → Bool) (next n : ℕ) (pieces : List Piece) (ns : List Decimal)
+    → numbers fits next n pieces ≡ done ns
     → Each (λ d. fits d ≡ true) ns
 unfolding numbers
 numbers_fit fits next zero pieces ns e = subst (Each (λ d. fits d ≡ true)) (ended_same [] ns pieces e) tt
@@ -56,7 +58,8 @@ numbers_fit fits next (suc n) (piece ∷ pieces) ns e =
 -- ---- lists
 
 -- as many names as tokens are read
-names_count : (before : List (List ℕ)) (pieces : List Piece) (names : List (List ℕ)) → names_after before pieces ≡ done names
+names_count : (before : List (List ℕ)) (pieces : List Piece) (names : List (List ℕ))
+    → names_after before pieces ≡ done names
     → length names ≡ length before + length pieces
 unfolding names_after
 names_count before [] names e = ap length (sym (ok_same before names e)) ∙ omega arith
@@ -73,14 +76,16 @@ names_count before (piece ∷ pieces) names e =
     by false false rest f g = let h = g f in let k = length-append before (piece.text ∷ []) in omega arith
 
 -- a name that a list lacks makes it a longer list of names
-longer_list : (before : List (List ℕ)) (name : List ℕ) → IsNameList before → is_name name ≡ true → has_name before name ≡ false
+longer_list : (before : List (List ℕ)) (name : List ℕ) → IsNameList before → is_name name ≡ true
+    → has_name before name ≡ false
     → length before < 2 ^ 26
     → IsNameList (before ++ name ∷ [])
 longer_list before name are named new room =
     subst IsNameList (ap (λ b. cond b before (before ++ name ∷ [])) new) (with_name-kept before name are (search (rules, named)) room)
 
 -- what is read is a list of names, where it is not too long
-names_kept : (before : List (List ℕ)) (pieces : List Piece) (names : List (List ℕ)) → names_after before pieces ≡ done names
+names_kept : (before : List (List ℕ)) (pieces : List Piece) (names : List (List ℕ))
+    → names_after before pieces ≡ done names
     → length names ≤ 2 ^ 26 → IsNameList before → IsNameList names
 unfolding names_after
 names_kept before [] names e room are = subst IsNameList (ok_same before names e) are
@@ -88,7 +93,8 @@ names_kept before (piece ∷ pieces) names e room are =
     by (is_name piece.text) refl (has_name before piece.text) refl (names_after (before ++ piece.text ∷ []) pieces) e
     (names_count (before ++ piece.text ∷ []) pieces names) (λ f l. names_kept (before ++ piece.text ∷ []) pieces names f room l)
   where
-    by : (b : Bool) → is_name piece.text ≡ b → (c : Bool) → has_name before piece.text ≡ c → (rest : Result (List (List ℕ)) Fault)
+    by : (b : Bool) → is_name piece.text ≡ b → (c : Bool) → has_name before piece.text ≡ c
+        → (rest : Result (List (List ℕ)) Fault)
         → cond (not b) (fault Expected piece.at) (cond c (fault DoubleName piece.at) rest) ≡ done names
         → (rest ≡ done names → length names ≡ length (before ++ piece.text ∷ []) + length pieces)
         → (rest ≡ done names → IsNameList (before ++ piece.text ∷ []) → IsNameList names)
@@ -104,7 +110,8 @@ count_above piece n e = by (nat_le 1 (index piece)) refl (nat_le (index piece) 6
     above : nat_le 1 (index piece) ≡ true → 1 ≤ index piece
     above t = grind (arith, nat_tests)
 
-    by : (b : Bool) → nat_le 1 (index piece) ≡ b → (c : Bool) → cond (b && c) (done (index piece)) (fault Number piece.at) ≡ done n → 1 ≤ n
+    by : (b : Bool) → nat_le 1 (index piece) ≡ b → (c : Bool)
+        → cond (b && c) (done (index piece)) (fault Number piece.at) ≡ done n → 1 ≤ n
     by true t true f = subst (λ k. 1 ≤ k) (ok_same _ n f) (above t)
     by true t false f = absurd (err_not_ok n _ f)
     by false t c f = absurd (err_not_ok n _ f)

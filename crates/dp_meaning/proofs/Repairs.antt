@@ -41,7 +41,8 @@ sum_of_repaired scale (x ∷ xs) short near =
         let times : len * greatest ≤ 999 * greatest = mul-le len greatest 999 greatest (omega arith) (omega arith) in omega arith
 
 -- a repair of a row leaves a cell of 0 as it is
-pub zero_of_repaired : (scale : ℕ) (cells : List ℕ) (i : ℕ) → i < length cells → is_near scale (sum cells) ≡ true → get_or cells i 0 ≡ 0
+pub zero_of_repaired : (scale : ℕ) (cells : List ℕ) (i : ℕ) → i < length cells → is_near scale (sum cells) ≡ true
+    → get_or cells i 0 ≡ 0
     → get_or (repaired_cells scale cells) i 0 ≡ 0
 unfolding repaired_cells
 zero_of_repaired scale cells i h near none = elim (cases_eq i place) [
@@ -60,7 +61,8 @@ zero_of_repaired scale cells i h near none = elim (cases_eq i place) [
     new : ℕ
     new = greatest_cell cells + scale - sum cells
 
-    nothing : (len greatest scale total : ℕ) → greatest ≡ 0 → total ≤ len * greatest → ((scale - total) + (total - scale)) * 1000 ≤ scale
+    nothing : (len greatest scale total : ℕ) → greatest ≡ 0 → total ≤ len * greatest
+        → ((scale - total) + (total - scale)) * 1000 ≤ scale
         → greatest + scale - total ≡ 0
     nothing len greatest scale total e most near =
         let times : len * greatest ≡ 0 = ap (λ g. len * g) e ∙ omega arith in omega arith
@@ -77,7 +79,8 @@ pub record IsRepair (scale : ℕ) (given : List ℕ) (x : Repaired) : Type 0 whe
   pub near : is_near scale (sum given) ≡ true
   pub others : (i : ℕ) → i ≢ greatest_place given → get_or x.cells i 0 ≡ get_or given i 0
 
-repaired_at : (at scale : ℕ) (given : List ℕ) (x : Repaired) → repair_at at scale given ≡ done x → IsRepair scale given x
+repaired_at : (at scale : ℕ) (given : List ℕ) (x : Repaired) → repair_at at scale given ≡ done x
+    → IsRepair scale given x
 unfolding repaired_cells
 repaired_at at scale given x e = by (sum given == scale) refl (is_near scale (sum given)) refl e
   where
@@ -139,7 +142,8 @@ repaired_count end (row ∷ rows) x e =
     let all = ap (λ y. y.repaired) w.4 in omega arith
 
 -- the cells of row i of rows of n cells each stand at i * n and behind
-pub row_of_all : (end n : ℕ) (rows : List Row) (x : Repaired) → ((i : ℕ) (d : Row) → i < length rows → length (get_or rows i d).cells ≡ n)
+pub row_of_all : (end n : ℕ) (rows : List Row) (x : Repaired)
+    → ((i : ℕ) (d : Row) → i < length rows → length (get_or rows i d).cells ≡ n)
     → repair_all end rows ≡ done x → (i : ℕ) (d : Row) → i < length rows
     → (y : Repaired) × IsRepair (get_or rows i d).scale (get_or rows i d).cells y ×
     ((j : ℕ) → j < n → get_or x.cells (i * n + j) 0 ≡ get_or y.cells j 0)
@@ -185,11 +189,14 @@ length_of_all end n (row ∷ rows) x len e =
     let joined = length-append w.0.cells w.1.cells in
     ap (λ y. length y.cells) (sym w.4) ∙ joined ∙ together (length w.0.cells) (length row.cells) (length w.1.cells) (length rows) n a b rest
   where
-    together : (first given others count n : ℕ) → first ≡ given → given ≡ n → others ≡ count * n → first + others ≡ suc count * n
+    together : (first given others count n : ℕ) → first ≡ given → given ≡ n → others ≡ count * n
+        → first + others ≡ suc count * n
     together first given others count n a b c = omega arith
 
 -- a row that is read sums to its scale
-pub sum_of_row : (n start scale : ℕ) (cells given : List ℕ) (y : Repaired) → IsRepair scale given y → length given ≡ n → n < 1000
-    → ((j : ℕ) → j < n → get_or cells (start + j) 0 ≡ get_or y.cells j 0) → nat_sum n (λ j. get_or cells (start + j) 0) ≡ scale
+pub sum_of_row : (n start scale : ℕ) (cells given : List ℕ) (y : Repaired) → IsRepair scale given y → length given ≡ n
+    → n < 1000
+    → ((j : ℕ) → j < n → get_or cells (start + j) 0 ≡ get_or y.cells j 0)
+    → nat_sum n (λ j. get_or cells (start + j) 0) ≡ scale
 sum_of_row n start scale cells given y is len short same =
     nat_sum_ext n _ _ same ∙ sum_of_places y.cells n (is.len ∙ len) ∙ is.sums (omega arith)

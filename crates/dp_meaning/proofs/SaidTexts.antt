@@ -32,10 +32,12 @@ some_joint_observations text said =
 
 -- ---- fraction digits
 
-pub start_digits : (text : Text) (at : ℕ) (row : List Decimal) → IsSaid text → text.header.start ≡ StartRow at row → most_digits row ≤ 18
+pub start_digits : (text : Text) (at : ℕ) (row : List Decimal) → IsSaid text → text.header.start ≡ StartRow at row
+    → most_digits row ≤ 18
 start_digits text at row said e = row_digits row (subst IsStart e (said_is text said).header.start)
 
-pub statement_digits : (text : Text) (table : Table) → IsSaid text → digits_of_statements (statements_for table text.statements) ≤ 18
+pub statement_digits : (text : Text) (table : Table) → IsSaid text
+    → digits_of_statements (statements_for table text.statements) ≤ 18
 statement_digits text table said = table_digits table text.statements (said_is text said).statements
 
 pub rewards_digits : (text : Text) → IsSaid text → digits_of_statements (statements_for Reward text.statements) ≤ 9
@@ -45,5 +47,6 @@ rewards_digits text said =
 pub discount_digits : (text : Text) → IsSaid text → text.header.discount.digits ≤ 18
 discount_digits text said = (chance_parts text.header.discount (said_is text said).header.discount).0
 
-pub discount_units : (text : Text) → IsSaid text → unsigned_abs text.header.discount.units ≤ 10 ^ text.header.discount.digits
+pub discount_units : (text : Text) → IsSaid text
+    → unsigned_abs text.header.discount.units ≤ 10 ^ text.header.discount.digits
 discount_units text said = (chance_parts text.header.discount (said_is text said).header.discount).1

@@ -28,7 +28,8 @@ unfolding table_row
 length_of_table_row scale axes statements len row =
     length-map (row_cells row len) (chance_of_cell scale axes statements) ∙ length-map-range_with_len (λ n. row ++ n ∷ []) 0 len
 
-pub cell_of_table_row : (scale : ℕ) (axes : List Axis) (statements : List Statement) (len : ℕ) (row : List ℕ) (j : ℕ) → j < len
+pub cell_of_table_row : (scale : ℕ) (axes : List Axis) (statements : List Statement) (len : ℕ) (row : List ℕ) (j : ℕ)
+    → j < len
     → get_or (table_row scale axes statements len row).cells j 0 ≡ chance_of_cell scale axes statements (row ++ j ∷ [])
 unfolding table_row
 cell_of_table_row scale axes statements len row j h =
@@ -93,7 +94,8 @@ table_is end text table scale len x e = record { size = size; row = row }
         let is = subst (λ r. IsRepair r.scale r.cells w.0) same w.1 in
         (w.0, subst (λ n. IsRepair n (given_row text table scale len a s).cells w.0) (scale_of_table_row scale _ _ len _) is, w.2)
 
-pub sum_of_table_row : (text : Text) (table : Table) (scale len : ℕ) (cells : List ℕ) → IsTable text table scale len cells → len < 1000
+pub sum_of_table_row : (text : Text) (table : Table) (scale len : ℕ) (cells : List ℕ)
+    → IsTable text table scale len cells → len < 1000
     → (a s : ℕ) → a < joint_actions_in text → s < states_in text
     → nat_sum len (λ j. get_or cells ((a * states_in text + s) * len + j) 0) ≡ scale
 sum_of_table_row text table scale len cells is short a s ha hs =
@@ -101,9 +103,11 @@ sum_of_table_row text table scale len cells is short a s ha hs =
     sum_of_row len ((a * states_in text + s) * len) scale cells (given_row text table scale len a s).cells w.0 w.1
     (length_of_table_row scale _ _ len _) short w.2
 
-pub uncovered_of_table : (text : Text) (table : Table) (scale len : ℕ) (cells : List ℕ) → IsTable text table scale len cells
+pub uncovered_of_table : (text : Text) (table : Table) (scale len : ℕ) (cells : List ℕ)
+    → IsTable text table scale len cells
     → (a s j : ℕ) → a < joint_actions_in text → s < states_in text → j < len
-    → list_any (λ l. covers (axes_of text.header table) l.fields (a ∷ s ∷ j ∷ [])) (statements_for table text.statements) ≡ false
+    → list_any (λ l. covers (axes_of text.header table) l.fields (a ∷ s ∷ j ∷ [])) (statements_for table text.statements)
+    ≡ false
     → get_or cells ((a * states_in text + s) * len + j) 0 ≡ 0
 uncovered_of_table text table scale len cells is a s j ha hs hj none =
     let w = is.row a s ha hs in

@@ -11,7 +11,8 @@ use Rattle.dp_meaning.specs.Limits.{product_past, tried_limits, passed_limit}
 use Rattle.dp_model.proofs.LimitLemmas.{none_at, not_passed}
 
 -- a product of which no part from the left passes is the product
-product_step : (most acc n p rest : ℕ) (b : Bool) → nat_lt most acc ≡ b → cond b acc rest ≤ most → (rest ≤ most → rest ≡ acc * n * p)
+product_step : (most acc n p rest : ℕ) (b : Bool) → nat_lt most acc ≡ b → cond b acc rest ≤ most
+    → (rest ≤ most → rest ≡ acc * n * p)
     → cond b acc rest ≡ acc * (n * p)
 product_step most acc n p rest true t f e = absurd (past t f)
   where
@@ -19,7 +20,8 @@ product_step most acc n p rest true t f e = absurd (past t f)
     past t f = grind (arith, nat_tests)
 product_step most acc n p rest false t f e = let g = e f in omega arith
 
-product_within : (most acc : ℕ) (ns : List ℕ) → product_past most acc ns ≤ most → product_past most acc ns ≡ acc * product ns
+product_within : (most acc : ℕ) (ns : List ℕ) → product_past most acc ns ≤ most
+    → product_past most acc ns ≡ acc * product ns
 product_within most acc [] h = omega arith
 product_within most acc (n ∷ ns) h =
     product_step most acc n (product ns) (product_past most (acc * n) ns) (nat_lt most acc) refl h (product_within most (acc * n) ns)

@@ -22,7 +22,8 @@ pub record Fields : Type 0 where
 
 abbrev pub in_first_field : Piece → List Field → List Piece → Fields
 in_first_field piece [] rest = record { fields = []; rest = piece ∷ rest }
-in_first_field piece (field ∷ fields) rest = record { fields = record field { pieces = piece ∷ field.pieces } ∷ fields; rest = rest }
+in_first_field piece (field ∷ fields) rest =
+    record { fields = record field { pieces = piece ∷ field.pieces } ∷ fields; rest = rest }
 
 -- one more piece in front: a Colon closes a field of its own, any other piece joins the first field
 abbrev pub with_field_piece : Bool → Piece → Fields → Fields

@@ -111,18 +111,21 @@ condition m ok h e =
     rw (← most_reward (greatest_magnitude m.reward) m.scales.reward ok.scales.reward) (leb-true _ _ e)
 
 exact_where : (m : Model) → IsModel m → (h : ℕ)
-    → m.scales.start * step_scale m ^ h * h * max (greatest_magnitude m.reward) m.scales.reward ≤ 2 ^ 126 → is_exact_mode m h ≡ true
+    → m.scales.start * step_scale m ^ h * h * max (greatest_magnitude m.reward) m.scales.reward ≤ 2 ^ 126
+    → is_exact_mode m h ≡ true
 unfolding is_exact_mode
 exact_where m ok h le = rw (most_reward (greatest_magnitude m.reward) m.scales.reward ok.scales.reward) (le-leb _ _ le)
 
 -- what the condition says of its first factors
-pub steps_room : (m : Model) → IsModel m → (h : ℕ) → is_exact_mode m h ≡ true → m.scales.start * step_scale m ^ h * h ≤ 2 ^ 126
+pub steps_room : (m : Model) → IsModel m → (h : ℕ) → is_exact_mode m h ≡ true
+    → m.scales.start * step_scale m ^ h * h ≤ 2 ^ 126
 steps_room m ok h e =
     let some = ok.scales.reward in
     let reward : 0 < max (greatest_magnitude m.reward) m.scales.reward = omega arith in
     grown (m.scales.start * step_scale m ^ h * h) _ _ (2 ^ 126) reward refl (condition m ok h e)
 
-pub weights_room : (m : Model) → IsModel m → (h : ℕ) → 1 ≤ h → is_exact_mode m h ≡ true → m.scales.start * step_scale m ^ h ≤ 2 ^ 126
+pub weights_room : (m : Model) → IsModel m → (h : ℕ) → 1 ≤ h → is_exact_mode m h ≡ true
+    → m.scales.start * step_scale m ^ h ≤ 2 ^ 126
 weights_room m ok h some e = grown (m.scales.start * step_scale m ^ h) h _ (2 ^ 126) some refl (steps_room m ok h e)
 
 -- and of the unit

@@ -22,7 +22,8 @@ own_histories_of_ten_steps : first_passed (horizon_limits tiger 10) ≡ None
 unfolding joint_actions joint_observations
 own_histories_of_ten_steps = refl
 
-own_histories_of_eleven_steps : first_passed (horizon_limits tiger 11) ≡ Some (record { what = limits.OwnHistories; count = 4094 })
+own_histories_of_eleven_steps : first_passed (horizon_limits tiger 11)
+    ≡ Some (record { what = limits.OwnHistories; count = 4094 })
 unfolding joint_actions joint_observations
 own_histories_of_eleven_steps = refl
 
@@ -43,7 +44,8 @@ fit_of_nine_steps : fit_of tiger 9 ≡ record { horizon = 9; exact = false; unit
 unfolding unit_of is_exact_mode value_scale step_scale
 fit_of_nine_steps = refl
 
--- ---- sizes with few own histories and many joint ones: 4 agents of 2 observations over 6 steps have 16^5 in the last stage
+-- ---- sizes with few own histories and many joint ones: 4 agents of 2 observations over 6 steps have 16^5 in the
+-- last stage
 abbrev four_agents : ℕ → List ℕ → Model
 four_agents states actions = record two_agents { states = states; actions = actions; observations = 2 ∷ 2 ∷ 2 ∷ 2 ∷ [] }
 

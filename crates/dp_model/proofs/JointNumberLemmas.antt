@@ -15,11 +15,13 @@ pub are_below : (ns ps : List ℕ) → AreParts ns ps → AreBelow ns ps
 are_below ns ps h = below_each ns ps h.alike h.below
 
 -- one agent more, from behind
-pub back-count : (ns : List ℕ) (j agent count : ℕ) → agent ≡ suc j → j < length ns → count ≡ product (drop agent ns) → count * get_or ns j 0 ≡ product (drop j ns)
+pub back-count : (ns : List ℕ) (j agent count : ℕ) → agent ≡ suc j → j < length ns → count ≡ product (drop agent ns)
+    → count * get_or ns j 0 ≡ product (drop j ns)
 back-count ns j agent count e lt is =
     ap (λ n. n * get_or ns j 0) (is ∙ ap (λ k. product (drop k ns)) e) ∙ mul_comm (product (drop (suc j) ns)) (get_or ns j 0) ∙ sym (product-drop ns j lt)
 
-pub back-steps : (ns : List ℕ) (j agent count : ℕ) (steps : List ℕ) → agent ≡ suc j → j < length ns → AreSteps ns agent count steps → AreSteps ns j (count * get_or ns j 0) (slice_set steps j count)
+pub back-steps : (ns : List ℕ) (j agent count : ℕ) (steps : List ℕ) → agent ≡ suc j → j < length ns
+    → AreSteps ns agent count steps → AreSteps ns j (count * get_or ns j 0) (slice_set steps j count)
 back-steps ns j agent count steps e lt old = record {
   within = omega arith;
   room = rw (length-set steps j count) old.room;
@@ -27,7 +29,8 @@ back-steps ns j agent count steps e lt old = record {
   stepped = λ i from there. at i from there (i == j) refl;
 }
   where
-    at : (i : ℕ) → j ≤ i → i < length ns → (b : Bool) → (i == j) ≡ b → get_or (slice_set steps j count) i 0 ≡ product (drop (suc i) ns)
+    at : (i : ℕ) → j ≤ i → i < length ns → (b : Bool) → (i == j) ≡ b
+        → get_or (slice_set steps j count) i 0 ≡ product (drop (suc i) ns)
     at i from there true same =
         let e' : i ≡ j = eqb-true i j same in
         let room : j < length steps = omega arith in

@@ -17,7 +17,8 @@ none_at (None ∷ xs) e (suc k) = none_at xs e k
 pub not_passed : (what : Limit) (count most : ℕ) → at_most what count most ≡ None → count ≤ most
 not_passed what count most e = by (nat_lt most count) refl e
   where
-    by : (b : Bool) → nat_lt most count ≡ b → cond {A = Option TooLarge} b (Some (record { what = what; count = count })) None ≡ None
+    by : (b : Bool) → nat_lt most count ≡ b
+        → cond {A = Option TooLarge} b (Some (record { what = what; count = count })) None ≡ None
         → count ≤ most
     by true t f = cc
     by false t f = grind (arith, nat_tests)

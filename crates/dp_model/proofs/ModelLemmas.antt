@@ -10,7 +10,8 @@ pub obs_place : (m : Model) → IsModel m → (a t o : ℕ) → a < joint_action
 obs_place m ok a t o action next observation =
     rw ok.tables.obs (row_below _ _ _ _ (row_below _ _ _ _ action next) observation)
 
-pub reward_place : (m : Model) → IsModel m → (a s t o : ℕ) → a < joint_actions m → s < m.states → t < m.states → o < joint_observations m →
+pub reward_place : (m : Model) → IsModel m → (a s t o : ℕ) → a < joint_actions m → s < m.states → t < m.states
+    → o < joint_observations m →
     ((a * m.states + s) * m.states + t) * joint_observations m + o < length m.reward
 reward_place m ok a s t o action state next observation =
     rw ok.tables.reward (row_below _ _ _ _ (row_below _ _ _ _ (row_below _ _ _ _ action state) next) observation)

@@ -15,7 +15,8 @@ module _ {X : Type 0} (f : X → List ℕ) where
   list_any-map p [] = refl
   list_any-map p (x ∷ xs) = ap (λ b. p (f x) || b) (list_any-map p xs)
 
-  position_or_len-map : (p : List ℕ → Bool) (xs : List X) → position_or_len p (map f xs) ≡ position_or_len (λ x. p (f x)) xs
+  position_or_len-map : (p : List ℕ → Bool) (xs : List X)
+      → position_or_len p (map f xs) ≡ position_or_len (λ x. p (f x)) xs
   position_or_len-map p [] = refl
   position_or_len-map p (x ∷ xs) = ap (λ n. cond (not (p (f x))) (1 + n) 0) (position_or_len-map p xs)
 
@@ -47,7 +48,8 @@ some_at (x ∷ xs) zero lt none = true≢false none
 some_at (x ∷ xs) (suc i) lt none = some_at xs i (omega arith) none
 
 -- where a list has nothing at a place that it has if it has any, it is empty
-pub none_is : {X : Type 0} (xs : List X) (i : ℕ) → (0 < length xs → i < length xs) → is_some (slice_get xs i) ≡ false → xs ≡ []
+pub none_is : {X : Type 0} (xs : List X) (i : ℕ) → (0 < length xs → i < length xs) → is_some (slice_get xs i) ≡ false
+    → xs ≡ []
 none_is [] i within none = refl
 none_is (x ∷ xs) i within none = absurd (some_at (x ∷ xs) i (within (omega arith)) none)
 
@@ -58,12 +60,14 @@ or_true true = refl
 or_true false = refl
 
 -- a list has each of its items
-has_name-at : (names : List (List ℕ)) (name : List ℕ) (k : ℕ) (d : List ℕ) → k < length names → get_or names k d ≡ name → has_name names name ≡ true
+has_name-at : (names : List (List ℕ)) (name : List ℕ) (k : ℕ) (d : List ℕ) → k < length names
+    → get_or names k d ≡ name → has_name names name ≡ true
 has_name-at [] name k d lt e = absurd (omega arith)
 has_name-at (x ∷ xs) name zero d lt e = ap (λ b. b || has_name xs name) ((bytes_eq-Decides name x).1 (sym e))
 has_name-at (x ∷ xs) name (suc k) d lt e = ap (λ b. bytes_eq name x || b) (has_name-at xs name k d (omega arith) e) ∙ or_true (bytes_eq name x)
 
-pub with_name-kept : (names : List (List ℕ)) (name : List ℕ) → IsNameList names → IsTrue (is_name name) → length names < 2 ^ 26 → IsNameList (with_name names name)
+pub with_name-kept : (names : List (List ℕ)) (name : List ℕ) → IsNameList names → IsTrue (is_name name)
+    → length names < 2 ^ 26 → IsNameList (with_name names name)
 with_name-kept names name kept named room = by (has_name names name) refl
   where
     by : (b : Bool) → has_name names name ≡ b → IsNameList (if b then names else names ++ name ∷ [])
@@ -78,7 +82,9 @@ pub empty-kept : IsNameList []
 empty-kept = record { are_names = λ k d lt. absurd (let no : k < 0 = lt in omega arith); once = λ i j d lt in_. absurd (let no : j < 0 = in_ in omega arith); limit = omega arith }
 
 -- one list of agents' lists replaced by another
-pub slice_set-kept : (lists : List (List (List ℕ))) (i : ℕ) (list : List (List ℕ)) → ((j : ℕ) → IsNameList (names_of lists j)) → IsNameList list → (j : ℕ) → IsNameList (names_of (slice_set lists i list) j)
+pub slice_set-kept : (lists : List (List (List ℕ))) (i : ℕ) (list : List (List ℕ))
+    → ((j : ℕ) → IsNameList (names_of lists j)) → IsNameList list → (j : ℕ)
+    → IsNameList (names_of (slice_set lists i list) j)
 slice_set-kept [] i list kept new j = kept j
 slice_set-kept (l ∷ ls) zero list kept new zero = new
 slice_set-kept (l ∷ ls) zero list kept new (suc j) = kept (suc j)

@@ -24,7 +24,8 @@ two_agents = record {
 reward_most : (i : ℕ) → unsigned_abs (get_or rewards i (pos 0)) ≤ 11
 reward_most i = at rewards refl i
   where
-    at : (rs : List ℤ) → list_all (λ r. nat_le (unsigned_abs r) 11) rs ≡ true → (k : ℕ) → unsigned_abs (get_or rs k (pos 0)) ≤ 11
+    at : (rs : List ℤ) → list_all (λ r. nat_le (unsigned_abs r) 11) rs ≡ true → (k : ℕ)
+        → unsigned_abs (get_or rs k (pos 0)) ≤ 11
     at [] all k = omega arith
     at (r ∷ rs) all zero = grind arith
     at (r ∷ rs) all (suc k) = at rs (grind arith) k

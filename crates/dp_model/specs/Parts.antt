@@ -11,7 +11,8 @@ pub record AreParts (ns ps : List ℕ) : Type 0 where
 abbrev pub part_of : List ℕ → ℕ → ℕ → ℕ
 part_of ns x i = slice_index (parts_of ns x) i
 
--- for the agents from `agent` on: count is how many joint numbers they have, and each one's step how many those behind it have
+-- for the agents from `agent` on: count is how many joint numbers they have, and each one's step how many those
+-- behind it have
 pub record AreSteps (ns : List ℕ) (agent count : ℕ) (steps : List ℕ) : Type 0 where
   pub within : agent ≤ length ns
   pub room : length ns ≤ length steps

@@ -35,7 +35,8 @@ pub record AreNamesOf (m : Model) (names : NameLists) : Type 0 where
   pub agents : NamesAllOrNone names.agents (length m.actions)
   pub states : NamesAllOrNone names.states m.states
   pub actions : (i : ℕ) → i < length m.actions → NamesAllOrNone (names_of names.actions i) (slice_index m.actions i)
-  pub observations : (i : ℕ) → i < length m.actions → NamesAllOrNone (names_of names.observations i) (slice_index m.observations i)
+  pub observations : (i : ℕ) → i < length m.actions
+      → NamesAllOrNone (names_of names.observations i) (slice_index m.observations i)
 
 -- what every model with names keeps
 pub record IsNamedModel (m : NamedModel) : Type 0 where

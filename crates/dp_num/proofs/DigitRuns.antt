@@ -21,7 +21,8 @@ cases : (i n : ℕ) → i ≤ n → (n ≡ i) ⊎ (i < n)
 cases i n le = grind arith
 
 -- a digit behind digits at the front is one more of them
-pub run_more : (text : List ℕ) (i : ℕ) → i ≤ prefix_len is_ascii_digit text → i < length text → is_ascii_digit (get_or text i 0) ≡ true → i + 1 ≤ prefix_len is_ascii_digit text
+pub run_more : (text : List ℕ) (i : ℕ) → i ≤ prefix_len is_ascii_digit text → i < length text
+    → is_ascii_digit (get_or text i 0) ≡ true → i + 1 ≤ prefix_len is_ascii_digit text
 run_more text i le lt digit =
     elim (cases i (prefix_len is_ascii_digit text) le) [
       | inl e ↦ let stop = prefix_len_stops is_ascii_digit text 0 (omega arith) in let here = rw e at stop in absurd cc
@@ -29,7 +30,8 @@ run_more text i le lt digit =
     ]
 
 -- they end at a byte that is no digit
-pub run_stop : (text : List ℕ) (i : ℕ) → i ≤ prefix_len is_ascii_digit text → is_ascii_digit (get_or text i 0) ≡ false → prefix_len is_ascii_digit text ≡ i
+pub run_stop : (text : List ℕ) (i : ℕ) → i ≤ prefix_len is_ascii_digit text → is_ascii_digit (get_or text i 0) ≡ false
+    → prefix_len is_ascii_digit text ≡ i
 run_stop text i le other =
     elim (cases i (prefix_len is_ascii_digit text) le) [
       | inl e ↦ e
@@ -37,7 +39,8 @@ run_stop text i le other =
     ]
 
 -- or at the end
-pub run_end : (text : List ℕ) (i : ℕ) → i ≤ prefix_len is_ascii_digit text → length text ≤ i → prefix_len is_ascii_digit text ≡ i
+pub run_end : (text : List ℕ) (i : ℕ) → i ≤ prefix_len is_ascii_digit text → length text ≤ i
+    → prefix_len is_ascii_digit text ≡ i
 run_end text i le end = omega (arith, prefix_len-le-length is_ascii_digit text)
 
 -- a significand of the first digits and one more
@@ -51,5 +54,6 @@ seen_more ds text i s lt digit seen =
     subst (λ (l : List ℕ). IsSeen l s) same seen
 
 -- one of all of them
-pub seen_run : (ds text : List ℕ) (i : ℕ) (s : Significand) → prefix_len is_ascii_digit text ≡ i → IsSeen (ds ++ take i text) s → IsSeen (ds ++ take (prefix_len is_ascii_digit text) text) s
+pub seen_run : (ds text : List ℕ) (i : ℕ) (s : Significand) → prefix_len is_ascii_digit text ≡ i
+    → IsSeen (ds ++ take i text) s → IsSeen (ds ++ take (prefix_len is_ascii_digit text) text) s
 seen_run ds text i s e seen = subst (λ k. IsSeen (ds ++ take k text) s) (sym e) seen

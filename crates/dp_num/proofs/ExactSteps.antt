@@ -27,7 +27,8 @@ one_step c k = regroup c.discount (c.trans * c.obs * c.discount) _ _ (pow-suc (c
     regroup d K p q e = omega (arith, ap (λ (n : ℕ). d * n) e)
 
 -- the same of remainders
-pub one_step_mod : (c : Scales) (k x a b d n : ℕ) → x ≡ reward_factor c k % n → a ≡ c.trans → b ≡ c.obs → d ≡ c.discount → (x * ((a * b * d) % n)) % n ≡ reward_factor c (k + 1) % n
+pub one_step_mod : (c : Scales) (k x a b d n : ℕ) → x ≡ reward_factor c k % n → a ≡ c.trans → b ≡ c.obs
+    → d ≡ c.discount → (x * ((a * b * d) % n)) % n ≡ reward_factor c (k + 1) % n
 one_step_mod c k x a b d n e p q r =
     let step : a * b * d ≡ c.trans * c.obs * c.discount = cc in
     rw (e, step, add-one) (sym (mul-mod (reward_factor c k) (c.trans * c.obs * c.discount) n) ∙ ap (λ (x : ℕ). x % n) (sym (one_step c k)))
@@ -46,11 +47,13 @@ first_factor c are x e =
     e ∙ sym (no_step c) ∙ sym (mod-eq_of_lt small)
 
 -- a place of the table before step n + 1 is written
-pub one_more_factor : (c : Scales) (n : ℕ) (factors : List ℕ) (f : ℕ) → HoldsFactors c n factors → n < length factors → f ≡ reward_factor c n % 2 ^ 128 → HoldsFactors c (n + 1) (slice_set factors n f)
+pub one_more_factor : (c : Scales) (n : ℕ) (factors : List ℕ) (f : ℕ) → HoldsFactors c n factors → n < length factors
+    → f ≡ reward_factor c n % 2 ^ 128 → HoldsFactors c (n + 1) (slice_set factors n f)
 one_more_factor c n factors f holds inside e = grind (arith, common_steps)
 
 -- a step scale of 2 or more is passed after 127 steps, so all factors are the first one
-pub late_factor : (c : Scales) → AreInRange c → (rest : ℕ) → 127 ≤ rest → reward_factor c rest < 2 ^ 127 → reward_factor c 126 ≡ reward_factor c rest
+pub late_factor : (c : Scales) → AreInRange c → (rest : ℕ) → 127 ≤ rest → reward_factor c rest < 2 ^ 127
+    → reward_factor c 126 ≡ reward_factor c rest
 unfolding reward_factor
 late_factor c are rest late room =
     let K = c.trans * c.obs * c.discount in
@@ -72,7 +75,8 @@ late_factor c are rest late room =
     ones (suc n) = rw (pow-suc 1 n, ones n) refl
 
 -- the place of the table that is read for so many steps left
-pub factor_at : (c : Scales) → AreInRange c → (rest place x : ℕ) → reward_factor c rest < 2 ^ 127 → place ≡ min rest 126 → x ≡ reward_factor c place % 2 ^ 128 → x ≡ reward_factor c rest
+pub factor_at : (c : Scales) → AreInRange c → (rest place x : ℕ) → reward_factor c rest < 2 ^ 127
+    → place ≡ min rest 126 → x ≡ reward_factor c place % 2 ^ 128 → x ≡ reward_factor c rest
 factor_at c are rest place x room at e =
     let same : reward_factor c place ≡ reward_factor c rest = elim (cases rest place at) [
       | inl e ↦ ap (reward_factor c) e
@@ -93,13 +97,15 @@ factor_fits (pos (suc k)) n some room = let e : unsigned_abs (pos (suc k) *ℤ p
 factor_fits (negsuc k) n some room = let e : unsigned_abs (negsuc k *ℤ pos n) ≡ suc k * n = unsigned_abs-mul (negsuc k) (pos n) in omega arith
 
 -- so the product in the signed type is the true one
-pub scaled_is : (x : ℤ) (n : ℕ) → SFits w128 x → (of_z w128 x ≡ 0 → ⊥) → unsigned_abs (x *ℤ pos n) < 2 ^ 127 → to_z w128 (of_z w128 (to_z w128 (of_z w128 x) *ℤ to_z w128 n)) ≡ x *ℤ pos n
+pub scaled_is : (x : ℤ) (n : ℕ) → SFits w128 x → (of_z w128 x ≡ 0 → ⊥) → unsigned_abs (x *ℤ pos n) < 2 ^ 127
+    → to_z w128 (of_z w128 (to_z w128 (of_z w128 x) *ℤ to_z w128 n)) ≡ x *ℤ pos n
 scaled_is x n fits some room =
     let product : SFits w128 (x *ℤ pos n) = fits_signed_from_abs w128 (x *ℤ pos n) room in
     rw (to_z-of_z w128 x fits, to_z_pos w128 n (factor_fits x n (λ e. some (ap (of_z w128) e)) room)) (to_z-of_z w128 _ product)
 
 -- a value times a chance and the gain fits where the product with a scale does
-pub carry_fits : (x : ℤ) (p o g q : ℕ) → 0 < o → q ≡ p * g → unsigned_abs (x *ℤ pos (p * o * g)) < 2 ^ 127 → unsigned_abs (x *ℤ pos q) < 2 ^ 127
+pub carry_fits : (x : ℤ) (p o g q : ℕ) → 0 < o → q ≡ p * g → unsigned_abs (x *ℤ pos (p * o * g)) < 2 ^ 127
+    → unsigned_abs (x *ℤ pos q) < 2 ^ 127
 carry_fits x p o g q some e room =
     let whole : unsigned_abs (x *ℤ pos (p * o * g)) ≡ unsigned_abs x * (p * o * g) = unsigned_abs-mul x (pos (p * o * g)) in
     let part : unsigned_abs (x *ℤ pos q) ≡ unsigned_abs x * q = unsigned_abs-mul x (pos q) in
@@ -120,7 +126,8 @@ carry_is x p o g q y f part e is =
     swap_last p o g = omega arith
 
 -- so it fits
-pub carry_all_fits : (x : ℤ) (p o g q : ℕ) (y f : ℤ) → y ≡ x *ℤ pos q → q ≡ p * g → f ≡ pos o → unsigned_abs (x *ℤ pos (p * o * g)) < 2 ^ 127 → unsigned_abs (y *ℤ f) < 2 ^ 127
+pub carry_all_fits : (x : ℤ) (p o g q : ℕ) (y f : ℤ) → y ≡ x *ℤ pos q → q ≡ p * g → f ≡ pos o
+    → unsigned_abs (x *ℤ pos (p * o * g)) < 2 ^ 127 → unsigned_abs (y *ℤ f) < 2 ^ 127
 carry_all_fits x p o g q y f part e is room = subst (λ (z : ℤ). unsigned_abs z < 2 ^ 127) (sym (carry_is x p o g q y f part e is)) room
 
 -- a weight times a reward fits where the product with the factor does
@@ -136,5 +143,6 @@ part_fits x y n some room =
     times_assoc a b n = omega arith
 
 -- and so does what is multiplied last
-pub gain_fits : (x y : ℤ) (n : ℕ) (z : ℤ) → z ≡ x *ℤ y → unsigned_abs (x *ℤ (y *ℤ pos n)) < 2 ^ 127 → unsigned_abs (z *ℤ pos n) < 2 ^ 127
+pub gain_fits : (x y : ℤ) (n : ℕ) (z : ℤ) → z ≡ x *ℤ y → unsigned_abs (x *ℤ (y *ℤ pos n)) < 2 ^ 127
+    → unsigned_abs (z *ℤ pos n) < 2 ^ 127
 gain_fits x y n z e room = subst (λ (z : ℤ). unsigned_abs z < 2 ^ 127) (sym (ap (λ (z : ℤ). z *ℤ pos n) e ∙ zmul_assoc x y (pos n))) room

@@ -16,7 +16,8 @@ use Rattle.dp_num.proofs.Magnitudes.{pointed_shape, plain_shape}
 -- ---- from the parts to the test
 
 -- digits at the front, with no digit behind them
-front_count : (ds rest : List ℕ) → AreDigits ds → is_ascii_digit (first rest) ≡ false → prefix_len is_ascii_digit (ds ++ rest) ≡ length ds
+front_count : (ds rest : List ℕ) → AreDigits ds → is_ascii_digit (first rest) ≡ false
+    → prefix_len is_ascii_digit (ds ++ rest) ≡ length ds
 front_count [] [] all other = refl
 front_count [] (r ∷ rest) all other = rw other refl
 front_count (d ∷ ds) rest all other =
@@ -78,7 +79,8 @@ digits_append (x ∷ a) b p q =
     rw (and_parts (is_ascii_digit x) (list_all is_ascii_digit a) p).0 (digits_append a b (and_parts (is_ascii_digit x) (list_all is_ascii_digit a) p).1 q)
 
 -- digits and an exponent pass the test
-plain_true : (ds exponent : List ℕ) → AreDigits ds → 0 < length ds → IsOptionalExponent exponent → is_magnitude (ds ++ exponent) ≡ true
+plain_true : (ds exponent : List ℕ) → AreDigits ds → 0 < length ds → IsOptionalExponent exponent
+    → is_magnitude (ds ++ exponent) ≡ true
 plain_true ds exponent all some e =
     let other = exponent_no_digit exponent e in
     let after = after_front ds exponent all other in
@@ -88,7 +90,9 @@ plain_true ds exponent all some e =
     plain_shape (ds ++ exponent) miss count exp
 
 -- and so they do with a point
-pointed_true : (whole fraction exponent : List ℕ) → AreDigits whole → AreDigits fraction → 0 < length whole + length fraction → IsOptionalExponent exponent → is_magnitude (whole ++ (46 ∷ (fraction ++ exponent))) ≡ true
+pointed_true : (whole fraction exponent : List ℕ) → AreDigits whole → AreDigits fraction
+    → 0 < length whole + length fraction → IsOptionalExponent exponent
+    → is_magnitude (whole ++ (46 ∷ (fraction ++ exponent))) ≡ true
 pointed_true whole fraction exponent w f some e =
     let other = exponent_no_digit exponent e in
     let number : List ℕ = whole ++ (46 ∷ (fraction ++ exponent)) in
@@ -102,7 +106,8 @@ pointed_true whole fraction exponent w f some e =
     pointed_shape (whole ++ (46 ∷ (fraction ++ exponent))) hit count exp
 
 -- the parts behind the sign pass the test
-magnitude_true : (whole mark fraction exponent : List ℕ) → AreDigits whole → IsOptionalPoint mark → AreDigits fraction → 0 < length whole + length fraction → IsOptionalExponent exponent
+magnitude_true : (whole mark fraction exponent : List ℕ) → AreDigits whole → IsOptionalPoint mark → AreDigits fraction
+    → 0 < length whole + length fraction → IsOptionalExponent exponent
     → is_magnitude (whole ++ (mark ++ (fraction ++ exponent))) ≡ true
 magnitude_true whole [] fraction exponent w m f some e =
     subst (λ (l : List ℕ). is_magnitude l ≡ true) (append_assoc whole fraction exponent) (plain_true (whole ++ fraction) exponent (digits_append whole fraction w f) (omega (arith, length-append whole fraction, some)) e)
@@ -111,7 +116,8 @@ magnitude_true whole (b ∷ []) fraction exponent w m f some e =
 magnitude_true whole (b ∷ c ∷ rest) fraction exponent w m f some e = absurd m
 
 -- and begin with no sign
-no_sign : (whole mark fraction exponent : List ℕ) → AreDigits whole → IsOptionalPoint mark → AreDigits fraction → 0 < length whole + length fraction
+no_sign : (whole mark fraction exponent : List ℕ) → AreDigits whole → IsOptionalPoint mark → AreDigits fraction
+    → 0 < length whole + length fraction
     → is_sign (first (whole ++ (mark ++ (fraction ++ exponent)))) ≡ false
 no_sign (d ∷ ds) mark fraction exponent w m f some = digit_no_sign d (and_parts (is_ascii_digit d) (list_all is_ascii_digit ds) w).0
 no_sign [] [] fraction exponent w m f some = first_no_sign fraction exponent f (omega (arith, some))
@@ -149,7 +155,8 @@ run_digits : (text : List ℕ) → AreDigits (take (digit_count text) text)
 run_digits [] = refl
 run_digits (b ∷ rest) = by_digit b rest (is_ascii_digit b) refl (run_digits rest)
   where
-    by_digit : (b : ℕ) (rest : List ℕ) (d : Bool) → is_ascii_digit b ≡ d → AreDigits (take (digit_count rest) rest) → AreDigits (take (digit_count (b ∷ rest)) (b ∷ rest))
+    by_digit : (b : ℕ) (rest : List ℕ) (d : Bool) → is_ascii_digit b ≡ d → AreDigits (take (digit_count rest) rest)
+        → AreDigits (take (digit_count (b ∷ rest)) (b ∷ rest))
     by_digit b rest true e more =
         let count : digit_count (b ∷ rest) ≡ suc (digit_count rest) = rw e (omega arith) in
         subst (λ n. AreDigits (take n (b ∷ rest))) (sym count) (rw e more)

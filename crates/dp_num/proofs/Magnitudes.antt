@@ -16,7 +16,8 @@ abbrev value : Bool → ℕ → ℕ → ℕ → Result Decimal NumFault
 value negative n up down = judged (shortest negative (n * 10 ^ up) down)
 
 -- the answer, from the parts of the number
-by_parts : (negative : Bool) (number : List ℕ) (n up down : ℕ) → is_magnitude number ≡ true → significand number ≡ n → raised number ≡ up → lowered number ≡ down
+by_parts : (negative : Bool) (number : List ℕ) (n up down : ℕ) → is_magnitude number ≡ true → significand number ≡ n
+    → raised number ≡ up → lowered number ≡ down
     → magnitude_where (is_magnitude number) negative number ≡ value negative n up down
 by_parts negative number n up down shape e f g =
     ap (λ b. magnitude_where b negative number) shape ∙ ap (λ k. value negative k (raised number) (lowered number)) e ∙ ap (λ k. value negative n k (lowered number)) f ∙ ap (value negative n up) g
@@ -28,10 +29,12 @@ module _ (number : List ℕ) where
 
   -- with a point
   module _ (hit : eqb (first rest) 46 ≡ true) where
-    pub pointed_shape : ltb 0 (digit_count number + digit_count (drop 1 rest)) ≡ true → is_exponent (after_digits (drop 1 rest)) ≡ true → is_magnitude number ≡ true
+    pub pointed_shape : ltb 0 (digit_count number + digit_count (drop 1 rest)) ≡ true
+        → is_exponent (after_digits (drop 1 rest)) ≡ true → is_magnitude number ≡ true
     pointed_shape some exp = rw (hit, some, exp) refl
 
-    pointed_digits : significand number ≡ digits_value 10 (take_while is_ascii_digit number ++ take_while is_ascii_digit (drop 1 rest))
+    pointed_digits : significand number
+        ≡ digits_value 10 (take_while is_ascii_digit number ++ take_while is_ascii_digit (drop 1 rest))
     unfolding significand
     pointed_digits = rw hit refl
 
@@ -73,7 +76,8 @@ pub record Behind (rest after exponent : List ℕ) (count : ℕ) : Type 0 where
   pub exponent_is : exponent ≡ drop count after
 
 -- the answer for a number with a point, from the parts that the code has
-pub same_pointed : (negative : Bool) (number rest after exponent : List ℕ) (whole fraction : ℕ) → Begins number rest whole → Behind rest after exponent fraction
+pub same_pointed : (negative : Bool) (number rest after exponent : List ℕ) (whole fraction : ℕ)
+    → Begins number rest whole → Behind rest after exponent fraction
     → (whole + fraction ≡ 0 → ⊥) → is_exponent exponent ≡ true
     → judged (shortest negative (digits_value 10 (take_while is_ascii_digit number ++ take_while is_ascii_digit after) * 10 ^ tens_more exponent) (fraction + tens_less exponent))
     ≡ magnitude_where (is_magnitude number) negative number
@@ -84,7 +88,8 @@ same_pointed negative number rest after exponent whole fraction b p none exp =
     rw (p.exponent_is, p.count_is, p.after_is, b.rest_is, b.count_is) (sym (by_parts negative number _ _ _ (pointed_shape number hit some shape) (pointed_digits number hit) (pointed_raised number hit) (pointed_lowered number hit)))
 
 -- and for one without
-pub same_plain : (negative : Bool) (number rest : List ℕ) (whole : ℕ) → Begins number rest whole → (first rest ≡ 46 → ⊥) → (whole ≡ 0 → ⊥) → is_exponent rest ≡ true
+pub same_plain : (negative : Bool) (number rest : List ℕ) (whole : ℕ) → Begins number rest whole
+    → (first rest ≡ 46 → ⊥) → (whole ≡ 0 → ⊥) → is_exponent rest ≡ true
     → judged (shortest negative (digits_value 10 (take_while is_ascii_digit number) * 10 ^ tens_more rest) (0 + tens_less rest))
     ≡ magnitude_where (is_magnitude number) negative number
 same_plain negative number rest whole b other none exp =

@@ -34,7 +34,8 @@ at_zero_digits : (negative : Bool) (v : ℕ) → ShortestForm negative v 0
 at_zero_digits negative v = record { n = v; k = 0; j = 0; is = refl; lowered = record { sum = refl; value = omega arith; ends = λ lt. absurd (omega arith) } }
 
 -- a number that ends in 0 has that of its tenth
-ten_less : (negative : Bool) (v down : ℕ) → v % 10 ≡ 0 → ShortestForm negative (v / 10) down → ShortestForm negative v (suc down)
+ten_less : (negative : Bool) (v down : ℕ) → v % 10 ≡ 0 → ShortestForm negative (v / 10) down
+    → ShortestForm negative v (suc down)
 ten_less negative v down none rest = record {
   n = rest.n;
   k = rest.k;
@@ -76,7 +77,8 @@ ends_in : (q n : ℕ) → q * 10 ≡ n → n % 10 ≡ 0
 ends_in q n e = omega arith
 
 -- and no form with fewer digits does
-form_least : (s up down v n k j m fewer : ℕ) → v ≡ s * 10 ^ up → Lowered v down n k j → m * 10 ^ down ≡ s * 10 ^ (up + fewer) → k ≤ fewer
+form_least : (s up down v n k j m fewer : ℕ) → v ≡ s * 10 ^ up → Lowered v down n k j
+    → m * 10 ^ down ≡ s * 10 ^ (up + fewer) → k ≤ fewer
 form_least s up down v n k j m fewer e low writes = elim (cases_lt fewer k) [ inr le ↦ le | inl lt ↦ absurd (less lt) ]
   where
     less : fewer < k → ⊥
@@ -118,7 +120,8 @@ module _ (text : List ℕ) where
       ∙ sym (signed-mul negative (significand number) (10 ^ (raised number + form.k)))
 
   -- magnitudes of two ways to write it
-  magnitude_is : (units : ℤ) (digits : ℕ) → Writes text units digits → unsigned_abs units * 10 ^ lowered number ≡ significand number * 10 ^ (raised number + digits)
+  magnitude_is : (units : ℤ) (digits : ℕ) → Writes text units digits
+      → unsigned_abs units * 10 ^ lowered number ≡ significand number * 10 ^ (raised number + digits)
   magnitude_is units digits writes =
       sym (unsigned_abs-mul units (pos (10 ^ lowered number)))
       ∙ ap unsigned_abs writes
@@ -165,7 +168,8 @@ pub data Outcome (text : List ℕ) : Type 0 where
   misshapen : is_decimal text ≡ false → decimal_of text ≡ Err Shape → Outcome text
   large : is_decimal text ≡ true → IsLarge text → decimal_of text ≡ Err Large → Outcome text
   fine : (k : ℕ) → is_decimal text ≡ true → HasTooManyDigits text k → decimal_of text ≡ Err (Digits k) → Outcome text
-  read : (units : ℤ) (k : ℕ) → is_decimal text ≡ true → IsSmall text → unsigned_abs units < 10 ^ (18 + k) → k ≤ 18 → WritesShortest text units k
+  read : (units : ℤ) (k : ℕ) → is_decimal text ≡ true → IsSmall text → unsigned_abs units < 10 ^ (18 + k) → k ≤ 18
+      → WritesShortest text units k
       → decimal_of text ≡ Ok (record { units = units; digits = k }) → Outcome text
 
 -- by the shape
@@ -233,7 +237,8 @@ same_fault : (j k : ℕ) → fault j ≡ fault k → j ≡ k
 same_fault j k e = cc
 
 -- too many digits exactly where the least are
-pub digits_iff : (text : List ℕ) (k : ℕ) → (decimal_of text ≡ Err (Digits k)) ↔ (IsTrue (is_decimal text) × HasTooManyDigits text k)
+pub digits_iff : (text : List ℕ) (k : ℕ)
+    → (decimal_of text ≡ Err (Digits k)) ↔ (IsTrue (is_decimal text) × HasTooManyDigits text k)
 digits_iff text k =
     elim (outcome text) [
       | misshapen other e ↦ (λ x. absurd cc, λ x. let y = x.0 in absurd cc)

@@ -25,10 +25,12 @@ pub not_index_texts : list_any is_index (codes "" ∷ codes "+1" ∷ codes "1." 
 unfolding is_index
 not_index_texts = refl
 
-pub name_texts : list_all is_name (codes "listen" ∷ codes "tiger-left" ∷ codes "T" ∷ codes "_" ∷ codes "-" ∷ codes "." ∷ codes "e5" ∷ codes "1.2.3" ∷ codes "Uniform" ∷ codes "reward" ∷ []) ≡ true
+pub name_texts : list_all is_name (codes "listen" ∷ codes "tiger-left" ∷ codes "T" ∷ codes "_" ∷ codes "-" ∷ codes "." ∷ codes "e5" ∷ codes "1.2.3" ∷ codes "Uniform" ∷ codes "reward" ∷ [])
+    ≡ true
 unfolding is_name is_word is_decimal
 name_texts = refl
 
-pub not_name_texts : list_any is_name (codes "" ∷ codes "uniform" ∷ codes "identity" ∷ codes "1" ∷ codes "-1e5" ∷ codes "a b" ∷ codes "a:b" ∷ codes "*" ∷ codes "a#" ∷ []) ≡ false
+pub not_name_texts : list_any is_name (codes "" ∷ codes "uniform" ∷ codes "identity" ∷ codes "1" ∷ codes "-1e5" ∷ codes "a b" ∷ codes "a:b" ∷ codes "*" ∷ codes "a#" ∷ [])
+    ≡ false
 unfolding is_name is_word is_decimal
 not_name_texts = refl

@@ -44,7 +44,8 @@ shortest_stop negative n (suc k) some = rw (ne_eqb (n % 10) 0 some) refl
 
 module _ (ds : List ℕ) (s : Significand) (negative : Bool) (up down : ℕ) where
   -- where no digit but 0 was seen
-  pub at_zero : s.len ≡ 0 → IsSeen ds s → shortest negative (digits_value 10 ds * 10 ^ up) down ≡ decimal_with negative 0 0
+  pub at_zero : s.len ≡ 0 → IsSeen ds s
+      → shortest negative (digits_value 10 ds * 10 ^ up) down ≡ decimal_with negative 0 0
   at_zero empty seen =
       let none : seen.0 ≡ 0 = seen.1.none empty in
       let value : digits_value 10 ds ≡ 0 * 10 ^ s.zeros = seen.1.value ∙ ap (λ n. n * 10 ^ s.zeros) none in
@@ -60,7 +61,9 @@ module _ (ds : List ℕ) (s : Significand) (negative : Bool) (up down : ℕ) whe
       omega (arith, sum, first)
 
   -- where the tens make it a whole number
-  pub at_whole : (seen : IsSeen ds s) → down ≤ s.zeros + up → shortest negative (digits_value 10 ds * 10 ^ up) down ≡ decimal_with negative (seen.0 * 10 ^ (s.zeros + up - down)) 0
+  pub at_whole : (seen : IsSeen ds s) → down ≤ s.zeros + up
+      → shortest negative (digits_value 10 ds * 10 ^ up) down
+        ≡ decimal_with negative (seen.0 * 10 ^ (s.zeros + up - down)) 0
   at_whole seen le =
       let split : s.zeros + up ≡ (s.zeros + up - down) + down = omega arith in
       let apart : seen.0 * 10 ^ (s.zeros + up) ≡ seen.0 * (10 ^ (s.zeros + up - down) * 10 ^ down) = ap (λ k. seen.0 * 10 ^ k) split ∙ ap (λ p. seen.0 * p) (pow-add 10 (s.zeros + up - down) down) in
@@ -69,7 +72,8 @@ module _ (ds : List ℕ) (s : Significand) (negative : Bool) (up down : ℕ) whe
       rw tens (ap (shortest negative (seen.0 * 10 ^ (s.zeros + up - down) * 10 ^ down)) none ∙ shortest_less negative (seen.0 * 10 ^ (s.zeros + up - down)) down 0)
 
   -- where they do not
-  pub at_fraction : (seen : IsSeen ds s) → 0 < s.len → s.zeros + up < down → shortest negative (digits_value 10 ds * 10 ^ up) down ≡ decimal_with negative seen.0 (down - (s.zeros + up))
+  pub at_fraction : (seen : IsSeen ds s) → 0 < s.len → s.zeros + up < down
+      → shortest negative (digits_value 10 ds * 10 ^ up) down ≡ decimal_with negative seen.0 (down - (s.zeros + up))
   at_fraction seen some lt =
       let split : down ≡ (s.zeros + up) + (down - (s.zeros + up)) = omega arith in
       rw (all_tens seen) (ap (shortest negative (seen.0 * 10 ^ (s.zeros + up))) split ∙ shortest_less negative seen.0 (s.zeros + up) (down - (s.zeros + up)))
@@ -84,7 +88,8 @@ unsigned_abs-signed false n = refl
 -- ---- what is answered of a number that has so many digits and does not end in 0
 
 -- of a whole number with more than 18 digits
-pub large_whole : (negative : Bool) (n len more : ℕ) → HasLength n len → 18 < len + more → judged (decimal_with negative (n * 10 ^ more) 0) ≡ Err Large
+pub large_whole : (negative : Bool) (n len more : ℕ) → HasLength n len → 18 < len + more
+    → judged (decimal_with negative (n * 10 ^ more) 0) ≡ Err Large
 large_whole negative n len more long lt =
     let sum : 10 ^ (len + more) ≡ 10 ^ len * 10 ^ more = pow-add 10 len more in
     let most : 10 ^ 19 ≤ 10 ^ (len + more) = tens_up 19 (len + more) lt in
@@ -106,11 +111,13 @@ pub whole_fits : (n len more : ℕ) → n < 10 ^ len → len + more ≤ 18 → n
 whole_fits n len more high le = omega (arith, below_whole n len more high le)
 
 -- and is given
-pub ok_whole : (negative : Bool) (n len more : ℕ) → HasLength n len → len + more ≤ 18 → judged (decimal_with negative (n * 10 ^ more) 0) ≡ Ok (decimal_with negative (n * 10 ^ more) 0)
+pub ok_whole : (negative : Bool) (n len more : ℕ) → HasLength n len → len + more ≤ 18
+    → judged (decimal_with negative (n * 10 ^ more) 0) ≡ Ok (decimal_with negative (n * 10 ^ more) 0)
 ok_whole negative n len more long le = rw (unsigned_abs-signed negative (n * 10 ^ more), lt-leb (10 ^ 18) (n * 10 ^ more) (below_whole n len more long.high le)) refl
 
 -- of a fraction with more than 18 digits before the point
-pub large_fraction : (negative : Bool) (n len k : ℕ) → HasLength n len → 18 + k < len → judged (decimal_with negative n k) ≡ Err Large
+pub large_fraction : (negative : Bool) (n len k : ℕ) → HasLength n len → 18 + k < len
+    → judged (decimal_with negative n k) ≡ Err Large
 large_fraction negative n len k long lt =
     let most : 10 ^ (18 + k + 1) ≤ 10 ^ len = tens_up (18 + k + 1) len (omega arith) in
     let large : 10 ^ (18 + k) ≤ n = omega (arith, most, ten_more (18 + k), long.low) in
@@ -121,11 +128,13 @@ not_large : (n len k : ℕ) → n < 10 ^ len → len ≤ 18 + k → leb (10 ^ (1
 not_large n len k high le = lt-leb (10 ^ (18 + k)) n (let most = tens_up len (18 + k) le in omega (arith, most))
 
 -- and refused where it has more than 18 fraction digits
-pub digits_fraction : (negative : Bool) (n len k : ℕ) → HasLength n len → len ≤ 18 + k → 18 < k → judged (decimal_with negative n k) ≡ Err (Digits k)
+pub digits_fraction : (negative : Bool) (n len k : ℕ) → HasLength n len → len ≤ 18 + k → 18 < k
+    → judged (decimal_with negative n k) ≡ Err (Digits k)
 digits_fraction negative n len k long le lt = rw (unsigned_abs-signed negative n, not_large n len k long.high le, lt-ltb 18 k lt) refl
 
 -- and else given
-pub ok_fraction : (negative : Bool) (n len k : ℕ) → HasLength n len → len ≤ 18 + k → k ≤ 18 → judged (decimal_with negative n k) ≡ Ok (decimal_with negative n k)
+pub ok_fraction : (negative : Bool) (n len k : ℕ) → HasLength n len → len ≤ 18 + k → k ≤ 18
+    → judged (decimal_with negative n k) ≡ Ok (decimal_with negative n k)
 ok_fraction negative n len k long le small = rw (unsigned_abs-signed negative n, not_large n len k long.high le, le-ltb 18 k small) refl
 
 -- where it has 127 bits
@@ -138,7 +147,9 @@ ok_zero true = refl
 ok_zero false = refl
 
 -- the decimal with these units is the one that is given
-pub ok_of : (negative : Bool) (n k : ℕ) (units : ℤ) → units ≡ signed negative n → judged (decimal_with negative n k) ≡ Ok (decimal_with negative n k) → Ok (record { units = units; digits = k }) ≡ judged (decimal_with negative n k)
+pub ok_of : (negative : Bool) (n k : ℕ) (units : ℤ) → units ≡ signed negative n
+    → judged (decimal_with negative n k) ≡ Ok (decimal_with negative n k)
+    → Ok (record { units = units; digits = k }) ≡ judged (decimal_with negative n k)
 ok_of negative n k units e ok = ap given e ∙ sym ok
   where
     given : ℤ → Result Decimal NumFault

@@ -66,7 +66,8 @@ pub pow_fits : (len z : ℕ) → 0 < len → len + z + 1 ≤ 36 → 10 ^ (z + 1)
 pow_fits len z some short = let most : 10 ^ (z + 1) ≤ 10 ^ 36 = tens_up (z + 1) 36 (omega arith) in omega (arith, most)
 
 -- a zero more
-pub zero_digit : (ds : List ℕ) (s t : Significand) → t.number ≡ s.number → t.len ≡ s.len → t.zeros ≡ s.zeros + 1 → IsSeen ds s → IsSeen (ds ++ 48 ∷ []) t
+pub zero_digit : (ds : List ℕ) (s t : Significand) → t.number ≡ s.number → t.len ≡ s.len → t.zeros ≡ s.zeros + 1
+    → IsSeen ds s → IsSeen (ds ++ 48 ∷ []) t
 zero_digit ds s t number len zeros seen =
     let n : ℕ = seen.0 in
     let was = seen.1 in (
@@ -80,7 +81,8 @@ zero_digit ds s t number len zeros seen =
     )
 
 -- the first digit above 0
-pub first_digit : (ds : List ℕ) (d : ℕ) (s t : Significand) → d < 10 → d ≢ 0 → s.len ≡ 0 → t.number ≡ d → t.len ≡ 1 → t.zeros ≡ 0 → IsSeen ds s → IsSeen (ds ++ (48 + d) ∷ []) t
+pub first_digit : (ds : List ℕ) (d : ℕ) (s t : Significand) → d < 10 → d ≢ 0 → s.len ≡ 0 → t.number ≡ d → t.len ≡ 1
+    → t.zeros ≡ 0 → IsSeen ds s → IsSeen (ds ++ (48 + d) ∷ []) t
 first_digit ds d s t lt some empty number len zeros seen =
     let was = seen.1 in
     let none : seen.0 ≡ 0 = was.none empty in
@@ -95,7 +97,9 @@ first_digit ds d s t lt some empty number len zeros seen =
     )
 
 -- a digit above 0 behind others
-pub next_digit : (ds : List ℕ) (d : ℕ) (s t : Significand) → d < 10 → d ≢ 0 → 0 < s.len → t.len ≡ s.len + s.zeros + 1 → t.zeros ≡ 0 → (t.len ≤ 36 → t.number ≡ s.number * 10 ^ (s.zeros + 1) + d) → IsSeen ds s → IsSeen (ds ++ (48 + d) ∷ []) t
+pub next_digit : (ds : List ℕ) (d : ℕ) (s t : Significand) → d < 10 → d ≢ 0 → 0 < s.len → t.len ≡ s.len + s.zeros + 1
+    → t.zeros ≡ 0 → (t.len ≤ 36 → t.number ≡ s.number * 10 ^ (s.zeros + 1) + d) → IsSeen ds s
+    → IsSeen (ds ++ (48 + d) ∷ []) t
 next_digit ds d s t lt some there len zeros number seen =
     let n : ℕ = seen.0 in
     let was = seen.1 in

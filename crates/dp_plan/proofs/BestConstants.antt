@@ -50,7 +50,8 @@ next_is_first f n first h more = record {
 }
 
 -- the next number is not greater
-pub next_is_no_first : (f : ℕ → ℤ) (n first : ℕ) → IsFirstGreatest f n first → f n ≤ℤ f first → IsFirstGreatest f (suc n) first
+pub next_is_no_first : (f : ℕ → ℤ) (n first : ℕ) → IsFirstGreatest f n first → f n ≤ℤ f first
+    → IsFirstGreatest f (suc n) first
 next_is_no_first f n first h less = record {
   below = let lt = h.below in omega arith;
   greatest = λ k p. ⊎_elim (λ is. rw is less) (λ lt. h.greatest k lt) (last_or_before k n p);
@@ -67,18 +68,21 @@ greatest_is_first f n first h =
 -- ---- the certificate
 
 -- the bound of the root is the value of the best constant policy
-root_bound_is_best : (m : Model) (a : ℕ) → IsModel m → IsBestConstant m a → constant_value m a ≡ front_bound (exact m.scales) m 1 1 (root_front m)
+root_bound_is_best : (m : Model) (a : ℕ) → IsModel m → IsBestConstant m a
+    → constant_value m a ≡ front_bound (exact m.scales) m 1 1 (root_front m)
 unfolding front_bound constant_value root_front
 root_bound_is_best m a ok best =
     sym ((exact_quantities m ok).bounds 1 (root_front m) 1 ∙ root_bound_at_one m ok 1 ∙ greatest_is_first (constant_value m) (joint_actions m) a best)
 
 -- in exact arithmetic the worth of a constant policy is its value
-lower_is_value : (m : Model) (a : ℕ) → constant_value m a ≡ (forward_worth_in (exact m.scales) m 1 (constant_policy m 1 a)).low
+lower_is_value : (m : Model) (a : ℕ)
+    → constant_value m a ≡ (forward_worth_in (exact m.scales) m 1 (constant_policy m 1 a)).low
 unfolding constant_value
 lower_is_value m a = sym (ap (λ (s : Span). s.low) (worth_enclosed m (exact m.scales) equality (exact_sound m) 1 (constant_policy m 1 a)))
 
 -- in exact mode the certificate of the best constant policy is valid
-pub best_constant_is_valid : (m : Model) (a : ℕ) → IsModel m → is_exact_mode m 1 ≡ true → IsBestConstant m a → IsValid m (constant_certificate m a)
+pub best_constant_is_valid : (m : Model) (a : ℕ) → IsModel m → is_exact_mode m 1 ≡ true → IsBestConstant m a
+    → IsValid m (constant_certificate m a)
 best_constant_is_valid m a ok exact_mode best = record {
   within = within_one_step m ok;
   mode = sym exact_mode;
@@ -91,5 +95,6 @@ best_constant_is_valid m a ok exact_mode best = record {
 }
 
 -- and what it claims is so
-pub best_constant_claims_hold : (m : Model) (a : ℕ) → IsModel m → is_exact_mode m 1 ≡ true → IsBestConstant m a → ClaimsHold m (constant_certificate m a)
+pub best_constant_claims_hold : (m : Model) (a : ℕ) → IsModel m → is_exact_mode m 1 ≡ true → IsBestConstant m a
+    → ClaimsHold m (constant_certificate m a)
 best_constant_claims_hold m a ok exact_mode best = claims_hold m (constant_certificate m a) ok (best_constant_is_valid m a ok exact_mode best)

@@ -21,13 +21,15 @@ use Rattle.dp_spec.proofs.JointNumberLaws.{length-parts_of}
 -- ---- one agent after the other
 
 -- an agent's lines and what follows
-agent_text_then : (k p : ℕ) (rest : List ℕ) → agent_text k p ++ rest ≡ codes "agent " ++ (decimal k ++ 10 ∷ (decimal p ++ 10 ∷ rest))
+agent_text_then : (k p : ℕ) (rest : List ℕ)
+    → agent_text k p ++ rest ≡ codes "agent " ++ (decimal k ++ 10 ∷ (decimal p ++ 10 ∷ rest))
 agent_text_then k p rest =
     ap (λ (l : List ℕ). codes "agent " ++ l)
     (append_assoc (decimal k) (10 ∷ (decimal p ++ 10 ∷ [])) rest ∙ ap (λ (l : List ℕ). decimal k ++ 10 ∷ l) (append_assoc (decimal p) (10 ∷ []) rest))
 
 -- the lines of the agents are those of their constant trees
-pub agents_text_is : (k : ℕ) (bs ns ps : List ℕ) → length ns ≡ length bs → length ps ≡ length bs → text_of_lines (agent_lines k (policy_rows bs ns 1 (constant_trees ns 1 ps))) ≡ agents_text k ps
+pub agents_text_is : (k : ℕ) (bs ns ps : List ℕ) → length ns ≡ length bs → length ps ≡ length bs
+    → text_of_lines (agent_lines k (policy_rows bs ns 1 (constant_trees ns 1 ps))) ≡ agents_text k ps
 agents_text_is k [] [] [] e f = refl
 agents_text_is k [] [] (p ∷ ps) e f = absurd (omega arith)
 agents_text_is k [] (n ∷ ns) ps e f = absurd (omega arith)
@@ -38,7 +40,9 @@ agents_text_is k (b ∷ bs) (n ∷ ns) (p ∷ ps) e f =
     rw (pow-zero n, rest) (sym (agent_text_then k p (agents_text (k + 1) ps)))
 
 -- the next agent's lines are appended
-pub next_agent : (text parts : List ℕ) (i : ℕ) → i < length parts → (text ++ agent_text i (get_or parts i 0)) ++ agents_text (i + 1) (drop (i + 1) parts) ≡ text ++ agents_text i (drop i parts)
+pub next_agent : (text parts : List ℕ) (i : ℕ) → i < length parts
+    → (text ++ agent_text i (get_or parts i 0)) ++ agents_text (i + 1) (drop (i + 1) parts)
+      ≡ text ++ agents_text i (drop i parts)
 next_agent text parts i lt =
     append_assoc text (agent_text i (get_or parts i 0)) (agents_text (i + 1) (drop (i + 1) parts))
     ∙ ap (λ (l : List ℕ). text ++ l) (rw (drop-cons parts i 0 lt, add-one) refl)
@@ -50,7 +54,8 @@ no_agent_left text parts i e = rw (e, drop-length parts) (append-nil text)
 -- ---- the whole text
 
 -- seven lists and what follows
-seven_then : (a b c d e f g rest : List ℕ) → (a ++ (b ++ (c ++ (d ++ (e ++ (f ++ g)))))) ++ rest ≡ a ++ (b ++ (c ++ (d ++ (e ++ (f ++ (g ++ rest))))))
+seven_then : (a b c d e f g rest : List ℕ)
+    → (a ++ (b ++ (c ++ (d ++ (e ++ (f ++ g)))))) ++ rest ≡ a ++ (b ++ (c ++ (d ++ (e ++ (f ++ (g ++ rest))))))
 seven_then a b c d e f g rest = simp append_assoc refl
 
 -- the lines of the tree and the last line
@@ -93,11 +98,16 @@ constant_text m a ok exact_mode =
 -- ---- as it is pushed
 
 -- the pieces of the head, appended one after the other
-head_pieces : (t a b d n l s u i : List ℕ) → (((t ++ a) ++ (b ++ (d ++ n))) ++ (l ++ (s ++ (u ++ (s ++ n))))) ++ i ≡ t ++ (a ++ (b ++ (d ++ (n ++ (l ++ (s ++ (u ++ (s ++ (n ++ i)))))))))
+head_pieces : (t a b d n l s u i : List ℕ)
+    → (((t ++ a) ++ (b ++ (d ++ n))) ++ (l ++ (s ++ (u ++ (s ++ n))))) ++ i
+      ≡ t ++ (a ++ (b ++ (d ++ (n ++ (l ++ (s ++ (u ++ (s ++ (n ++ i)))))))))
 head_pieces t a b d n l s u i = simp append_assoc refl
 
-pub head_pushed : (t t1 t2 t3 t4 : List ℕ) (unit : ℕ) (value : ℤ) → t1 ≡ t ++ codes "decplan certificate 1\nhorizon 1\nlook 1\nmode exact\n" → t2 ≡ t1 ++ (codes "unit " ++ (decimal unit ++ 10 ∷ []))
-    → t3 ≡ t2 ++ (codes "lower " ++ (signed_decimal value ++ (codes "\nupper " ++ (signed_decimal value ++ 10 ∷ [])))) → t4 ≡ t3 ++ codes "inner 0\npolicy\n" → t4 ≡ t ++ head_text unit value
+pub head_pushed : (t t1 t2 t3 t4 : List ℕ) (unit : ℕ) (value : ℤ)
+    → t1 ≡ t ++ codes "decplan certificate 1\nhorizon 1\nlook 1\nmode exact\n"
+    → t2 ≡ t1 ++ (codes "unit " ++ (decimal unit ++ 10 ∷ []))
+    → t3 ≡ t2 ++ (codes "lower " ++ (signed_decimal value ++ (codes "\nupper " ++ (signed_decimal value ++ 10 ∷ []))))
+    → t4 ≡ t3 ++ codes "inner 0\npolicy\n" → t4 ≡ t ++ head_text unit value
 head_pushed t t1 t2 t3 t4 unit value first second third fourth =
     fourth
     ∙ ap (λ (x : List ℕ). x ++ codes "inner 0\npolicy\n")

@@ -21,7 +21,8 @@ in_order : (d w p z k : ℕ) (r : ℤ) → k ≡ 1 → pos (d * w * p) *ℤ (pos
 in_order d w p z k r e = rw e (by_ring (nat (d * w * p) ⊗ (nat z ⊗ v r)) (nat (w * (p * z)) ⊗ (v r ⊗ nat (d * 1))) (omega arith))
 
 -- the discount times the expected reward is the weighted reward of the last step
-expected_is_weighted : (m : Model) (a : ℕ) → pos m.scales.discount *ℤ reward_from_start m a ≡ weighted_reward m 0 (start_at m) a
+expected_is_weighted : (m : Model) (a : ℕ)
+    → pos m.scales.discount *ℤ reward_from_start m a ≡ weighted_reward m 0 (start_at m) a
 unfolding reward_from_start reward_in_state reward_on_arrival weighted_reward
 expected_is_weighted m a =
     let S = m.states in
@@ -37,6 +38,7 @@ expected_is_weighted m a =
     ∙ int_sum_ext O _ _ (λ o u. in_order d (start_at m s) (trans_at m a s t) (obs_at m a t o) (step_scale m ^ 0) (reward_at m a s t o) (pow-zero (step_scale m)))))
 
 -- the value of a constant policy is the discount times the expected reward
-pub value_is_expected : (m : Model) → IsModel m → (a : ℕ) → a < joint_actions m → pos m.scales.discount *ℤ reward_from_start m a ≡ constant_value m a
+pub value_is_expected : (m : Model) → IsModel m → (a : ℕ) → a < joint_actions m
+    → pos m.scales.discount *ℤ reward_from_start m a ≡ constant_value m a
 unfolding constant_value
 value_is_expected m ok a p = expected_is_weighted m a ∙ sym (constant_policy_value m ok a p)

@@ -43,7 +43,8 @@ small_product b t o k p q r s =
     omega arith
 
 -- the limit of exact mode, with small scales
-small_limit : (m : Model) → IsModel m → AreSmallScales m.scales → m.scales.start * step_scale m * 1 * max (max (greatest_magnitude m.reward) m.scales.reward) 1 ≤ 2 ^ 126
+small_limit : (m : Model) → IsModel m → AreSmallScales m.scales
+    → m.scales.start * step_scale m * 1 * max (max (greatest_magnitude m.reward) m.scales.reward) 1 ≤ 2 ^ 126
 unfolding step_scale
 small_limit m ok small =
     let most : greatest_magnitude m.reward ≤ 10 ^ 8 * m.scales.reward = magnitude_most m.reward (10 ^ 8 * m.scales.reward) ok.tables.reward_limit in

@@ -28,7 +28,8 @@ have_room b t o d k some_b some_t some_d h =
     let whole : d * (b * (t * (o * k))) ≤ 2 ^ 126 = omega arith in
     record { obs = omega arith; trans = omega arith; start = omega arith; whole = omega arith }
 
-rooms : (m : Model) → IsModel m → is_exact_mode m 1 ≡ true → HaveRoom m.scales.start m.scales.trans m.scales.obs m.scales.discount (reward_most m)
+rooms : (m : Model) → IsModel m → is_exact_mode m 1 ≡ true
+    → HaveRoom m.scales.start m.scales.trans m.scales.obs m.scales.discount (reward_most m)
 unfolding step_scale
 rooms m ok e =
     have_room m.scales.start m.scales.trans m.scales.obs m.scales.discount (reward_most m) ok.scales.start ok.scales.trans ok.scales.discount
@@ -44,7 +45,8 @@ pub record UnitHasRoom (c : Scales) : Type 0 where
   pub reward : c.reward * (c.trans * c.obs * c.discount) ≤ 2 ^ 126
   pub whole : c.start * (c.reward * (c.trans * c.obs * c.discount)) ≤ 2 ^ 126
 
-unit_products : (b s r k : ℕ) → 0 < b → 0 < r → r ≤ k → b * s * k ≤ 2 ^ 126 → (s ≤ 2 ^ 126) × (r * s ≤ 2 ^ 126) × (b * (r * s) ≤ 2 ^ 126)
+unit_products : (b s r k : ℕ) → 0 < b → 0 < r → r ≤ k → b * s * k ≤ 2 ^ 126
+    → (s ≤ 2 ^ 126) × (r * s ≤ 2 ^ 126) × (b * (r * s) ≤ 2 ^ 126)
 unit_products b s r k some_b some_r le h =
     let fewer : b * s * r ≤ b * s * k = mul-le-mul_left (b * s) le in
     let first = le-mul_of_pos_right s some_r in
@@ -62,14 +64,16 @@ unit_has_room m ok e =
     record { step = all.0; reward = all.1; whole = all.2 }
 
 -- the unit, factor by factor
-pub unit_is : (m : Model) → m.scales.start * (m.scales.reward * (m.scales.trans * m.scales.obs * m.scales.discount)) ≡ value_scale m 1
+pub unit_is : (m : Model)
+    → m.scales.start * (m.scales.reward * (m.scales.trans * m.scales.obs * m.scales.discount)) ≡ value_scale m 1
 unfolding value_scale step_scale
 unit_is m = ap (λ (n : ℕ). m.scales.start * (m.scales.reward * n)) (sym (power_one (step_scale m)))
 
 -- ---- the three sums
 module _ (m : Model) (ok : IsModel m) (e : is_exact_mode m 1 ≡ true) (a : ℕ) (act : a < joint_actions m) where
   -- over the joint observations
-  pub arrival_room : (s t : ℕ) → t < m.states → HasRoom (joint_observations m) (reward_most m) (obs_at m a t) (reward_at m a s t)
+  pub arrival_room : (s t : ℕ) → t < m.states
+      → HasRoom (joint_observations m) (reward_most m) (obs_at m a t) (reward_at m a s t)
   arrival_room s t next = record {
     small = λ o p. reward_at_most m a s t o;
     room = rw (ok.rows.obs a t act next) (rooms m ok e).obs;
@@ -82,13 +86,15 @@ module _ (m : Model) (ok : IsModel m) (e : is_exact_mode m 1 ≡ true) (a : ℕ)
       (weighed_abs (joint_observations m) (reward_most m) (obs_at m a t) (reward_at m a s t) (λ o p. reward_at_most m a s t o))
 
   -- over the next states
-  pub state_room : (s : ℕ) → s < m.states → HasRoom m.states (m.scales.obs * reward_most m) (trans_at m a s) (reward_on_arrival m a s)
+  pub state_room : (s : ℕ) → s < m.states
+      → HasRoom m.states (m.scales.obs * reward_most m) (trans_at m a s) (reward_on_arrival m a s)
   state_room s here = record {
     small = λ t p. arrival_small s t p;
     room = rw (ok.rows.trans a s act here) (rooms m ok e).trans;
   }
 
-  state_small : (s : ℕ) → s < m.states → unsigned_abs (reward_in_state m a s) ≤ m.scales.trans * (m.scales.obs * reward_most m)
+  state_small : (s : ℕ) → s < m.states
+      → unsigned_abs (reward_in_state m a s) ≤ m.scales.trans * (m.scales.obs * reward_most m)
   unfolding reward_in_state
   state_small s here =
       subst (λ (n : ℕ). unsigned_abs (reward_in_state m a s) ≤ n * (m.scales.obs * reward_most m)) (ok.rows.trans a s act here)
@@ -101,7 +107,8 @@ module _ (m : Model) (ok : IsModel m) (e : is_exact_mode m 1 ≡ true) (a : ℕ)
     room = rw (ok.rows.start) (rooms m ok e).start;
   }
 
-  start_small : unsigned_abs (reward_from_start m a) ≤ m.scales.start * (m.scales.trans * (m.scales.obs * reward_most m))
+  start_small : unsigned_abs (reward_from_start m a)
+      ≤ m.scales.start * (m.scales.trans * (m.scales.obs * reward_most m))
   unfolding reward_from_start
   start_small =
       subst (λ (n : ℕ). unsigned_abs (reward_from_start m a) ≤ n * (m.scales.trans * (m.scales.obs * reward_most m))) ok.rows.start

@@ -21,7 +21,8 @@ more_terms : (a b most s w : ℕ) → a ≤ s * most → b ≤ w * most → a + 
 more_terms a b most s w p q = omega arith
 
 -- a weighed sum is at most the sum of the weights times the greatest number
-pub weighed_abs : (n most : ℕ) (w : ℕ → ℕ) (x : ℕ → ℤ) → ((i : ℕ) → i < n → unsigned_abs (x i) ≤ most) → unsigned_abs (int_sum n (λ i. pos (w i) *ℤ x i)) ≤ nat_sum n w * most
+pub weighed_abs : (n most : ℕ) (w : ℕ → ℕ) (x : ℕ → ℤ) → ((i : ℕ) → i < n → unsigned_abs (x i) ≤ most)
+    → unsigned_abs (int_sum n (λ i. pos (w i) *ℤ x i)) ≤ nat_sum n w * most
 weighed_abs zero most w x h = omega arith
 weighed_abs (suc n) most w x h =
     let rest : unsigned_abs (int_sum n (λ i. pos (w i) *ℤ x i)) ≤ nat_sum n w * most = weighed_abs n most w x (λ i p. h i (omega arith)) in
@@ -32,7 +33,8 @@ fewer_times : (a b most : ℕ) → a ≤ b → a * most ≤ b * most
 fewer_times a b most h = omega (arith, mul-le-mul_left most h)
 
 -- the first terms of a sum that has room fit
-pub sum_fits : (n most i : ℕ) (w : ℕ → ℕ) (x : ℕ → ℤ) → HasRoom n most w x → i ≤ n → FitsSigned w128 (int_sum i (λ k. pos (w k) *ℤ x k))
+pub sum_fits : (n most i : ℕ) (w : ℕ → ℕ) (x : ℕ → ℤ) → HasRoom n most w x → i ≤ n
+    → FitsSigned w128 (int_sum i (λ k. pos (w k) *ℤ x k))
 sum_fits n most i w x h le =
     let each = weighed_abs i most w x (λ k p. h.small k (omega arith)) in
     let part = fewer_times (nat_sum i w) (nat_sum n w) most (nat_sum_part i n w le) in
@@ -54,14 +56,16 @@ pub read_back : (z y : ℤ) → z ≡ y → FitsSigned w128 y → to_z w128 (of_
 read_back z y e fits = rw e (to_z-of_z w128 y fits)
 
 -- the next sum fits
-pub next_fits : (n most i : ℕ) (w : ℕ → ℕ) (x : ℕ → ℤ) (total term : ℤ) → HasRoom n most w x → i < n → total ≡ int_sum i (λ k. pos (w k) *ℤ x k) → term ≡ pos (w i) *ℤ x i
+pub next_fits : (n most i : ℕ) (w : ℕ → ℕ) (x : ℕ → ℤ) (total term : ℤ) → HasRoom n most w x → i < n
+    → total ≡ int_sum i (λ k. pos (w k) *ℤ x k) → term ≡ pos (w i) *ℤ x i
     → FitsSigned w128 (total +ℤ term)
 next_fits n most i w x total term room lt e f =
     let fits : FitsSigned w128 (int_sum i (λ k. pos (w k) *ℤ x k) +ℤ pos (w i) *ℤ x i) = sum_fits n most (suc i) w x room (omega arith) in
     rw (e, f) fits
 
 -- and it is the sum of one term more
-pub next_sum : (n most i : ℕ) (w : ℕ → ℕ) (x : ℕ → ℤ) (total term : ℤ) → HasRoom n most w x → i < n → total ≡ int_sum i (λ k. pos (w k) *ℤ x k) → term ≡ pos (w i) *ℤ x i
+pub next_sum : (n most i : ℕ) (w : ℕ → ℕ) (x : ℕ → ℤ) (total term : ℤ) → HasRoom n most w x → i < n
+    → total ≡ int_sum i (λ k. pos (w k) *ℤ x k) → term ≡ pos (w i) *ℤ x i
     → to_z w128 (of_z w128 (total +ℤ term)) ≡ int_sum (i + 1) (λ k. pos (w k) *ℤ x k)
 next_sum n most i w x total term room lt e f =
     let sum : total +ℤ term ≡ int_sum (suc i) (λ k. pos (w k) *ℤ x k) = rw (e, f) refl in

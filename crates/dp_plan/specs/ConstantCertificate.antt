@@ -8,7 +8,8 @@ use Rattle.dp_spec.specs.Certificate.{Certificate}
 use Rattle.dp_spec.specs.CertificateText.{certificate_text}
 use Rattle.dp_plan.specs.BestConstant.{constant_value, IsBestConstant}
 
--- the certificate that the constant policy of joint action a is best: both ends are its value, and the tree is one leaf with it
+-- the certificate that the constant policy of joint action a is best: both ends are its value, and the tree is one
+-- leaf with it
 abbrev pub constant_certificate : Model → ℕ → Certificate
 constant_certificate m a = record {
   horizon = 1;

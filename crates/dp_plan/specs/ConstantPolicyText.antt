@@ -6,7 +6,8 @@ use Rattle.std.specs.Fmt.{decimal, signed_decimal}
 abbrev pub head_text : ℕ → ℤ → List ℕ
 head_text unit value =
     codes "decplan certificate 1\nhorizon 1\nlook 1\nmode exact\nunit "
-    ++ (decimal unit ++ (codes "\nlower " ++ (signed_decimal value ++ (codes "\nupper " ++ (signed_decimal value ++ codes "\ninner 0\npolicy\n")))))
+    ++ (decimal unit ++ (codes "\nlower " ++ (signed_decimal value
+    ++ (codes "\nupper " ++ (signed_decimal value ++ codes "\ninner 0\npolicy\n")))))
 
 -- the lines of an agent: its number, and below it its action
 abbrev pub agent_text : ℕ → ℕ → List ℕ

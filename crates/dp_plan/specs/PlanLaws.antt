@@ -11,12 +11,14 @@ use Rattle.dp_plan.specs.ConstantCertificate.{constant_certificate}
 -- in exact mode the certificate of the best constant policy is valid
 abbrev pub BestConstantCertificateIsValid : Type 0
 BestConstantCertificateIsValid =
-    (m : Model) (a : ℕ) → IsModel m → is_exact_mode m 1 ≡ true → IsBestConstant m a → IsValid m (constant_certificate m a)
+    (m : Model) (a : ℕ) → IsModel m → is_exact_mode m 1 ≡ true → IsBestConstant m a →
+    IsValid m (constant_certificate m a)
 
 -- and what it claims is so: no joint policy over one step is worth more than the best constant one
 abbrev pub BestConstantCertificateHolds : Type 0
 BestConstantCertificateHolds =
-    (m : Model) (a : ℕ) → IsModel m → is_exact_mode m 1 ≡ true → IsBestConstant m a → ClaimsHold m (constant_certificate m a)
+    (m : Model) (a : ℕ) → IsModel m → is_exact_mode m 1 ≡ true → IsBestConstant m a →
+    ClaimsHold m (constant_certificate m a)
 
 -- every model keeps the limits of a horizon of one step
 abbrev pub OneStepIsWithin : Type 0

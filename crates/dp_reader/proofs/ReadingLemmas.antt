@@ -32,14 +32,17 @@ unfolding model_of
 start_stops end text (At f) h = rw h refl
 start_stops end text Memory h = tt
 
-pub trans_stops : (end : ℕ) (text : Text) (x : rows.Repaired) (e : TextFault) → repair_all end (start_row text ∷ []) ≡ Ok x
+pub trans_stops : (end : ℕ) (text : Text) (x : rows.Repaired) (e : TextFault)
+    → repair_all end (start_row text ∷ []) ≡ Ok x
     → ReadsRows (repair_all end (trans_rows text)) (Err e) → ReadsAllRows end text (Err e)
 unfolding model_of
 trans_stops end text x (At f) g h = rw g (rw h refl)
 trans_stops end text x Memory g h = tt
 
-pub obs_stops : (end : ℕ) (text : Text) (x y : rows.Repaired) (e : TextFault) → repair_all end (start_row text ∷ []) ≡ Ok x
-    → repair_all end (trans_rows text) ≡ Ok y → ReadsRows (repair_all end (obs_rows text)) (Err e) → ReadsAllRows end text (Err e)
+pub obs_stops : (end : ℕ) (text : Text) (x y : rows.Repaired) (e : TextFault)
+    → repair_all end (start_row text ∷ []) ≡ Ok x
+    → repair_all end (trans_rows text) ≡ Ok y → ReadsRows (repair_all end (obs_rows text)) (Err e)
+    → ReadsAllRows end text (Err e)
 unfolding model_of
 obs_stops end text x y (At f) g h k = rw g (rw h (rw k refl))
 obs_stops end text x y Memory g h k = tt
@@ -56,11 +59,13 @@ built text rows = record {
   repaired = rows.start.count + rows.transitions.count + rows.observations.count;
 }
 
-pub all_rows_are : (end : ℕ) (text : Text) (rows : Rows) → AreAllRows end text rows → model_of end text ≡ Ok (built text rows)
+pub all_rows_are : (end : ℕ) (text : Text) (rows : Rows) → AreAllRows end text rows
+    → model_of end text ≡ Ok (built text rows)
 unfolding model_of
 all_rows_are end text rows are = rw are.first.is (rw are.trans.is (rw are.obs.is refl))
 
-pub means_built : (bytes : List ℕ) (text : Text) (r : meaning.ReadModel) → text_of bytes ≡ Ok text → passed_limit text ≡ None
+pub means_built : (bytes : List ℕ) (text : Text) (r : meaning.ReadModel) → text_of bytes ≡ Ok text
+    → passed_limit text ≡ None
     → model_of (length bytes) text ≡ Ok r → meaning bytes ≡ Means r
 unfolding meaning
 means_built bytes text r says within is = rw says (rw within (rw is refl))
@@ -79,7 +84,8 @@ can_build bytes text rows says within are =
     let is = model_is bytes (built text rows) means in
     record { names = names_are bytes (built text rows) means; model = is.model; named = is.names }
 
-pub rows_built : (end : ℕ) (text : Text) (rows : Rows) (model : NamedModel) → AreAllRows end text rows → model ≡ (built text rows).model
+pub rows_built : (end : ℕ) (text : Text) (rows : Rows) (model : NamedModel) → AreAllRows end text rows
+    → model ≡ (built text rows).model
     → model_of end text ≡ Ok (record { model = model; repaired = (built text rows).repaired })
 rows_built end text rows model are e =
     let with_model : NamedModel → Result meaning.ReadModel Fault = λ m. Ok (record { model = m; repaired = (built text rows).repaired }) in
@@ -88,13 +94,15 @@ rows_built end text rows model are e =
 -- ---- the answer
 
 -- a fault of the text is what the file means
-pub text_fault : (bytes : List ℕ) (fault : TextFault) → Reads (text_of bytes) (Err fault) → IsMeaning (meaning bytes) (Err (told bytes fault))
+pub text_fault : (bytes : List ℕ) (fault : TextFault) → Reads (text_of bytes) (Err fault)
+    → IsMeaning (meaning bytes) (Err (told bytes fault))
 unfolding meaning
 text_fault bytes (At f) h = rw h refl
 text_fault bytes Memory h = tt
 
 -- the first limit that is passed
-pub text_passes : (bytes : List ℕ) (text : Text) (passed : TooLarge) → text_of bytes ≡ Ok text → passed_limit text ≡ Some passed
+pub text_passes : (bytes : List ℕ) (text : Text) (passed : TooLarge) → text_of bytes ≡ Ok text
+    → passed_limit text ≡ Some passed
     → meaning bytes ≡ Passes passed
 unfolding meaning
 text_passes bytes text passed says is = rw says (rw is refl)
@@ -116,11 +124,13 @@ told_same bytes meant fault answer e is = subst (λ f. IsMeaning meant (Err f)) 
 
 -- ---- each answer by itself
 
-pub model_is_meant : (meant : Meaning) (r : Result ReadModel ModelFault) → IsMeaning meant r → IfOk r (λ x. meant ≡ Means (meant_model x))
+pub model_is_meant : (meant : Meaning) (r : Result ReadModel ModelFault) → IsMeaning meant r
+    → IfOk r (λ x. meant ≡ Means (meant_model x))
 model_is_meant meant (Ok x) is = is
 model_is_meant meant (Err f) is = tt
 
-pub fault_is_meant : (meant : Meaning) (r : Result ReadModel ModelFault) → IsMeaning meant r → (line column : ℕ) (why : Why)
+pub fault_is_meant : (meant : Meaning) (r : Result ReadModel ModelFault) → IsMeaning meant r
+    → (line column : ℕ) (why : Why)
     → r ≡ Err (faults.At line column why) → meant ≡ FaultAt (record { line = line; column = column }) why
 fault_is_meant meant r is line column why e = subst (IsMeaning meant) e is
 

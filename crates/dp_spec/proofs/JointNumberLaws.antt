@@ -47,7 +47,8 @@ product-append [] ms = omega arith
 product-append (n ∷ ns) ms = ap (λ y. n * y) (product-append ns ms) ∙ sym (mul_assoc n (product ns) (product ms))
 
 -- the product from place i on is the number at place i times the product behind it
-pub product-drop : (ns : List ℕ) (i : ℕ) → i < length ns → product (drop i ns) ≡ get_or ns i 0 * product (drop (suc i) ns)
+pub product-drop : (ns : List ℕ) (i : ℕ) → i < length ns
+    → product (drop i ns) ≡ get_or ns i 0 * product (drop (suc i) ns)
 product-drop ns i lt = rw (drop-cons ns i 0 lt) refl
 
 -- no part of a product above 0 is 0, or more than the product
@@ -99,7 +100,8 @@ below_at zero (n ∷ ns) (p ∷ ps) lt h = h.0
 below_at (suc i) (n ∷ ns) (p ∷ ps) lt h = below_at i ns ps (omega arith) h.1
 
 -- .. and that is all
-pub below_each : (ns ps : List ℕ) → length ps ≡ length ns → ((i : ℕ) → i < length ns → get_or ps i 0 < get_or ns i 0) → AreBelow ns ps
+pub below_each : (ns ps : List ℕ) → length ps ≡ length ns → ((i : ℕ) → i < length ns → get_or ps i 0 < get_or ns i 0)
+    → AreBelow ns ps
 below_each [] [] alike below = tt
 below_each [] (p ∷ ps) alike below = absurd (omega arith)
 below_each (n ∷ ns) [] alike below = absurd (omega arith)
@@ -152,7 +154,8 @@ joint_number-parts_of (n ∷ ns) x h =
     put_together x (product ns) _ (joint_number-parts_of ns (x % product ns) (mod_below x (product ns) (positive_right n (product ns) x h)))
 
 -- the parts from place f on are those of what is left by the parts before
-pub joint_number-drop_parts : (f : ℕ) (ns : List ℕ) (x : ℕ) → x < product ns → joint_number (drop f ns) (drop f (parts_of ns x)) ≡ x % product (drop f ns)
+pub joint_number-drop_parts : (f : ℕ) (ns : List ℕ) (x : ℕ) → x < product ns
+    → joint_number (drop f ns) (drop f (parts_of ns x)) ≡ x % product (drop f ns)
 joint_number-drop_parts zero ns x h = joint_number-parts_of ns x h ∙ sym (mod-eq_of_lt h)
 joint_number-drop_parts (suc f) [] x h = omega arith
 joint_number-drop_parts (suc f) (n ∷ ns) x h =
@@ -160,7 +163,8 @@ joint_number-drop_parts (suc f) (n ∷ ns) x h =
     ∙ mod-mod_of_dvd (product (drop f ns)) x (product-drop_dvd ns f)
 
 -- a part is what is left of the number by the parts before, over the product behind
-part-rest : (ns : List ℕ) (x i : ℕ) → x < product ns → i < length ns → get_or (parts_of ns x) i 0 ≡ x % product (drop i ns) / product (drop (suc i) ns)
+part-rest : (ns : List ℕ) (x i : ℕ) → x < product ns → i < length ns
+    → get_or (parts_of ns x) i 0 ≡ x % product (drop i ns) / product (drop (suc i) ns)
 part-rest [] x i h lt = absurd (omega arith)
 part-rest (n ∷ ns) x zero h lt = ap (λ y. y / product ns) (sym (mod-eq_of_lt h))
 part-rest (n ∷ ns) x (suc i) h lt =
@@ -168,7 +172,8 @@ part-rest (n ∷ ns) x (suc i) h lt =
     ∙ ap (λ y. y / product (drop (suc i) ns)) (mod-mod_of_dvd (product (drop i ns)) x (product-drop_dvd ns i))
 
 -- a part by one quotient and one remainder
-pub part-is : (ns : List ℕ) (x i : ℕ) → x < product ns → i < length ns → get_or (parts_of ns x) i 0 ≡ x / product (drop (suc i) ns) % get_or ns i 0
+pub part-is : (ns : List ℕ) (x i : ℕ) → x < product ns → i < length ns
+    → get_or (parts_of ns x) i 0 ≡ x / product (drop (suc i) ns) % get_or ns i 0
 part-is ns x i h lt =
     let some : 0 < product ns = omega arith in
     part-rest ns x i h lt
@@ -178,7 +183,8 @@ part-is ns x i h lt =
 -- ---- two lists, one after the other
 
 -- the parts for two lists are those of the row and those of the place in it
-pub parts_of-append : (ns ms : List ℕ) (x : ℕ) → x < product (ns ++ ms) → parts_of (ns ++ ms) x ≡ parts_of ns (x / product ms) ++ parts_of ms (x % product ms)
+pub parts_of-append : (ns ms : List ℕ) (x : ℕ) → x < product (ns ++ ms)
+    → parts_of (ns ++ ms) x ≡ parts_of ns (x / product ms) ++ parts_of ms (x % product ms)
 parts_of-append [] ms x h = ap (parts_of ms) (sym (mod-eq_of_lt h))
 parts_of-append (n ∷ ns) ms x h =
     let N = product ns in
@@ -196,7 +202,8 @@ parts_of-append (n ∷ ns) ms x h =
     ∙ ap (λ (y : ℕ). x / M / N ∷ (parts_of ns (x / M % N) ++ parts_of ms y)) place
 
 -- the joint number for two lists is that of the first, times the product of the second, and that of the second
-pub joint_number-append : (ns ms ps qs : List ℕ) → length ps ≡ length ns → joint_number (ns ++ ms) (ps ++ qs) ≡ joint_number ns ps * product ms + joint_number ms qs
+pub joint_number-append : (ns ms ps qs : List ℕ) → length ps ≡ length ns
+    → joint_number (ns ++ ms) (ps ++ qs) ≡ joint_number ns ps * product ms + joint_number ms qs
 joint_number-append [] ms [] qs alike = omega arith
 joint_number-append [] ms (p ∷ ps) qs alike = absurd (omega arith)
 joint_number-append (n ∷ ns) ms [] qs alike = absurd (omega arith)

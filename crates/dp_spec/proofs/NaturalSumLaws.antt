@@ -26,7 +26,8 @@ nat_sum_add zero f g = refl
 nat_sum_add (suc n) f g = let e = nat_sum_add n f g in omega arith
 
 -- a sum of sums in the other order
-pub nat_sum_swap : (n k : ℕ) (f : ℕ → ℕ → ℕ) → nat_sum n (λ i. nat_sum k (λ j. f i j)) ≡ nat_sum k (λ j. nat_sum n (λ i. f i j))
+pub nat_sum_swap : (n k : ℕ) (f : ℕ → ℕ → ℕ)
+    → nat_sum n (λ i. nat_sum k (λ j. f i j)) ≡ nat_sum k (λ j. nat_sum n (λ i. f i j))
 nat_sum_swap zero k f = sym (nat_sum_zero k)
 nat_sum_swap (suc n) k f = ap (λ x. x + nat_sum k (f n)) (nat_sum_swap n k f) ∙ sym (nat_sum_add k (λ j. nat_sum n (λ i. f i j)) (f n))
 

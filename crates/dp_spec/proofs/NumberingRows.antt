@@ -26,11 +26,13 @@ own_of_two_steps : own_histories (2 ∷ 2 ∷ []) (2 ∷ 1 ∷ []) ≡ 1 ∷ 2 �
 own_of_two_steps = refl
 
 -- the tree that does action 10 * t + x after own history x of length t
-tree_of_three_steps : tree_doing 2 (λ t x. 10 * t + x) 3 ≡ node 0 (more_trees (node 10 (more_trees (node 20 no_trees) (more_trees (node 21 no_trees) no_trees))) (more_trees (node 11 (more_trees (node 22 no_trees) (more_trees (node 23 no_trees) no_trees))) no_trees))
+tree_of_three_steps : tree_doing 2 (λ t x. 10 * t + x) 3
+    ≡ node 0 (more_trees (node 10 (more_trees (node 20 no_trees) (more_trees (node 21 no_trees) no_trees))) (more_trees (node 11 (more_trees (node 22 no_trees) (more_trees (node 23 no_trees) no_trees))) no_trees))
 tree_of_three_steps = refl
 
 -- class c followed by observation o is class 2 * c + o
-classes_of_second_stage : map (λ (d : AgentFront). d.class_of) (front_after_choice blind (merged_front (front_after_choice blind (root_front blind) 0 0 0) 0 0 1) 0 0 0).agents ≡ (0 ∷ 1 ∷ 0 ∷ 1 ∷ []) ∷ []
+classes_of_second_stage : map (λ (d : AgentFront). d.class_of) (front_after_choice blind (merged_front (front_after_choice blind (root_front blind) 0 0 0) 0 0 1) 0 0 0).agents
+    ≡ (0 ∷ 1 ∷ 0 ∷ 1 ∷ []) ∷ []
 unfolding blind root_front front_after_choice advanced_agent
 classes_of_second_stage = refl
 

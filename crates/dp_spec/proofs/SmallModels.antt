@@ -4,7 +4,8 @@ use Rattle.std.specs.Prelude.{replicate}
 use Rattle.std.specs.List.{flat_map}
 use Rattle.dp_spec.specs.Model.{Model}
 
--- Two agents before two doors, behind one of which is a tiger (the decentralised tiger benchmark of Nair et al. 2003). Actions: listen, open the left door, open the right one.
+-- Two agents before two doors, behind one of which is a tiger (the decentralised tiger benchmark of Nair et al.
+-- 2003). Actions: listen, open the left door, open the right one.
 unfoldable pub tiger : Model
 tiger = record {
   states = 2;

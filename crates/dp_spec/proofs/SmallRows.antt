@@ -75,7 +75,8 @@ weight_of_merged = refl
 abbrev always : PolicyTree
 always = node 0 (more_trees (node 0 (more_trees (node 0 (more_trees (node 0 no_trees) no_trees)) no_trees)) no_trees)
 
-worth_of_decay : forward_worth_in (outward decay.scales) decay 4 (always ∷ []) ≡ record { low = pos 1110999996; high = pos 1111000007 }
+worth_of_decay : forward_worth_in (outward decay.scales) decay 4 (always ∷ [])
+    ≡ record { low = pos 1110999996; high = pos 1111000007 }
 unfolding decay forward_worth_in weights_after_in weighted_reward_in outward mul_down mul_up ceiling_of joint_root_action trees_after joint_observations joint_actions trans_at obs_at reward_at start_at step_scale
 worth_of_decay = refl
 
@@ -87,7 +88,8 @@ inner_of_both : inner_count both_actions ≡ 1
 inner_of_both = refl
 
 -- the longest path counts, and leaves do not
-depth_of_uneven : depth_of (branch 0 0 (more_bound_trees (leaf (pos 1)) (more_bound_trees both_actions (more_bound_trees (leaf (pos 2)) no_bound_trees)))) ≡ 2
+depth_of_uneven : depth_of (branch 0 0 (more_bound_trees (leaf (pos 1)) (more_bound_trees both_actions (more_bound_trees (leaf (pos 2)) no_bound_trees))))
+    ≡ 2
 depth_of_uneven = refl
 
 greatest_of_both : greatest_leaf both_actions ≡ pos 3
@@ -98,7 +100,8 @@ unfolding solo front_bound exact reward_factor weights_after_in weighted_reward_
 root_bound_of_solo = refl
 
 -- the capped bounds of its nodes in preorder
-caps_of_solo : map (λ (n : Node). n.cap) (nodes_of (exact solo.scales) solo 1 1 both_actions (root_front solo) (pos 3)) ≡ pos 3 ∷ pos 1 ∷ pos 3 ∷ []
+caps_of_solo : map (λ (n : Node). n.cap) (nodes_of (exact solo.scales) solo 1 1 both_actions (root_front solo) (pos 3))
+    ≡ pos 3 ∷ pos 1 ∷ pos 3 ∷ []
 unfolding solo front_bound exact reward_factor weights_after_in weighted_reward_in weighted_table_in action_look_ahead_in class_weight_in joint_class fixed_joint_action agreeing_actions joint_observations joint_actions trans_at obs_at reward_at start_at step_scale root_front front_after_choice advanced_agent
 caps_of_solo = refl
 

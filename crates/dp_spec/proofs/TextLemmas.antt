@@ -14,23 +14,27 @@ use Rattle.dp_spec.specs.PolicyText.{row_form, row_actions, row_line}
 use Rattle.dp_spec.specs.CertificateText.{certificate_text}
 
 -- the text of lines and further lines is their texts, one after the other
-pub text_of_lines-append : (lines more : List Line) → text_of_lines (lines ++ more) ≡ text_of_lines lines ++ text_of_lines more
+pub text_of_lines-append : (lines more : List Line)
+    → text_of_lines (lines ++ more) ≡ text_of_lines lines ++ text_of_lines more
 text_of_lines-append [] more = refl
 text_of_lines-append (line ∷ lines) more =
     ap (λ (rest : List ℕ). line_text line.form line.numbers ++ 10 ∷ rest) (text_of_lines-append lines more)
     ∙ sym (append_assoc (line_text line.form line.numbers) (10 ∷ text_of_lines lines) (text_of_lines more))
 
 -- so many plain numbers are spelled one by one
-pub spelled_items-replicate : (low high : ℕ) (ns : List ℕ) → spelled_items (replicate (length ns) (plain low high)) (map pos ns) ≡ map decimal ns
+pub spelled_items-replicate : (low high : ℕ) (ns : List ℕ)
+    → spelled_items (replicate (length ns) (plain low high)) (map pos ns) ≡ map decimal ns
 spelled_items-replicate low high [] = refl
 spelled_items-replicate low high (n ∷ ns) = ap (λ (items : List (List ℕ)). decimal n ∷ items) (spelled_items-replicate low high ns)
 
 -- the first stage has one action
-pub row_line-zero : (b n : ℕ) (q : PolicyTree) → row_line b n q 0 ≡ record { form = plain 0 (b - 1) ∷ []; numbers = pos (root_action q) ∷ [] }
+pub row_line-zero : (b n : ℕ) (q : PolicyTree)
+    → row_line b n q 0 ≡ record { form = plain 0 (b - 1) ∷ []; numbers = pos (root_action q) ∷ [] }
 row_line-zero b n q = rw (pow-zero n) refl
 
 -- a row is the actions with one space between each two
-pub line_text-row : (b n t : ℕ) (q : PolicyTree) → line_text (row_form b n t) (map pos (row_actions n q t)) ≡ join_with_byte 32 (map decimal (row_actions n q t))
+pub line_text-row : (b n t : ℕ) (q : PolicyTree)
+    → line_text (row_form b n t) (map pos (row_actions n q t)) ≡ join_with_byte 32 (map decimal (row_actions n q t))
 line_text-row b n t q =
     subst (λ (k : ℕ). line_text (replicate k (plain 0 (b - 1))) (map pos (row_actions n q t)) ≡ join_with_byte 32 (map decimal (row_actions n q t)))
     (length-map-range_with_len (λ x. root_action (tree_at n q t x)) 0 (n ^ t))

@@ -19,7 +19,8 @@ act_twice a b c = node a (more_trees (act b) (more_trees (act c) no_trees))
 -- ---- lines
 
 -- items are divided by one space, a negative number has a sign
-numbers : line_text (fixed (codes "M") ∷ any_plain ∷ any_plain ∷ signed ∷ []) (pos 10 ∷ pos 0 ∷ negsuc 79999 ∷ []) ≡ codes "M 10 0 -80000"
+numbers : line_text (fixed (codes "M") ∷ any_plain ∷ any_plain ∷ signed ∷ []) (pos 10 ∷ pos 0 ∷ negsuc 79999 ∷ [])
+    ≡ codes "M 10 0 -80000"
 unfolding digits
 numbers = refl
 
@@ -29,7 +30,8 @@ unfolding digits
 zero_is = refl
 
 -- a number past 64 bits
-wide : line_text (fixed (codes "unit") ∷ signed ∷ []) (pos (2 ^ 127 - 1) ∷ []) ≡ codes "unit 170141183460469231731687303715884105727"
+wide : line_text (fixed (codes "unit") ∷ signed ∷ []) (pos (2 ^ 127 - 1) ∷ [])
+    ≡ codes "unit 170141183460469231731687303715884105727"
 unfolding digits
 wide = refl
 

@@ -1,4 +1,5 @@
--- The bound of a front: a collaborative Bayesian game over its joint classes (Oliehoek and Amato, chapter 5; JAIR 46 (2013)).
+-- The bound of a front: a collaborative Bayesian game over its joint classes (Oliehoek and Amato, chapter 5; JAIR 46
+-- (2013)).
 use Rattle.std.specs.Prelude.{ℕ, zero, suc, ◌+◌, Bool, true, false, ◌&&◌, ◌==◌, ℤ, ◌+ℤ◌, List, [], ◌∷◌, filter, get_or, Option, Some, None}
 use Rattle.dp_spec.specs.Sums.{int_sum, greatest, numbers_below}
 use Rattle.dp_spec.specs.JointNumbers.{product, parts_of}
@@ -21,11 +22,15 @@ all_agree (d ∷ ds) (c ∷ cs) (a ∷ as') = agrees (get_or d.chosen c None) a 
 
 -- the joint actions that agree with the actions already chosen for the classes of joint class C
 unfoldable pub agreeing_actions : Model → Front → ℕ → List ℕ
-agreeing_actions m F C = filter (λ a. all_agree F.agents (parts_of (class_counts F.agents) C) (parts_of m.actions a)) (numbers_below (joint_actions m))
+agreeing_actions m F C =
+    filter (λ a. all_agree F.agents (parts_of (class_counts F.agents) C) (parts_of m.actions a))
+    (numbers_below (joint_actions m))
 
--- the bound of a front from whose stage on r steps are left, with look k: what is earned, and for each joint class the best agreeing joint action
+-- the bound of a front from whose stage on r steps are left, with look k: what is earned, and for each joint class
+-- the best agreeing joint action
 abbrev pub bound_of : Model → ℕ → Front → ℕ → ℤ
 bound_of m zero F k = earned_reward m (fixed_joint_action m F) (F.stage + 0) F.stage
 bound_of m (suc r) F k =
     earned_reward m (fixed_joint_action m F) (F.stage + suc r) F.stage
-    +ℤ int_sum (product (class_counts F.agents)) (λ C. greatest (λ a. action_look_ahead m r (class_weight m F C) a k) (agreeing_actions m F C))
+    +ℤ int_sum (product (class_counts F.agents)) (λ C.
+    greatest (λ a. action_look_ahead m r (class_weight m F C) a k) (agreeing_actions m F C))

@@ -56,4 +56,5 @@ abbrev mutual
   pub greatest_leaf_of : BoundTrees → ℤ
   greatest_leaf_of no_bound_trees = pos 0
   greatest_leaf_of (more_bound_trees k no_bound_trees) = greatest_leaf k
-  greatest_leaf_of (more_bound_trees k (more_bound_trees k' ks)) = int_max (greatest_leaf k) (greatest_leaf_of (more_bound_trees k' ks))
+  greatest_leaf_of (more_bound_trees k (more_bound_trees k' ks)) =
+      int_max (greatest_leaf k) (greatest_leaf_of (more_bound_trees k' ks))

@@ -87,7 +87,8 @@ abbrev pub certificate_lines : List ℕ → List ℕ → Certificate → List Li
 certificate_lines bs ns c =
     head_lines c
     ++ fixed_line (fixed (codes "policy") ∷ [])
-    ∷ (agent_lines 0 (policy_rows bs ns c.horizon c.policy) ++ fixed_line (fixed (codes "tree") ∷ []) ∷ (node_lines c.tree ++ fixed_line end_form ∷ []))
+    ∷ (agent_lines 0 (policy_rows bs ns c.horizon c.policy)
+    ++ fixed_line (fixed (codes "tree") ∷ []) ∷ (node_lines c.tree ++ fixed_line end_form ∷ []))
 
 -- the text of a certificate
 unfoldable pub certificate_text : List ℕ → List ℕ → Certificate → List ℕ

@@ -5,9 +5,11 @@ use Rattle.dp_spec.specs.PolicyTree.{PolicyTree, IsPolicyOf}
 use Rattle.dp_spec.specs.Value.{policy_value}
 use Rattle.dp_spec.specs.Certificate.{Certificate}
 
--- No joint policy of h steps has an expected reward above x / unit. (The expected reward is the value over the value scale.)
+-- No joint policy of h steps has an expected reward above x / unit. (The expected reward is the value over the value
+-- scale.)
 abbrev pub BoundsEveryPolicy : Model → ℕ → ℤ → ℤ → Type 0
-BoundsEveryPolicy m h unit x = (qs : List PolicyTree) → IsPolicyOf m h qs → (policy_value m h qs *ℤ unit) ≤ℤ (x *ℤ pos (value_scale m h))
+BoundsEveryPolicy m h unit x =
+    (qs : List PolicyTree) → IsPolicyOf m h qs → (policy_value m h qs *ℤ unit) ≤ℤ (x *ℤ pos (value_scale m h))
 
 -- The expected reward of the policy lies in the interval, and no joint policy has a greater one than the upper end.
 pub record ClaimsHold (m : Model) (c : Certificate) : Type 0 where

@@ -20,11 +20,14 @@ pub record Enclosure : Type 1 where
 pub record IsSound (m : Model) (A : Arithmetic) (R : Enclosure) : Type 0 where
   pub start : (b : ℕ) → R.Weighs m.scales.start b (A.start b)
   pub one : R.Weighs 1 1 A.one
-  pub chance : (T w p z : ℕ) (s : Span) → R.Weighs T w s → R.Weighs (T * (m.scales.trans * m.scales.obs)) (w * (p * z)) (A.chance s p z)
+  pub chance : (T w p z : ℕ) (s : Span) → R.Weighs T w s
+      → R.Weighs (T * (m.scales.trans * m.scales.obs)) (w * (p * z)) (A.chance s p z)
   pub later : (T w : ℕ) (s : Span) → R.Weighs T w s → R.Weighs (T * m.scales.discount) (w * m.scales.gain) (A.later s)
   pub gain : (T w rest : ℕ) (r : ℤ) (s : Span) → R.Weighs T w s →
-      R.Earns (T * (m.scales.discount * step_scale m ^ rest) * m.scales.reward) (pos w *ℤ (r *ℤ pos (m.scales.discount * step_scale m ^ rest))) (A.gain s r rest)
-  pub carry : (F p : ℕ) (x v : ℤ) → R.Tops F x v → R.Tops (F * step_scale m) (pos (p * m.scales.obs * m.scales.gain) *ℤ x) (A.carry v p)
+      R.Earns (T * (m.scales.discount * step_scale m ^ rest) * m.scales.reward)
+        (pos w *ℤ (r *ℤ pos (m.scales.discount * step_scale m ^ rest))) (A.gain s r rest)
+  pub carry : (F p : ℕ) (x v : ℤ) → R.Tops F x v
+      → R.Tops (F * step_scale m) (pos (p * m.scales.obs * m.scales.gain) *ℤ x) (A.carry v p)
   pub tail : (T w F : ℕ) (x v : ℤ) (s : Span) → R.Weighs T w s → R.Tops F x v → R.Tops (T * F) (pos w *ℤ x) (A.tail s v)
   -- sums, the greater and the smaller of two
   pub no_weight : (T : ℕ) → R.Weighs T 0 (point (pos 0))

@@ -17,7 +17,8 @@ abbrev mutual
   -- a tree fits a front on whose path the least bound is cap
   pub FitsFront : Arithmetic → Model → ℕ → ℕ → BoundTree → Front → ℤ → Type 0
   FitsFront A m h look (leaf x) F cap = x ≡ cap
-  FitsFront A m h look (branch i c ks) F cap = (F.stage < h) × IsUnassigned i c F.agents × FitEachAction A m h look ks F i c 0 cap
+  FitsFront A m h look (branch i c ks) F cap =
+      (F.stage < h) × IsUnassigned i c F.agents × FitEachAction A m h look ks F i c 0 cap
   FitsFront A m h look (merge i a b k) F cap =
       (F.stage < h) × (a < b) × IsUnassigned i a F.agents × IsUnassigned i b F.agents × AreEquivalent m F i a b
       × FitsFront A m h look k (merged_front F i a b) (int_min cap (front_bound A m h look (merged_front F i a b)))
@@ -27,4 +28,6 @@ abbrev mutual
   pub FitEachAction : Arithmetic → Model → ℕ → ℕ → BoundTrees → Front → ℕ → ℕ → ℕ → ℤ → Type 0
   FitEachAction A m h look no_bound_trees F i c a cap = get_or m.actions i 0 ≡ a
   FitEachAction A m h look (more_bound_trees k ks) F i c a cap =
-      FitsFront A m h look k (front_after_choice m F i c a) (int_min cap (front_bound A m h look (front_after_choice m F i c a))) × FitEachAction A m h look ks F i c (suc a) cap
+      FitsFront A m h look k (front_after_choice m F i c a)
+      (int_min cap (front_bound A m h look (front_after_choice m F i c a)))
+      × FitEachAction A m h look ks F i c (suc a) cap

@@ -1,10 +1,12 @@
--- Fronts: what a partial joint policy has fixed so far. (Own, after the clusters of histories of GMAA*-ICE, JAIR 46 (2013).)
+-- Fronts: what a partial joint policy has fixed so far. (Own, after the clusters of histories of GMAA*-ICE, JAIR 46
+-- (2013).)
 use Rattle.std.specs.Prelude.{ℕ, ◌+◌, ◌*◌, cond, ◌==◌, List, [], ◌∷◌, map, length, get_or, Option}
 use Rattle.dp_spec.specs.JointNumbers.{joint_number, parts_of}
 use Rattle.dp_spec.specs.Model.{Model, joint_observations}
 use Rattle.dp_spec.specs.JointHistory.{nat_history_sum, history_weight}
 
--- One agent's part of a front. An own history is the number of its observations in base of the agent's observations, the first most significant.
+-- One agent's part of a front. An own history is the number of its observations in base of the agent's observations,
+-- the first most significant.
 pub record AgentFront : Type 0 where
   -- for each length below the stage, the action after each own history of that length
   pub fixed : List (List ℕ)
@@ -55,4 +57,6 @@ joint_class m F H = joint_number (class_counts F.agents) (own_classes F.agents (
 
 -- the weight of a joint class and a state: the sum over the joint histories of the class
 unfoldable pub class_weight : Model → Front → ℕ → ℕ → ℕ
-class_weight m F C s = nat_history_sum (joint_observations m) F.stage (λ H. cond (joint_class m F H == C) (history_weight m (fixed_joint_action m F) H s) 0)
+class_weight m F C s =
+    nat_history_sum (joint_observations m) F.stage (λ H.
+    cond (joint_class m F H == C) (history_weight m (fixed_joint_action m F) H s) 0)

@@ -31,7 +31,9 @@ history_weight m act (o ∷ H) s = weights_after m (history_weight m act H) (act
 -- what is earned before time f, of a horizon of h steps
 abbrev pub earned_reward : Model → (List ℕ → ℕ) → ℕ → ℕ → ℤ
 earned_reward m act h zero = pos 0
-earned_reward m act h (suc f) = earned_reward m act h f +ℤ int_history_sum (joint_observations m) f (λ H. weighted_reward m (h - suc f) (history_weight m act H) (act H))
+earned_reward m act h (suc f) =
+    earned_reward m act h f
+    +ℤ int_history_sum (joint_observations m) f (λ H. weighted_reward m (h - suc f) (history_weight m act H) (act H))
 
 -- what remains of the trees after a joint history
 abbrev pub trees_after_history : Model → List PolicyTree → List ℕ → List PolicyTree

@@ -1,4 +1,5 @@
--- A joint policy keeps a front: it does what the front has fixed and chosen, and goes on alike after histories of one class.
+-- A joint policy keeps a front: it does what the front has fixed and chosen, and goes on alike after histories of one
+-- class.
 use Rattle.std.specs.Prelude.{ℕ, zero, suc, ◌/◌, ◌%◌, ◌^◌, ◌<◌, ◌≡◌, List, [], ◌∷◌, get_or, Some, None}
 use Rattle.dp_spec.specs.Model.{Model}
 use Rattle.dp_spec.specs.PolicyTree.{PolicyTree, root_action, subtree}
@@ -14,9 +15,11 @@ pub record KeepsAgentFront (n f : ℕ) (d : AgentFront) (q : PolicyTree) : Type 
   -- it does the fixed action after each own history shorter than f
   pub does_fixed : (t x : ℕ) → t < f → x < n ^ t → root_action (tree_at n q t x) ≡ get_or (get_or d.fixed t []) x 0
   -- after any two own histories of one class the same remains of it
-  pub alike : (x y : ℕ) → x < n ^ f → y < n ^ f → get_or d.class_of x 0 ≡ get_or d.class_of y 0 → tree_at n q f x ≡ tree_at n q f y
+  pub alike : (x y : ℕ) → x < n ^ f → y < n ^ f → get_or d.class_of x 0 ≡ get_or d.class_of y 0
+      → tree_at n q f x ≡ tree_at n q f y
   -- it does the chosen action after each own history of a class that has one
-  pub does_chosen : (x a : ℕ) → x < n ^ f → get_or d.chosen (get_or d.class_of x 0) None ≡ Some a → root_action (tree_at n q f x) ≡ a
+  pub does_chosen : (x a : ℕ) → x < n ^ f → get_or d.chosen (get_or d.class_of x 0) None ≡ Some a
+      → root_action (tree_at n q f x) ≡ a
 
 -- one tree per agent, each of which keeps that agent's part of a front of stage f
 pub data KeepAgentFronts (f : ℕ) : List ℕ → List AgentFront → List PolicyTree → Type 0 where

@@ -24,27 +24,38 @@ class_of_agent m F i H = get_or (own_classes F.agents (own_histories m.observati
 
 -- the joint class of the agents other than i in a joint history
 unfoldable pub class_of_others : Model → Front → ℕ → List ℕ → ℕ
-class_of_others m F i H = joint_number (without i (class_counts F.agents)) (without i (own_classes F.agents (own_histories m.observations H)))
+class_of_others m F i H =
+    joint_number (without i (class_counts F.agents)) (without i (own_classes F.agents (own_histories m.observations H)))
 
 -- the weight of class c of agent i with joint class x of the others and state s
 unfoldable pub place_weight : Model → Front → ℕ → ℕ → ℕ → ℕ → ℕ
 place_weight m F i c x s =
-    nat_history_sum (joint_observations m) F.stage (λ H. cond (class_of_others m F i H == x) (cond (class_of_agent m F i H == c) (history_weight m (fixed_joint_action m F) H s) 0) 0)
+    nat_history_sum (joint_observations m) F.stage (λ H.
+    cond (class_of_others m F i H == x)
+    (cond (class_of_agent m F i H == c) (history_weight m (fixed_joint_action m F) H s) 0) 0)
 
 -- the weight of class c of agent i, over all that the others saw and all states
 unfoldable pub class_total : Model → Front → ℕ → ℕ → ℕ
-class_total m F i c = nat_history_sum (joint_observations m) F.stage (λ H. cond (class_of_agent m F i H == c) (nat_sum m.states (λ s. history_weight m (fixed_joint_action m F) H s)) 0)
+class_total m F i c =
+    nat_history_sum (joint_observations m) F.stage (λ H.
+    cond (class_of_agent m F i H == c) (nat_sum m.states (λ s. history_weight m (fixed_joint_action m F) H s)) 0)
 
--- Two classes of agent i are equivalent where their weights are in proportion. A class of total 0 is equivalent to every class.
+-- Two classes of agent i are equivalent where their weights are in proportion. A class of total 0 is equivalent to
+-- every class.
 pub record AreEquivalent (m : Model) (F : Front) (i c c' : ℕ) : Type 0 where
-  pub same : (x s : ℕ) → x < product (without i (class_counts F.agents)) → s < m.states → place_weight m F i c x s * class_total m F i c' ≡ place_weight m F i c' x s * class_total m F i c
+  pub same : (x s : ℕ) → x < product (without i (class_counts F.agents)) → s < m.states
+      → place_weight m F i c x s * class_total m F i c' ≡ place_weight m F i c' x s * class_total m F i c
 
 -- what class c is called after class second was joined into class first
 abbrev pub renumbered : ℕ → ℕ → ℕ → ℕ
 renumbered first second c = cond (c == second) first (cond (nat_lt second c) (c - 1) c)
 
 abbrev pub merged_agent : ℕ → ℕ → AgentFront → AgentFront
-merged_agent first second d = record { fixed = d.fixed; class_of = map (renumbered first second) d.class_of; chosen = without second d.chosen }
+merged_agent first second d = record {
+  fixed = d.fixed;
+  class_of = map (renumbered first second) d.class_of;
+  chosen = without second d.chosen;
+}
 
 abbrev pub merged_agents : ℕ → ℕ → ℕ → List AgentFront → List AgentFront
 merged_agents i first second [] = []

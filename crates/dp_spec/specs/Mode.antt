@@ -10,7 +10,8 @@ greatest_magnitude (r ∷ rs) = max (unsigned_abs r) (greatest_magnitude rs)
 
 -- the mode is exact where no value can pass 2^126
 unfoldable pub is_exact_mode : Model → ℕ → Bool
-is_exact_mode m h = nat_le (m.scales.start * step_scale m ^ h * h * max (max (greatest_magnitude m.reward) m.scales.reward) 1) (2 ^ 126)
+is_exact_mode m h =
+    nat_le (m.scales.start * step_scale m ^ h * h * max (max (greatest_magnitude m.reward) m.scales.reward) 1) (2 ^ 126)
 
 -- what values are counted in: the value scale in exact mode, and else 10^9
 unfoldable pub unit_of : Model → ℕ → ℕ

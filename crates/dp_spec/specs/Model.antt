@@ -49,7 +49,8 @@ value_scale m h = m.scales.start * (m.scales.reward * step_scale m ^ h)
 
 -- ---- what holds of every model
 
--- each scale is at least 1, those of the chances are at most 2^62, the others are powers of ten, and the discount is at most 1
+-- each scale is at least 1, those of the chances are at most 2^62, the others are powers of ten, and the discount is
+-- at most 1
 pub record AreScales (c : Scales) : Type 0 where
   pub start : 0 < c.start
   pub trans : 0 < c.trans
@@ -88,7 +89,8 @@ pub record AreTables (m : Model) : Type 0 where
 pub record AreRows (m : Model) : Type 0 where
   pub start : nat_sum m.states (start_at m) ≡ m.scales.start
   pub trans : (a s : ℕ) → a < joint_actions m → s < m.states → nat_sum m.states (trans_at m a s) ≡ m.scales.trans
-  pub obs : (a t : ℕ) → a < joint_actions m → t < m.states → nat_sum (joint_observations m) (obs_at m a t) ≡ m.scales.obs
+  pub obs : (a t : ℕ) → a < joint_actions m → t < m.states
+      → nat_sum (joint_observations m) (obs_at m a t) ≡ m.scales.obs
 
 pub record IsModel (m : Model) : Type 0 where
   pub sizes : AreSizes m

@@ -31,7 +31,8 @@ end_form = fixed (codes "end") ∷ []
 
 -- ---- the lines
 
--- The actions of a tree after the own histories of length t, in order of the history read as a number with base n, first
+-- The actions of a tree after the own histories of length t, in order of the history read as a number with base n,
+-- first
 -- observation most significant.
 abbrev pub row_actions : ℕ → PolicyTree → ℕ → List ℕ
 row_actions n q t = map (λ x. root_action (tree_at n q t x)) (range_with_len 0 (n ^ t))
@@ -42,7 +43,8 @@ row_line b n q t = record { form = row_form b n t; numbers = map pos (row_action
 
 -- for each agent the lines of its stages, in order
 abbrev pub policy_rows : List ℕ → List ℕ → ℕ → List PolicyTree → List (List Line)
-policy_rows (b ∷ bs) (n ∷ ns) horizon (q ∷ qs) = map (row_line b n q) (range_with_len 0 horizon) ∷ policy_rows bs ns horizon qs
+policy_rows (b ∷ bs) (n ∷ ns) horizon (q ∷ qs) =
+    map (row_line b n q) (range_with_len 0 horizon) ∷ policy_rows bs ns horizon qs
 policy_rows bs ns horizon qs = []
 
 -- the agents from this one on, each with its number on a line before its rows

@@ -1,4 +1,5 @@
--- Policy trees and joint policies (Oliehoek and Amato, chapter 3): deterministic, and each agent acts on its own observations.
+-- Policy trees and joint policies (Oliehoek and Amato, chapter 3): deterministic, and each agent acts on its own
+-- observations.
 use Rattle.std.specs.Prelude.{ℕ, zero, suc, ◌<◌, ◌≡◌, List, [], ◌∷◌}
 use Rattle.dp_spec.specs.Model.{Model}
 
@@ -44,7 +45,8 @@ abbrev mutual
 -- one tree of r steps per agent, for agents with these numbers of actions and observations
 pub data IsJointPolicy (r : ℕ) : List ℕ → List ℕ → List PolicyTree → Type 0 where
   no_agents : IsJointPolicy r [] [] []
-  and_agent : {b n : ℕ} {bs ns : List ℕ} {q : PolicyTree} {qs : List PolicyTree} → IsPolicyTree b n r q → IsJointPolicy r bs ns qs → IsJointPolicy r (b ∷ bs) (n ∷ ns) (q ∷ qs)
+  and_agent : {b n : ℕ} {bs ns : List ℕ} {q : PolicyTree} {qs : List PolicyTree} → IsPolicyTree b n r q
+      → IsJointPolicy r bs ns qs → IsJointPolicy r (b ∷ bs) (n ∷ ns) (q ∷ qs)
 
 -- a joint policy of h steps for a model
 abbrev pub IsPolicyOf : Model → ℕ → List PolicyTree → Type 0

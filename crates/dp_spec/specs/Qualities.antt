@@ -26,7 +26,8 @@ abbrev mutual
   -- the nodes in preorder
   pub nodes_of : Arithmetic → Model → ℕ → ℕ → BoundTree → Front → ℤ → List Node
   nodes_of A m h look (leaf x) F cap = record { tree = leaf x; front = F; cap = cap } ∷ []
-  nodes_of A m h look (branch i c ks) F cap = record { tree = branch i c ks; front = F; cap = cap } ∷ nodes_of_choices A m h look ks F i c 0 cap
+  nodes_of A m h look (branch i c ks) F cap =
+      record { tree = branch i c ks; front = F; cap = cap } ∷ nodes_of_choices A m h look ks F i c 0 cap
   nodes_of A m h look (merge i a b k) F cap =
       record { tree = merge i a b k; front = F; cap = cap }
       ∷ nodes_of A m h look k (merged_front F i a b) (int_min cap (front_bound A m h look (merged_front F i a b)))
@@ -72,11 +73,13 @@ pub record IsClosed (m : Model) (c : Certificate) : Type 0 where
 -- Lean: no branch and no merge stands where the least bound of its path is below that of a leaf that is still open.
 abbrev pub IsLean : Model → Certificate → Type 0
 IsLean m c =
-    All (λ n. All (λ k. IfInner n.tree (IfOpenLeaf c.horizon k (λ x. c.lower <ℤ x → x ≤ℤ n.cap))) (certificate_nodes m c)) (certificate_nodes m c)
+    All (λ n. All (λ k. IfInner n.tree (IfOpenLeaf c.horizon k (λ x. c.lower <ℤ x → x ≤ℤ n.cap)))
+    (certificate_nodes m c)) (certificate_nodes m c)
 
 -- no two unassigned classes of one agent are equivalent
 abbrev pub HasNoEquivalent : Model → Front → Type 0
-HasNoEquivalent m F = (i c c' : ℕ) → c < c' → IsUnassigned i c F.agents → IsUnassigned i c' F.agents → ¬ AreEquivalent m F i c c'
+HasNoEquivalent m F =
+    (i c c' : ℕ) → c < c' → IsUnassigned i c F.agents → IsUnassigned i c' F.agents → ¬ AreEquivalent m F i c c'
 
 -- Merged: the mode is exact, and no branch stands where two classes could be merged.
 pub record IsMerged (m : Model) (c : Certificate) : Type 0 where
@@ -96,12 +99,14 @@ pub record Place : Type 0 where
 unfoldable pub upper_weight : Arithmetic → Model → Front → ℕ → ℕ → ℤ
 upper_weight A m F i c =
     int_sum (product (class_counts F.agents)) (λ C.
-    cond (get_or (parts_of (class_counts F.agents) C) i 0 == c) (int_sum m.states (λ s. (class_weight_in A m F C s).high)) (pos 0))
+    cond (get_or (parts_of (class_counts F.agents) C) i 0 == c)
+    (int_sum m.states (λ s. (class_weight_in A m F C s).high)) (pos 0))
 
 -- the bound of the front less the least bound after an action for class c of agent i, at the same stage
 unfoldable pub spread_of : Arithmetic → Model → ℕ → ℕ → Front → ℕ → ℕ → ℤ
 spread_of A m h look F i c =
-    front_bound A m h look F +ℤ greatest (λ a. neg_ℤ (front_bound A m h look (chosen_front F i c a))) (numbers_below (get_or m.actions i 0))
+    front_bound A m h look F
+    +ℤ greatest (λ a. neg_ℤ (front_bound A m h look (chosen_front F i c a))) (numbers_below (get_or m.actions i 0))
 
 -- the actions of agent i's classes, or none
 abbrev pub chosen_of : Front → ℕ → List (Option ℕ)
@@ -114,7 +119,8 @@ places_of A m h look F =
     (filter (λ c. is_none (get_or (chosen_of F i) c None)) (range_with_len 0 (length (chosen_of F i)))))
     (range_with_len 0 (length F.agents))
 
--- Ruled: each branch stands at a place that the rule may answer for the places of its front. (The rule is a relation of places and a number among them.)
+-- Ruled: each branch stands at a place that the rule may answer for the places of its front. (The rule is a relation
+-- of places and a number among them.)
 abbrev pub IsRuled : (List Place → ℕ → Type 0) → Model → Certificate → Type 0
 IsRuled May m c =
     All (λ n. IfBranch n.tree (λ i k.

@@ -1,4 +1,5 @@
--- Weights, rewards, the table, look-ahead and bounds, computed in an arithmetic. The exact definitions are what these numbers mean.
+-- Weights, rewards, the table, look-ahead and bounds, computed in an arithmetic. The exact definitions are what these
+-- numbers mean.
 use Rattle.std.specs.Prelude.{ℕ, zero, suc, ◌+◌, ◌-◌, cond, ◌==◌, ℤ, pos, ◌+ℤ◌, List, [], ◌∷◌}
 use Rattle.std.specs.Int.{int_min}
 use Rattle.dp_spec.specs.declared.span.Span.{Span}
@@ -29,7 +30,8 @@ weights_after_in A m w a o t = span_sum m.states (λ s. A.later (A.chance (w s) 
 -- the reward of joint action a from weights w, where r steps are left after this one
 unfoldable pub weighted_reward_in : Arithmetic → Model → ℕ → (ℕ → Span) → ℕ → Span
 weighted_reward_in A m r w a =
-    span_sum m.states (λ s. span_sum m.states (λ t. span_sum (joint_observations m) (λ o. A.gain (A.chance (w s) (trans_at m a s t) (obs_at m a t o)) (reward_at m a s t o) r)))
+    span_sum m.states (λ s. span_sum m.states (λ t. span_sum (joint_observations m) (λ o.
+    A.gain (A.chance (w s) (trans_at m a s t) (obs_at m a t o)) (reward_at m a s t o) r)))
 
 -- the weight of a joint history and a state
 abbrev pub history_weight_in : Arithmetic → Model → (List ℕ → ℕ) → List ℕ → ℕ → Span
@@ -40,7 +42,9 @@ history_weight_in A m act (o ∷ H) s = weights_after_in A m (history_weight_in 
 abbrev pub earned_reward_in : Arithmetic → Model → (List ℕ → ℕ) → ℕ → ℕ → Span
 earned_reward_in A m act h zero = point (pos 0)
 earned_reward_in A m act h (suc f) =
-    span_add (earned_reward_in A m act h f) (span_history_sum (joint_observations m) f (λ H. weighted_reward_in A m (h - suc f) (history_weight_in A m act H) (act H)))
+    span_add (earned_reward_in A m act h f)
+    (span_history_sum (joint_observations m) f (λ H.
+    weighted_reward_in A m (h - suc f) (history_weight_in A m act H) (act H)))
 
 -- the worth of a joint policy of h steps, computed forwards
 unfoldable pub forward_worth_in : Arithmetic → Model → ℕ → List PolicyTree → Span
@@ -51,38 +55,48 @@ abbrev pub recursive_worth_in : Arithmetic → Model → ℕ → (ℕ → Span) 
 recursive_worth_in A m zero w qs = point (pos 0)
 recursive_worth_in A m (suc r) w qs =
     span_add (weighted_reward_in A m r w (joint_root_action m qs))
-    (span_sum (joint_observations m) (λ o. recursive_worth_in A m r (weights_after_in A m w (joint_root_action m qs) o) (trees_after m qs o)))
+    (span_sum (joint_observations m) (λ o.
+    recursive_worth_in A m r (weights_after_in A m w (joint_root_action m qs) o) (trees_after m qs o)))
 
 -- the table of the Markov decision process, from above
 abbrev pub mdp_table_in : Arithmetic → Model → ℕ → ℕ → ℤ
 mdp_table_in A m zero s = pos 0
 mdp_table_in A m (suc r) s =
-    greatest (λ a. (span_sum m.states (λ t. span_sum (joint_observations m) (λ o. A.gain (A.chance A.one (trans_at m a s t) (obs_at m a t o)) (reward_at m a s t o) r))).high
+    greatest (λ a. (span_sum m.states (λ t. span_sum (joint_observations m) (λ o.
+    A.gain (A.chance A.one (trans_at m a s t) (obs_at m a t o)) (reward_at m a s t o) r))).high
     +ℤ int_sum m.states (λ t. A.carry (mdp_table_in A m r t) (trans_at m a s t))) (numbers_below (joint_actions m))
 
 -- weights against the table where r steps are left
 unfoldable pub weighted_table_in : Arithmetic → Model → ℕ → (ℕ → Span) → ℤ
 weighted_table_in A m r w = int_sum m.states (λ s. A.tail (w s) (mdp_table_in A m r s))
 
--- Look-ahead from weights w with look k, capped by the weights against the table. (In exact numbers the cap changes nothing.)
+-- Look-ahead from weights w with look k, capped by the weights against the table. (In exact numbers the cap changes
+-- nothing.)
 abbrev pub look_ahead_in : Arithmetic → Model → ℕ → (ℕ → Span) → ℕ → ℤ
 look_ahead_in A m zero w k = pos 0
 look_ahead_in A m (suc r) w zero = weighted_table_in A m (suc r) w
 look_ahead_in A m (suc r) w (suc k) =
-    int_min (greatest (λ a. (weighted_reward_in A m r w a).high +ℤ int_sum (joint_observations m) (λ o. look_ahead_in A m r (weights_after_in A m w a o) k)) (numbers_below (joint_actions m)))
+    int_min (greatest (λ a. (weighted_reward_in A m r w a).high
+    +ℤ int_sum (joint_observations m) (λ o. look_ahead_in A m r (weights_after_in A m w a o) k))
+    (numbers_below (joint_actions m)))
     (weighted_table_in A m (suc r) w)
 
 -- the same where joint action a is done now, with look k of at least 1, and without the cap
 unfoldable pub action_look_ahead_in : Arithmetic → Model → ℕ → (ℕ → Span) → ℕ → ℕ → ℤ
-action_look_ahead_in A m r w a k = (weighted_reward_in A m r w a).high +ℤ int_sum (joint_observations m) (λ o. look_ahead_in A m r (weights_after_in A m w a o) (k - 1))
+action_look_ahead_in A m r w a k =
+    (weighted_reward_in A m r w a).high
+    +ℤ int_sum (joint_observations m) (λ o. look_ahead_in A m r (weights_after_in A m w a o) (k - 1))
 
 -- the weight of a joint class and a state
 unfoldable pub class_weight_in : Arithmetic → Model → Front → ℕ → ℕ → Span
-class_weight_in A m F C s = span_history_sum (joint_observations m) F.stage (λ H. cond (joint_class m F H == C) (history_weight_in A m (fixed_joint_action m F) H s) (point (pos 0)))
+class_weight_in A m F C s =
+    span_history_sum (joint_observations m) F.stage (λ H.
+    cond (joint_class m F H == C) (history_weight_in A m (fixed_joint_action m F) H s) (point (pos 0)))
 
 -- the bound of a front from whose stage on r steps are left, with look k
 abbrev pub bound_in : Arithmetic → Model → ℕ → Front → ℕ → ℤ
 bound_in A m zero F k = (earned_reward_in A m (fixed_joint_action m F) (F.stage + 0) F.stage).high
 bound_in A m (suc r) F k =
     (earned_reward_in A m (fixed_joint_action m F) (F.stage + suc r) F.stage).high
-    +ℤ int_sum (product (class_counts F.agents)) (λ C. greatest (λ a. action_look_ahead_in A m r (class_weight_in A m F C) a k) (agreeing_actions m F C))
+    +ℤ int_sum (product (class_counts F.agents)) (λ C.
+    greatest (λ a. action_look_ahead_in A m r (class_weight_in A m F C) a k) (agreeing_actions m F C))

@@ -17,7 +17,9 @@ IsActing m t act = (i : ℕ) (H : List ℕ) → i < t → IsJointHistory (joint_
 -- the magnitudes of all parts of what is earned before time f together, of a horizon of h steps
 abbrev pub earned_size : Arithmetic → Model → (List ℕ → ℕ) → ℕ → ℕ → ℕ
 earned_size A m act h zero = 0
-earned_size A m act h (suc f) = earned_size A m act h f + nat_history_sum (joint_observations m) f (λ H. reward_size A m (h - suc f) (history_weight_in A m act H) (act H))
+earned_size A m act h (suc f) =
+    earned_size A m act h f
+    + nat_history_sum (joint_observations m) f (λ H. reward_size A m (h - suc f) (history_weight_in A m act H) (act H))
 
 -- What is earned before a time can be added up, in any order.
 pub record CanEarn (A : Arithmetic) (m : Model) (h : ℕ) : Type 0 where
@@ -28,8 +30,10 @@ abbrev pub worth_size : Arithmetic → Model → ℕ → (ℕ → Span) → List
 worth_size A m zero ws qs = 0
 worth_size A m (suc r) ws qs =
     reward_size A m r ws (joint_root_action m qs)
-    + nat_sum (joint_observations m) (λ o. worth_size A m r (weights_after_in A m ws (joint_root_action m qs) o) (trees_after m qs o))
+    + nat_sum (joint_observations m) (λ o.
+    worth_size A m r (weights_after_in A m ws (joint_root_action m qs) o) (trees_after m qs o))
 
 -- The worth of a joint policy for the steps that are left can be added up from any weights, in any order.
 pub record CanEvaluate (A : Arithmetic) (m : Model) (h : ℕ) : Type 0 where
-  pub add : (t r : ℕ) (ws : ℕ → Span) (qs : List PolicyTree) → t + r ≡ h → AreWeights A.is_exact m t ws → IsPolicyOf m r qs → worth_size A m r ws qs < 2 ^ 127
+  pub add : (t r : ℕ) (ws : ℕ → Span) (qs : List PolicyTree) → t + r ≡ h → AreWeights A.is_exact m t ws
+      → IsPolicyOf m r qs → worth_size A m r ws qs < 2 ^ 127

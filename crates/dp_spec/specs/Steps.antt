@@ -35,7 +35,8 @@ abbrev pub is_complete : List AgentFront → Bool
 is_complete [] = true
 is_complete (d ∷ ds) = all_chosen d.chosen && is_complete ds
 
--- An agent with n observations goes on from stage f: the chosen actions are fixed, and class c followed by observation o is class c * n + o.
+-- An agent with n observations goes on from stage f: the chosen actions are fixed, and class c followed by
+-- observation o is class c * n + o.
 unfoldable pub advanced_agent : ℕ → ℕ → AgentFront → AgentFront
 advanced_agent n f d = record {
   fixed = d.fixed ++ map (λ x. unwrap_or (get_or d.chosen (get_or d.class_of x 0) None) 0) (range_with_len 0 (n ^ f)) ∷ [];

@@ -25,7 +25,8 @@ backward_value m zero s qs = pos 0
 backward_value m (suc r) s qs =
     int_sum m.states (λ t. int_sum (joint_observations m) (λ o.
     pos (trans_at m (joint_root_action m qs) s t * obs_at m (joint_root_action m qs) t o)
-    *ℤ (reward_at m (joint_root_action m qs) s t o *ℤ pos (m.scales.discount * step_scale m ^ r) +ℤ pos m.scales.gain *ℤ backward_value m r t (trees_after m qs o))))
+    *ℤ (reward_at m (joint_root_action m qs) s t o *ℤ pos (m.scales.discount * step_scale m ^ r)
+    +ℤ pos m.scales.gain *ℤ backward_value m r t (trees_after m qs o))))
 
 -- the value of a joint policy of h steps from the start, counted in the value scale
 unfoldable pub policy_value : Model → ℕ → List PolicyTree → ℤ

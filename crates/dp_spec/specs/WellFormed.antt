@@ -1,4 +1,5 @@
--- Well-formed fronts: the lists have their lengths, every own history of the stage has a class, every class a history, actions exist, and none is chosen where no step is left.
+-- Well-formed fronts: the lists have their lengths, every own history of the stage has a class, every class a
+-- history, actions exist, and none is chosen where no step is left.
 use Rattle.std.specs.Prelude.{ℕ, ◌^◌, ◌<◌, ◌≤◌, ◌≡◌, List, [], ◌∷◌, length, get_or, Some, None}
 use Rattle.dp_spec.specs.Model.{Model}
 use Rattle.dp_spec.specs.Front.{AgentFront, Front}
@@ -18,7 +19,8 @@ pub record IsAgentFront (b n f : ℕ) (d : AgentFront) : Type 0 where
 
 pub data AreAgentFronts (f : ℕ) : List ℕ → List ℕ → List AgentFront → Type 0 where
   no_agents : AreAgentFronts f [] [] []
-  and_agent : {b n : ℕ} {bs ns : List ℕ} {d : AgentFront} {ds : List AgentFront} → IsAgentFront b n f d → AreAgentFronts f bs ns ds → AreAgentFronts f (b ∷ bs) (n ∷ ns) (d ∷ ds)
+  and_agent : {b n : ℕ} {bs ns : List ℕ} {d : AgentFront} {ds : List AgentFront} → IsAgentFront b n f d
+      → AreAgentFronts f bs ns ds → AreAgentFronts f (b ∷ bs) (n ∷ ns) (d ∷ ds)
 
 -- no class of any agent has an action
 abbrev pub NoneChosen : List AgentFront → Type 0

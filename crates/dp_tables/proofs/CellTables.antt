@@ -55,7 +55,8 @@ pub record AreCells (T : Type 0) (none : T) (axes : List Axis) (value : Cell →
   pub cell : (k : ℕ) → k < product (list_sizes axes) → get_or cells k none ≡ value (parts_of (map axis_size axes) k)
 
 -- before any statement
-pub no_cells : (T : Type 0) (none : T) (axes : List Axis) (value : Cell → T) (cells : List T) (n : ℕ) → cells ≡ replicate n none
+pub no_cells : (T : Type 0) (none : T) (axes : List Axis) (value : Cell → T) (cells : List T) (n : ℕ)
+    → cells ≡ replicate n none
     → n ≡ product (list_sizes axes) → ((cell : Cell) → value cell ≡ none) → AreCells T none axes value cells
 no_cells T none axes value cells n e long empty = record {
   count = ap length e ∙ length-replicate n none ∙ long;
@@ -88,12 +89,14 @@ more_cells T none axes before given after fields block cells new are so_far long
         ∙ by (covers axes fields (parts_of (map axis_size axes) k)) refl
       where
         by : (b : Bool) → covers axes fields (parts_of (map axis_size axes) k) ≡ b
-            → cond b (get_or block (k % length block) none) (get_or cells k none) ≡ after (parts_of (map axis_size axes) k)
+            → cond b (get_or block (k % length block) none) (get_or cells k none)
+            ≡ after (parts_of (map axis_size axes) k)
         by true e = gives k (subst (λ n. k < n) (product_of_lists axes) h) ∙ sym (covered (parts_of (map axis_size axes) k) e)
         by false e = so_far.cell k h ∙ sym (others (parts_of (map axis_size axes) k) e)
 
 -- the list of all cells
-pub all_cells : (T : Type 0) (none : T) (axes : List Axis) (value : Cell → T) (cells : List T) (sizes : List ℕ) (count : ℕ)
+pub all_cells : (T : Type 0) (none : T) (axes : List Axis) (value : Cell → T) (cells : List T) (sizes : List ℕ)
+    (count : ℕ)
     → AreCells T none axes value cells → map axis_size axes ≡ sizes → product sizes ≡ count
     → cells ≡ map (λ k. value (parts_of sizes k)) (range_with_len 0 count)
 all_cells T none axes value cells sizes count are e counted =

@@ -24,7 +24,8 @@ pub record IsTableOver (table : Table) (axes : List Axis) (actions states len : 
   pub square : is_trans table ≡ true → states ≡ len
   pub some : 0 < product (map axis_size axes)
 
-three_axes : (table : Table) (axes : List Axis) (actions states len : ℕ) → IsTableOver table axes actions states len → length axes ≡ 3
+three_axes : (table : Table) (axes : List Axis) (actions states len : ℕ) → IsTableOver table axes actions states len
+    → length axes ≡ 3
 three_axes table axes actions states len is = sym (length-map axes axis_size) ∙ ap length is.sizes
 
 both : (a b : Bool) → (a && b) ≡ true → (a ≡ true) × (b ≡ true)
@@ -46,7 +47,8 @@ is_square table axes actions states len f is e =
 -- a block of one value, or of one for each cell of the axes without a field
 pub block_fits : (scale actions states len f : ℕ) (table : Table) (axes : List Axis) (v : Value)
     → IsTableOver table axes actions states len → Fills table (drop f axes) v
-    → (length (chance_block scale len v) ≡ 1) ⊎ (length (chance_block scale len v) ≡ product (map axis_size (drop f axes)))
+    → (length (chance_block scale len v) ≡ 1)
+    ⊎ (length (chance_block scale len v) ≡ product (map axis_size (drop f axes)))
 block_fits scale actions states len f table axes Uniform is fills = inl refl
 block_fits scale actions states len f table axes (Numbers ns) is fills = inr (length-map ns (chance_over scale) ∙ fills)
 block_fits scale actions states len f table axes Identity is fills =
@@ -65,7 +67,8 @@ of_uniform : (scale actions states len k : ℕ) → get_or (scale / len ∷ []) 
 of_uniform scale actions states len k = let e : k % 1 ≡ 0 = omega arith in ap (λ n. get_or (scale / len ∷ []) n 0) e
 
 -- the digits of a cell of a square
-of_identity : (scale actions len k : ℕ) → 0 < len → get_or (map (identity_at scale len) (range_with_len 0 (len * len))) (k % (len * len)) 0
+of_identity : (scale actions len k : ℕ) → 0 < len
+    → get_or (map (identity_at scale len) (range_with_len 0 (len * len))) (k % (len * len)) 0
     ≡ given_chance scale (actions ∷ len ∷ len ∷ []) 1 (parts_of (actions ∷ len ∷ len ∷ []) k) Identity
 of_identity scale actions len k some =
     get_or-map-range_with_len (identity_at scale len) 0 (len * len) (k % (len * len)) (k % (len * len)) 0
@@ -88,7 +91,8 @@ of_identity scale actions len k some =
     square_some (suc n) h = omega arith
 
 -- the numbers behind the fields, each over its scale
-pub of_numbers : (T : Type 0) (none : T) (over : Decimal → T) (k f : ℕ) (sizes : List ℕ) (ns : List Decimal) → k < product sizes
+pub of_numbers : (T : Type 0) (none : T) (over : Decimal → T) (k f : ℕ) (sizes : List ℕ) (ns : List Decimal)
+    → k < product sizes
     → length ns ≡ product (drop f sizes)
     → get_or (map over ns) (k % length (map over ns)) none ≡ over (number_at sizes f (parts_of sizes k) ns)
 of_numbers T none over k f sizes ns h long =

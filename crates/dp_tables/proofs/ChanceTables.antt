@@ -67,7 +67,8 @@ table_over text table said e = record {
         let all = mul-le 1 1 a (s * (n * 1)) ha (omega arith) in omega arith
 
 -- with the length of its rows as it is computed
-pub table_over_len : (text : Text) (table : Table) (len : ℕ) → IsSaid text → is_reward_table table ≡ false → len ≡ row_length text table
+pub table_over_len : (text : Text) (table : Table) (len : ℕ) → IsSaid text → is_reward_table table ≡ false
+    → len ≡ row_length text table
     → IsTableOver table (axes_of text.header table) (joint_actions_in text) (states_in text) len
 table_over_len text table len said e is =
     subst (IsTableOver table (axes_of text.header table) (joint_actions_in text) (states_in text)) (sym is) (table_over text table said e)
@@ -111,14 +112,17 @@ chance_statement text table items i s said chances are h is same =
 abbrev pub AreChancesBy : ℕ → List Axis → List Statement → List ℕ → Type 0
 AreChancesBy scale axes statements cells = AreCells ℕ 0 axes (chance_of_cell scale axes statements) cells
 
-pub no_chances : (scale : ℕ) (axes : List Axis) (cells : List ℕ) (n : ℕ) → cells ≡ replicate n 0 → n ≡ product (list_sizes axes)
+pub no_chances : (scale : ℕ) (axes : List Axis) (cells : List ℕ) (n : ℕ) → cells ≡ replicate n 0
+    → n ≡ product (list_sizes axes)
     → AreChancesBy scale axes [] cells
 no_chances scale axes cells n e long =
     no_cells ℕ 0 axes (chance_of_cell scale axes []) cells n e long (λ cell. chance_uncovered scale axes [] cell refl)
 
-more_chances : (scale actions states len : ℕ) (table : Table) (axes : List Axis) (before : List Statement) (s : Statement)
+more_chances : (scale actions states len : ℕ) (table : Table) (axes : List Axis) (before : List Statement)
+    (s : Statement)
     (cells new : List ℕ)
-    → IsTableOver table axes actions states len → IsChanceStatement table axes s → AreChancesBy scale axes before cells → length new
+    → IsTableOver table axes actions states len → IsChanceStatement table axes s
+    → AreChancesBy scale axes before cells → length new
     ≡ length cells
     → AreWritten (list_sizes axes) (list_parts s.fields) (chance_block scale len s.value) cells new
     → AreChancesBy scale axes (before ++ s ∷ []) new
@@ -138,7 +142,8 @@ pub record IsWritable (scale len : ℕ) (sizes : List ℕ) (s : Statement) : Typ
       ⊎ (length (chance_block scale len s.value) ≡ product (drop (length (list_parts s.fields)) sizes))
 
 pub writable : (scale actions states len : ℕ) (table : Table) (axes : List Axis) (s : Statement) (sizes : List ℕ)
-    → IsTableOver table axes actions states len → IsChanceStatement table axes s → sizes ≡ list_sizes axes → IsWritable scale len sizes s
+    → IsTableOver table axes actions states len → IsChanceStatement table axes s → sizes ≡ list_sizes axes
+    → IsWritable scale len sizes s
 writable scale actions states len table axes s sizes over is e = subst (λ ns. IsWritable scale len ns s) (sym e) (record {
   some = subst (λ n. 0 < n) (sym (product_of_lists axes)) over.some;
   parts = parts_within axes s.fields is.over.fields;
@@ -148,9 +153,11 @@ writable scale actions states len table axes s sizes over is e = subst (λ ns. I
 })
 
 -- a statement of the table is written ..
-pub chances_taken : (scale actions states len : ℕ) (table : Table) (axes : List Axis) (items : List Statement) (i : ℕ) (s : Statement)
+pub chances_taken : (scale actions states len : ℕ) (table : Table) (axes : List Axis) (items : List Statement) (i : ℕ)
+    (s : Statement)
     (cells new sizes old : List ℕ)
-    → IsTableOver table axes actions states len → IsChanceStatement table axes s → i < length items → s ≡ get_or items i s
+    → IsTableOver table axes actions states len → IsChanceStatement table axes s → i < length items
+    → s ≡ get_or items i s
     → is_same_table table s.table ≡ true → AreChancesBy scale axes (statements_for table (take i items)) cells
     → sizes ≡ list_sizes axes → old ≡ cells → length new ≡ length old
     → AreWritten sizes (list_parts s.fields) (chance_block scale len s.value) old new
@@ -162,19 +169,22 @@ chances_taken scale actions states len table axes items i s cells new sizes old 
     (subst (λ ns. AreWritten sizes (list_parts s.fields) (chance_block scale len s.value) ns new) f written)))
 
 -- .. and one of another table is passed over
-pub chances_skipped : (scale : ℕ) (table : Table) (axes : List Axis) (items : List Statement) (i : ℕ) (s : Statement) (cells : List ℕ)
+pub chances_skipped : (scale : ℕ) (table : Table) (axes : List Axis) (items : List Statement) (i : ℕ) (s : Statement)
+    (cells : List ℕ)
     → i < length items → s ≡ get_or items i s → is_same_table table s.table ≡ false
     → AreChancesBy scale axes (statements_for table (take i items)) cells
     → AreChancesBy scale axes (statements_for table (take (i + 1) items)) cells
 chances_skipped scale table axes items i s cells h at other so_far =
     subst (λ ss. AreChancesBy scale axes ss cells) (sym (skipped table items i s h at other)) so_far
 
-pub cells_count : (table : Table) (axes : List Axis) (actions states len : ℕ) → IsTableOver table axes actions states len
+pub cells_count : (table : Table) (axes : List Axis) (actions states len : ℕ)
+    → IsTableOver table axes actions states len
     → product (list_sizes axes) ≡ actions * states * len
 cells_count table axes actions states len over = product_of_lists axes ∙ ap product over.sizes ∙ omega arith
 
 -- all of the table's statements
-pub all_chances : (scale actions states len : ℕ) (table : Table) (axes : List Axis) (statements : List Statement) (cells : List ℕ)
+pub all_chances : (scale actions states len : ℕ) (table : Table) (axes : List Axis) (statements : List Statement)
+    (cells : List ℕ)
     → IsTableOver table axes actions states len → AreChancesBy scale axes statements cells
     → cells ≡ map (λ k. chance_of_cell scale axes statements (parts_of (actions ∷ states ∷ len ∷ []) k))
     (range_with_len 0 (actions * states * len))

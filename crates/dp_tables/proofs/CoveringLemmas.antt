@@ -132,7 +132,8 @@ covers_by_field x y z rest (p ∷ q ∷ r ∷ fields) a s n =
     three true false d e h = refl
     three false c d e h = refl
 
-some_of_row : (row : Bool) (f : ℕ → Bool) (a n : ℕ) → list_any (λ k. row && f k) (range_with_len a n) ≡ (row && list_any f (range_with_len a n))
+some_of_row : (row : Bool) (f : ℕ → Bool) (a n : ℕ)
+    → list_any (λ k. row && f k) (range_with_len a n) ≡ (row && list_any f (range_with_len a n))
 some_of_row true f a n = refl
 some_of_row false f a n = none a n
   where
@@ -140,11 +141,13 @@ some_of_row false f a n = none a n
     none a zero = refl
     none a (suc n) = none (a + 1) n
 
-any_of_map : {X : Type 0} (p : X → Bool) (f : ℕ → X) (a n : ℕ) → list_any p (map f (range_with_len a n)) ≡ list_any (λ k. p (f k)) (range_with_len a n)
+any_of_map : {X : Type 0} (p : X → Bool) (f : ℕ → X) (a n : ℕ)
+    → list_any p (map f (range_with_len a n)) ≡ list_any (λ k. p (f k)) (range_with_len a n)
 any_of_map p f a zero = refl
 any_of_map p f a (suc n) = ap (λ b. p (f a) || b) (any_of_map p f (a + 1) n)
 
-any_same : (p q : ℕ → Bool) → ((k : ℕ) → p k ≡ q k) → (a n : ℕ) → list_any p (range_with_len a n) ≡ list_any q (range_with_len a n)
+any_same : (p q : ℕ → Bool) → ((k : ℕ) → p k ≡ q k) → (a n : ℕ)
+    → list_any p (range_with_len a n) ≡ list_any q (range_with_len a n)
 any_same p q h a zero = refl
 any_same p q h a (suc n) = ap (λ b. b || list_any p (range_with_len (a + 1) n)) (h a) ∙ ap (λ b. q a || b) (any_same p q h (a + 1) n)
 
@@ -163,15 +166,18 @@ covers_some header table fields a s len =
     by Obs n = covers_by_field header.actions (header.states ∷ []) header.observations [] fields a s n
     by Reward n = covers_by_field header.actions (header.states ∷ []) (header.states ∷ []) (header.observations ∷ []) fields a s n
 
-pub row_not_allowed : (header : Header) (table : Table) (fields : List (List Part)) (a s len : ℕ) → is_row_allowed header fields a s ≡ false
+pub row_not_allowed : (header : Header) (table : Table) (fields : List (List Part)) (a s len : ℕ)
+    → is_row_allowed header fields a s ≡ false
     → false ≡ list_any (covers (axes_of header table) fields) (row_cells (a ∷ s ∷ []) len)
 row_not_allowed header table fields a s len e =
     let some : ℕ → Bool = λ n. allow (get_or fields 2 []) (parts_of (map size_of (get_or (axes_of header table) 2 [])) n) in
     let both : Bool → Bool = λ b. b && list_any some (range_with_len 0 len) in
     sym (covers_some header table fields a s len ∙ ap both e)
 
-pub row_allowed : (header : Header) (table : Table) (fields : List (List Part)) (a s len : ℕ) → is_row_allowed header fields a s ≡ true
-    → (lists : List GivenList) (parts : List Part) → lists ≡ get_or (axes_of header table) 2 [] → parts ≡ get_or fields 2 []
+pub row_allowed : (header : Header) (table : Table) (fields : List (List Part)) (a s len : ℕ)
+    → is_row_allowed header fields a s ≡ true
+    → (lists : List GivenList) (parts : List Part) → lists ≡ get_or (axes_of header table) 2 []
+    → parts ≡ get_or fields 2 []
     → list_any (λ n. allow parts (parts_of (map size_of lists) n)) (range_with_len 0 len)
     ≡ list_any (covers (axes_of header table) fields) (row_cells (a ∷ s ∷ []) len)
 row_allowed header table fields a s len e lists parts el ep =

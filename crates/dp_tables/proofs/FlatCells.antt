@@ -31,7 +31,8 @@ within_one : (list : GivenList) (part : Part) → IsPartOf list part → IsWithi
 within_one list Any is = tt
 within_one list (Only n) is = is
 
-within_axis : (axis : Axis) (parts : List Part) (sizes : List ℕ) (others : List Part) → ArePartsOf axis parts → AreWithin sizes others
+within_axis : (axis : Axis) (parts : List Part) (sizes : List ℕ) (others : List Part) → ArePartsOf axis parts
+    → AreWithin sizes others
     → AreWithin (map size_of axis ++ sizes) (parts ++ others)
 within_axis [] [] sizes others are rest = rest
 within_axis [] (part ∷ parts) sizes others are rest = absurd are
@@ -44,7 +45,8 @@ no_parts [] = tt
 no_parts (size ∷ sizes) = tt
 
 -- the parts of the fields are parts of the lists
-pub parts_within : (axes : List Axis) (fields : List (List Part)) → AreFieldsOf axes fields → AreWithin (list_sizes axes)
+pub parts_within : (axes : List Axis) (fields : List (List Part)) → AreFieldsOf axes fields
+    → AreWithin (list_sizes axes)
     (list_parts fields)
 parts_within axes [] are = no_parts (list_sizes axes)
 parts_within [] (parts ∷ fields) are = absurd are
@@ -67,7 +69,8 @@ behind_parts (axis ∷ axes) (parts ∷ fields) are =
     behind_axis axis parts (list_sizes axes) (list_parts fields) are.0 ∙ behind_parts axes fields are.1
 
 pub width_of_parts : (axes : List Axis) (fields : List (List Part)) → AreFieldsOf axes fields
-    → product (drop (length (list_parts fields)) (list_sizes axes)) ≡ product (map axis_size (drop (length fields) axes))
+    → product (drop (length (list_parts fields)) (list_sizes axes))
+    ≡ product (map axis_size (drop (length fields) axes))
 width_of_parts axes fields are = ap product (behind_parts axes fields are) ∙ product_of_lists (drop (length fields) axes)
 
 -- ---- covered cells
@@ -87,7 +90,8 @@ allow_append (part ∷ parts) others (n ∷ ns) ms e =
     (allow others ms)
 
 -- the fields cover the cells that their parts allow
-pub covered_by_lists : (axes : List Axis) (fields : List (List Part)) (k : ℕ) → AreFieldsOf axes fields → k < product (list_sizes axes)
+pub covered_by_lists : (axes : List Axis) (fields : List (List Part)) (k : ℕ) → AreFieldsOf axes fields
+    → k < product (list_sizes axes)
     → is_covered (list_sizes axes) (list_parts fields) k ≡ covers axes fields (parts_of (map axis_size axes) k)
 covered_by_lists [] [] k are h = refl
 covered_by_lists (axis ∷ axes) [] k are h = refl

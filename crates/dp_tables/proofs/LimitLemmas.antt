@@ -17,7 +17,8 @@ use Rattle.dp_tables.specs.Sizes.{AreSizesOf}
 -- ---- lists of limits
 
 -- a limit of the first group is the first
-passed_before : (xs ys : List (Option TooLarge)) (passed : TooLarge) → first_passed xs ≡ Some passed → first_passed (xs ++ ys) ≡ Some passed
+passed_before : (xs ys : List (Option TooLarge)) (passed : TooLarge) → first_passed xs ≡ Some passed
+    → first_passed (xs ++ ys) ≡ Some passed
 passed_before [] ys passed e = absurd (cc)
 passed_before (Some x ∷ xs) ys passed e = e
 passed_before (None ∷ xs) ys passed e = passed_before xs ys passed e
@@ -43,7 +44,8 @@ scales_with text sizes =
 
 -- the limits in their groups
 in_groups : (text : Text) (sizes : JointSizes) → AreSizesOf text sizes
-    → passed_limit text ≡ first_passed (size_limits text ++ (cells_of sizes ++ reward_lines_of text ∷ scales_with text sizes))
+    → passed_limit text
+    ≡ first_passed (size_limits text ++ (cells_of sizes ++ reward_lines_of text ∷ scales_with text sizes))
 unfolding passed_limit scales_of
 in_groups text sizes of =
     let same : sizes ≡ given = λ i. record {
@@ -56,7 +58,8 @@ in_groups text sizes of =
     given : JointSizes
     given = record { states = states_in text; joint_actions = joint_actions_in text; joint_observations = joint_observations_in text }
 
-pub passed_size : (text : Text) (passed : TooLarge) → first_passed (size_limits text) ≡ Some passed → passed_limit text ≡ Some passed
+pub passed_size : (text : Text) (passed : TooLarge) → first_passed (size_limits text) ≡ Some passed
+    → passed_limit text ≡ Some passed
 unfolding passed_limit
 passed_size text passed e = passed_before (size_limits text) _ passed e
 
@@ -68,7 +71,8 @@ module _ (text : Text) (sizes : JointSizes) (of : AreSizesOf text sizes) (kept :
   pub passed_cells : (passed : TooLarge) → first_passed (cells_of sizes) ≡ Some passed → passed_limit text ≡ Some passed
   passed_cells passed e = after_sizes ∙ passed_before (cells_of sizes) _ passed e
 
-  after_cells : first_passed (cells_of sizes) ≡ None → passed_limit text ≡ first_passed (reward_lines_of text ∷ scales_with text sizes)
+  after_cells : first_passed (cells_of sizes) ≡ None
+      → passed_limit text ≡ first_passed (reward_lines_of text ∷ scales_with text sizes)
   after_cells cells = after_sizes ∙ passed_after (cells_of sizes) _ cells
 
   pub passed_lines : (passed : TooLarge) → first_passed (cells_of sizes) ≡ None → reward_lines_of text ≡ Some passed

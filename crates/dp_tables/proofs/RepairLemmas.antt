@@ -13,7 +13,8 @@ pub record IsPlace (scale : ℕ) (cells : List ℕ) : Type 0 where
   pub enough : sum cells ≤ greatest_cell cells + scale
 
 -- a row whose sum is wrong, but near, has a largest cell, from which what is too much can be taken
-pub place_of_near : (scale : ℕ) (cells : List ℕ) → length cells < 1000 → is_near scale (sum cells) ≡ true → sum cells ≢ scale
+pub place_of_near : (scale : ℕ) (cells : List ℕ) → length cells < 1000 → is_near scale (sum cells) ≡ true
+    → sum cells ≢ scale
     → IsPlace scale cells
 place_of_near scale [] short near wrong = absurd (no_cells scale near wrong)
   where
@@ -34,7 +35,8 @@ place_of_near scale (x ∷ xs) short near wrong =
     parts : (scale total : ℕ) → is_near scale total ≡ true → ((scale - total) + (total - scale)) * 1000 ≤ scale
     parts scale total e = grind (arith, nat_tests, e)
 
-    enough : (len greatest scale total : ℕ) → len < 1000 → total ≤ len * greatest → ((scale - total) + (total - scale)) * 1000 ≤ scale
+    enough : (len greatest scale total : ℕ) → len < 1000 → total ≤ len * greatest
+        → ((scale - total) + (total - scale)) * 1000 ≤ scale
         → total ≤ greatest + scale
     enough len greatest scale total short most near =
         let times : len * greatest ≤ 999 * greatest = mul-le len greatest 999 greatest (omega arith) (omega arith) in omega arith

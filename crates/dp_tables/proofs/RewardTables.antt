@@ -75,8 +75,10 @@ reward_numbers Uniform are = tt
 reward_numbers Identity are = tt
 reward_numbers (Numbers ns) are = all_from_each _ ns are
 
-pub reward_statement : (text : Text) (items : List Statement) (i : ℕ) (s : Statement) → IsSaid text → items ≡ text.statements
-    → i < length items → s ≡ get_or items i s → is_same_table Reward s.table ≡ true → IsRewardStatement (reward_axes text) s
+pub reward_statement : (text : Text) (items : List Statement) (i : ℕ) (s : Statement) → IsSaid text
+    → items ≡ text.statements
+    → i < length items → s ≡ get_or items i s → is_same_table Reward s.table ≡ true
+    → IsRewardStatement (reward_axes text) s
 reward_statement text items i s said are h is same =
     let within : i < length text.statements = subst (λ ss. i < length ss) are h in
     let there : s ≡ get_or text.statements i s = is ∙ ap (λ ss. get_or ss i s) are in
@@ -99,7 +101,8 @@ rewards_fit cost scale f axes Uniform fills = absurd (cc)
 rewards_fit cost scale f axes Identity fills = absurd (cc)
 rewards_fit cost scale f axes (Numbers ns) fills = length-map ns (reward_over cost scale) ∙ fills
 
-reward_value_at : (cost : Bool) (scale k f : ℕ) (axes : List Axis) (v : Value) → Fills Reward (drop f axes) v → k < product
+reward_value_at : (cost : Bool) (scale k f : ℕ) (axes : List Axis) (v : Value) → Fills Reward (drop f axes) v
+    → k < product
     (map axis_size axes)
     → get_or (reward_block cost scale v) (k % length (reward_block cost scale v)) (pos 0)
     ≡ given_reward cost scale (map axis_size axes) f (parts_of (map axis_size axes) k) v
@@ -114,7 +117,8 @@ pub record IsWritable (cost : Bool) (scale : ℕ) (sizes : List ℕ) (s : Statem
   pub parts : AreWithin sizes (list_parts s.fields)
   pub block : length (reward_block cost scale s.value) ≡ product (drop (length (list_parts s.fields)) sizes)
 
-pub writable : (text : Text) (scale : ℕ) (s : Statement) (sizes : List ℕ) → IsSaid text → IsRewardStatement (reward_axes text) s
+pub writable : (text : Text) (scale : ℕ) (s : Statement) (sizes : List ℕ) → IsSaid text
+    → IsRewardStatement (reward_axes text) s
     → sizes ≡ list_sizes (reward_axes text) → IsWritable text.header.cost scale sizes s
 writable text scale s sizes said is e = subst (λ ns. IsWritable text.header.cost scale ns s) (sym e) (record {
   some = some_rewards text said;
@@ -131,7 +135,8 @@ AreRewardsBy text scale statements cells =
     AreCells ℤ (pos 0) (reward_axes text) (reward_of_cell text.header.cost scale (reward_axes text) statements) cells
 
 pub no_rewards : (text : Text) (scale : ℕ) (cells : List ℤ) (n : ℕ) → cells ≡ replicate n (pos 0)
-    → n ≡ joint_actions_in text * states_in text * states_in text * joint_observations_in text → AreRewardsBy text scale [] cells
+    → n ≡ joint_actions_in text * states_in text * states_in text * joint_observations_in text
+    → AreRewardsBy text scale [] cells
 no_rewards text scale cells n e long =
     no_cells ℤ (pos 0) (reward_axes text) (reward_of_cell text.header.cost scale (reward_axes text) []) cells n e
     (long ∙ sym (rewards_count text)) (λ cell. reward_uncovered text.header.cost scale (reward_axes text) [] cell refl)
@@ -152,11 +157,15 @@ more_rewards text scale before s cells new is so_far long written =
     (λ cell e. reward_of_others cost scale axes before s [] cell e ∙ ap (λ ss. reward_of_cell cost scale axes ss cell) (append-nil before))
 
 -- a statement of the rewards is written ..
-pub rewards_taken : (text : Text) (scale : ℕ) (items : List Statement) (i : ℕ) (s : Statement) (cells new : List ℤ) (sizes : List ℕ)
+pub rewards_taken : (text : Text) (scale : ℕ) (items : List Statement) (i : ℕ) (s : Statement) (cells new : List ℤ)
+    (sizes : List ℕ)
     (old : List ℤ)
-    → IsRewardStatement (reward_axes text) s → i < length items → s ≡ get_or items i s → is_same_table Reward s.table ≡ true
-    → AreRewardsBy text scale (statements_for Reward (take i items)) cells → sizes ≡ list_sizes (reward_axes text) → old ≡ cells
-    → length new ≡ length old → AreWritten sizes (list_parts s.fields) (reward_block text.header.cost scale s.value) old new
+    → IsRewardStatement (reward_axes text) s → i < length items → s ≡ get_or items i s
+    → is_same_table Reward s.table ≡ true
+    → AreRewardsBy text scale (statements_for Reward (take i items)) cells → sizes ≡ list_sizes (reward_axes text)
+    → old ≡ cells
+    → length new ≡ length old
+    → AreWritten sizes (list_parts s.fields) (reward_block text.header.cost scale s.value) old new
     → AreRewardsBy text scale (statements_for Reward (take (i + 1) items)) new
 rewards_taken text scale items i s cells new sizes old is h at same so_far e f long written =
     subst (λ ss. AreRewardsBy text scale ss new) (sym (taken Reward items i s h at same))

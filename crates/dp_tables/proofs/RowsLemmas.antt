@@ -27,12 +27,14 @@ unfolding repair
 placed end cells scale at x e = e
 
 row_done : (end : ℕ) (cells : List ℕ) (scale : ℕ) (o : Option ℕ) (x : Repaired) → 0 < scale → (o ≡ None → sum cells ≡ 0)
-    → ((at : ℕ) → repair_at at scale cells ≡ done x) → repair end (record { cells = cells; scale = scale; at = o }) ≡ done x
+    → ((at : ℕ) → repair_at at scale cells ≡ done x)
+    → repair end (record { cells = cells; scale = scale; at = o }) ≡ done x
 row_done end cells scale (Some at) x some missing h = placed end cells scale at x (h at)
 row_done end cells scale None x some missing h =
     absurd (none_near scale (sum cells) (missing refl) some (repair_ok end _ x (placed end cells scale 0 x (h 0))).near)
 
-row_failed : (end : ℕ) (cells : List ℕ) (scale : ℕ) (o : Option ℕ) → ((at : ℕ) → repair_at at scale cells ≡ fault RowSum at)
+row_failed : (end : ℕ) (cells : List ℕ) (scale : ℕ) (o : Option ℕ)
+    → ((at : ℕ) → repair_at at scale cells ≡ fault RowSum at)
     → repair end (record { cells = cells; scale = scale; at = o }) ≡ failed (fault_of_row end o)
 unfolding repair
 row_failed end cells scale (Some at) h = h at
@@ -52,12 +54,14 @@ no_rows : (end : ℕ) → repair_all end [] ≡ done (record { cells = []; repai
 unfolding repair_all
 no_rows end = refl
 
-cons_done : (end : ℕ) (row : Row) (rows : List Row) (x y : Repaired) → repair end row ≡ done x → repair_all end rows ≡ done y
+cons_done : (end : ℕ) (row : Row) (rows : List Row) (x y : Repaired) → repair end row ≡ done x
+    → repair_all end rows ≡ done y
     → repair_all end (row ∷ rows) ≡ done (joined x y)
 unfolding repair_all
 cons_done end row rows x y e f = rw e (rw f refl)
 
-cons_failed : (end : ℕ) (row : Row) (rows : List Row) (f : Fault) → repair end row ≡ failed f → repair_all end (row ∷ rows) ≡ failed f
+cons_failed : (end : ℕ) (row : Row) (rows : List Row) (f : Fault) → repair end row ≡ failed f
+    → repair_all end (row ∷ rows) ≡ failed f
 unfolding repair_all
 cons_failed end row rows f e = rw e refl
 
@@ -66,10 +70,12 @@ later_failed : (end : ℕ) (row : Row) (rows : List Row) (x : Repaired) (f : Fau
 unfolding repair_all
 later_failed end row rows x f e g = rw e (rw g refl)
 
-joined_none : (x y : Repaired) → record { cells = []; repaired = 0 } ≡ x → joined y (record { cells = []; repaired = 0 }) ≡ joined x y
+joined_none : (x y : Repaired) → record { cells = []; repaired = 0 } ≡ x
+    → joined y (record { cells = []; repaired = 0 }) ≡ joined x y
 joined_none x y e = same_rows _ _ (append-nil y.cells ∙ ap (λ z. z.cells ++ y.cells) e) (let n = ap (λ z. z.repaired) e in omega arith)
 
-one_more : (end : ℕ) (rows : List Row) (i : ℕ) (d : Row) (x y : Repaired) → i < length rows → repair_all end (take i rows) ≡ done x
+one_more : (end : ℕ) (rows : List Row) (i : ℕ) (d : Row) (x y : Repaired) → i < length rows
+    → repair_all end (take i rows) ≡ done x
     → repair end (get_or rows i d) ≡ done y → repair_all end (take (suc i) rows) ≡ done (joined x y)
 one_more end [] i d x y h before here = absurd (omega arith)
 one_more end (row ∷ rows) zero d x y h before here =
@@ -105,14 +111,16 @@ none_done scale count len given = record {
       no_rows end ∙ ap done (same_rows _ _ (let none : 0 ≡ 0 * len = omega arith in ap (λ n. take n given) none) refl);
 }
 
-row_at : (end scale count len : ℕ) (given : List ℕ) (rows : List Row) (i : ℕ) (d : Row) (x : Result Repaired Fault) → AreRows scale count len given rows
+row_at : (end scale count len : ℕ) (given : List ℕ) (rows : List Row) (i : ℕ) (d : Row) (x : Result Repaired Fault)
+    → AreRows scale count len given rows
     → i < length rows
     → repair end (record { cells = take len (drop (i * len) given); scale = scale; at = (get_or rows i d).at }) ≡ x
     → repair end (get_or rows i d) ≡ x
 row_at end scale count len given rows i d x are h e =
     ap (λ r. repair end r) (same (get_or rows i d) _ _ (are.each i d h) (are.over i d h)) ∙ e
   where
-    same : (r : Row) (cells : List ℕ) (scale : ℕ) → r.cells ≡ cells → r.scale ≡ scale → r ≡ record { cells = cells; scale = scale; at = r.at }
+    same : (r : Row) (cells : List ℕ) (scale : ℕ) → r.cells ≡ cells → r.scale ≡ scale
+        → r ≡ record { cells = cells; scale = scale; at = r.at }
     same r cells scale e f =
         let with_cells : List ℕ → Row = λ c. record { cells = c; scale = r.scale; at = r.at } in
         let with_scale : ℕ → Row = λ n. record { cells = cells; scale = n; at = r.at } in ap with_cells e ∙ ap with_scale f
@@ -129,7 +137,8 @@ below_rows len i n size h e =
     let times : (i + 1) * len ≤ n * len = mul-le (i + 1) len n len (omega arith) (omega arith) in omega arith
 
 pub one_done : (scale count len : ℕ) (given : List ℕ) (i : ℕ) (cells : List ℕ) (repaired : ℕ) (row : List ℕ) (n : ℕ)
-    → RowsDone scale count len given i cells repaired → i < count → count * len ≡ length given → 0 < scale → length cells ≡ length given
+    → RowsDone scale count len given i cells repaired → i < count → count * len ≡ length given → 0 < scale
+    → length cells ≡ length given
     → length row ≡ length (take (i * len + len - i * len) (drop (i * len) cells)) → n ≤ 1
     → RepairsRow scale (take (i * len + len - i * len) (drop (i * len) cells)) row (Some n)
     → RowsDone scale count len given (i + 1) (put_mid (i * len) (i * len + len - i * len) cells row) (repaired + n)
@@ -183,7 +192,8 @@ one_failed scale count len given i cells repaired before h is end rows d are =
     (row_failed end _ scale _ (λ at. ap (repair_at at scale) (sym (part len i given cells before.rest)) ∙ is at)))
 
 pub all_done : (scale count len : ℕ) (given : List ℕ) (i : ℕ) (cells : List ℕ) (repaired : ℕ)
-    → RowsDone scale count len given i cells repaired → i ≡ count → count * len ≡ length given → length cells ≡ length given
+    → RowsDone scale count len given i cells repaired → i ≡ count → count * len ≡ length given
+    → length cells ≡ length given
     → RepairsRows scale count len given cells (Ok repaired)
 all_done scale count len given i cells repaired before end_is size same end rows are =
     ap (repair_all end) (sym (take_all i rows (let n = are.size in omega arith))) ∙ before.front end rows are

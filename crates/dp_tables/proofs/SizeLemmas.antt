@@ -15,7 +15,8 @@ use Rattle.dp_tables.specs.declared.sizes.JointSizes.{JointSizes}
 use Rattle.dp_tables.specs.Sizes.{AreSizesOf}
 
 -- a product that is counted up to the limit and kept is the size of the axis
-pub size_is : (n : ℕ) (lists : List GivenList) → n ≡ product_past 256 1 (map size_of lists) → n ≤ 256 → n ≡ axis_size lists
+pub size_is : (n : ℕ) (lists : List GivenList) → n ≡ product_past 256 1 (map size_of lists) → n ≤ 256
+    → n ≡ axis_size lists
 size_is n lists e h = e ∙ counted_product 256 (map size_of lists) (subst (λ k. k ≤ 256) e h)
 
 -- the scales of a text, each from what it is computed from
@@ -27,7 +28,8 @@ pub record AreScalesOf (text : Text) (sizes : JointSizes) (s : Scales) : Type 0 
   pub discount : s.discount ≡ 10 ^ text.header.discount.digits
   pub gain : s.gain ≡ unsigned_abs text.header.discount.units
 
-pub scales_are : (text : Text) (sizes : JointSizes) (s : Scales) → AreSizesOf text sizes → AreScalesOf text sizes s → s ≡ scales_of text
+pub scales_are : (text : Text) (sizes : JointSizes) (s : Scales) → AreSizesOf text sizes → AreScalesOf text sizes s
+    → s ≡ scales_of text
 unfolding scales_of
 scales_are text sizes s of is =
     let start = is.start ∙ ap (start_scale text.header.start) of.states in

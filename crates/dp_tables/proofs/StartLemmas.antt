@@ -33,7 +33,8 @@ start_by_chances text said = chance_start text.header.start (text_is said.0 text
 pub some_states : (text : Text) (n : ℕ) → IsSaid text → n ≡ states_in text → 0 < n
 some_states text n said e = let some = (text_is said.0 text said.1).header.states.some in omega arith
 
-pub some_start : (text : Text) (scale : ℕ) → IsSaid text → passed_limit text ≡ None → scale ≡ (scales_of text).start → 0 < scale
+pub some_start : (text : Text) (scale : ℕ) → IsSaid text → passed_limit text ≡ None → scale ≡ (scales_of text).start
+    → 0 < scale
 some_start text scale said within e =
     subst (λ n. 0 < n) (sym e) (scales_are text (text_is said.0 text said.1) (small text within)).start
 
@@ -78,14 +79,16 @@ one_row scale len given row c s l at e = record {
         no_place k = cc
     never (suc i) d h f = absurd (omega arith)
 
-start_is_row : (text : Text) (scale states : ℕ) (given : List ℕ) → scale ≡ (scales_of text).start → states ≡ states_in text
+start_is_row : (text : Text) (scale states : ℕ) (given : List ℕ) → scale ≡ (scales_of text).start
+    → states ≡ states_in text
     → given ≡ (start_row text).cells → AreRows scale 1 states given (start_row text ∷ [])
 unfolding start_row
 start_is_row text scale states given e f g =
     one_row scale states given (start_row text) (sym g) (sym e)
     (let size = start_size text states given f g in omega arith) (start_at text.header.start) refl
 
-pub start_done : (text : Text) (scale states : ℕ) (given cells : List ℕ) (repaired : ℕ) → scale ≡ (scales_of text).start → states ≡ states_in text
+pub start_done : (text : Text) (scale states : ℕ) (given cells : List ℕ) (repaired : ℕ)
+    → scale ≡ (scales_of text).start → states ≡ states_in text
     → given ≡ (start_row text).cells → RepairsRows scale 1 states given cells (Ok repaired) → (end : ℕ)
     → repair_all end (start_row text ∷ []) ≡ Ok (record { cells = cells; repaired = repaired })
 start_done text scale states given cells repaired e f g is end =
@@ -95,7 +98,8 @@ start_place : (text : Text) → (start_row text).at ≡ Some (start_at text.head
 unfolding start_row
 start_place text = refl
 
-pub start_failed : (text : Text) (scale states : ℕ) (given cells : List ℕ) (r : ℕ) → scale ≡ (scales_of text).start → states ≡ states_in text
+pub start_failed : (text : Text) (scale states : ℕ) (given cells : List ℕ) (r : ℕ) → scale ≡ (scales_of text).start
+    → states ≡ states_in text
     → given ≡ (start_row text).cells → r < 1 → RepairsRows scale 1 states given cells (Err r) → (end : ℕ)
     → repair_all end (start_row text ∷ []) ≡ Err (record { at = start_at text.header.start; why = RowSum })
 start_failed text scale states given cells zero e f g h is end =
@@ -109,7 +113,8 @@ row_sum at = Err (record { at = at; why = RowSum })
 pub start_fault : (at : ℕ) (start : Start) → at ≡ start_at start → row_sum (start_at start) ≡ row_sum at
 start_fault at start e = ap row_sum (sym e)
 
-pub one_more_chance : (f : ℕ → ℕ) (cells more : List ℕ) (n x : ℕ) → cells ≡ map f (range_with_len 0 n) → x ≡ f n → more ≡ cells ++ x ∷ []
+pub one_more_chance : (f : ℕ → ℕ) (cells more : List ℕ) (n x : ℕ) → cells ≡ map f (range_with_len 0 n) → x ≡ f n
+    → more ≡ cells ++ x ∷ []
     → more ≡ map f (range_with_len 0 (n + 1))
 one_more_chance f cells more n x e h m =
     m ∙ ap (λ c. c ++ x ∷ []) e ∙ ap (λ y. map f (range_with_len 0 n) ++ y ∷ []) h ∙ sym (map-range_with_len_more f 0 n n (omega arith))

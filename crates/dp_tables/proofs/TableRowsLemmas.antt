@@ -90,7 +90,8 @@ row_parts actions (suc states) r h =
     let is = div-add-mod' r (suc states) in (below, omega arith, sym is)
 
 -- the row of a number by its joint action and its state
-pub parts_of_number : (actions states r : ℕ) → r < actions * states → parts_of (actions ∷ states ∷ []) r ≡ r / states ∷ r % states ∷ []
+pub parts_of_number : (actions states r : ℕ) → r < actions * states
+    → parts_of (actions ∷ states ∷ []) r ≡ r / states ∷ r % states ∷ []
 parts_of_number actions states r h =
     let w = row_parts actions states r h in
     ap (parts_of (actions ∷ states ∷ [])) w.2 ∙ parts_of_row actions states (r / states) (r % states) w.0 w.1
@@ -106,7 +107,8 @@ cell_of_row actions states len r j h k =
     ∙ parts_of-joint_number (actions ∷ states ∷ len ∷ []) (r / states ∷ r % states ∷ j ∷ []) (w.0, (w.1, (k, tt)))
     ∙ sym (ap (λ ps. ps ++ j ∷ []) (parts_of_number actions states r h))
   where
-    joined : (actions states len a s j : ℕ) → (a * states + s) * len + j ≡ joint_number (actions ∷ states ∷ len ∷ []) (a ∷ s ∷ j ∷ [])
+    joined : (actions states len a s j : ℕ)
+        → (a * states + s) * len + j ≡ joint_number (actions ∷ states ∷ len ∷ []) (a ∷ s ∷ j ∷ [])
     joined actions states len a s j = omega arith
 
 -- ---- all rows
@@ -160,8 +162,10 @@ row_of_cells text table scale len r h = ext_get_or 0 row part (row_len ∙ sym p
         (cell_of_row (joint_actions_in text) (states_in text) len r j h k))
 
 -- the row of a number
-pub row_of_table : (text : Text) (table : Table) (scale len r : ℕ) (d : Row) → r < joint_actions_in text * states_in text
-    → get_or (table_rows text table scale len) r d ≡ table_row scale (axes_of text.header table) (statements_for table text.statements) len
+pub row_of_table : (text : Text) (table : Table) (scale len r : ℕ) (d : Row)
+    → r < joint_actions_in text * states_in text
+    → get_or (table_rows text table scale len) r d
+    ≡ table_row scale (axes_of text.header table) (statements_for table text.statements) len
     (parts_of (joint_actions_in text ∷ states_in text ∷ []) r)
 row_of_table text table scale len r d h = get_or-map-range_with_len _ 0 (joint_actions_in text * states_in text) r r d h (omega arith)
 
@@ -190,14 +194,16 @@ at_of_row : (scale : ℕ) (axes : List Axis) (statements : List Statement) (len 
 unfolding table_row
 at_of_row scale axes statements len row = refl
 
-rows_by_count : (text : Text) (table : Table) (scale len count : ℕ) (given : List ℕ) → count ≡ joint_actions_in text * states_in text
+rows_by_count : (text : Text) (table : Table) (scale len count : ℕ) (given : List ℕ)
+    → count ≡ joint_actions_in text * states_in text
     → given ≡ given_cells text table scale len → AreRows scale count len given (table_rows text table scale len)
 rows_by_count text table scale len count given e g =
     subst (λ n. AreRows scale n len given (table_rows text table scale len)) (sym e)
     (subst (λ cells. AreRows scale (joint_actions_in text * states_in text) len cells (table_rows text table scale len)) (sym g)
     (rows_of_table text table scale len))
 
-pub rows_fit : (text : Text) (table : Table) (scale len count : ℕ) (given : List ℕ) → count ≡ joint_actions_in text * states_in text
+pub rows_fit : (text : Text) (table : Table) (scale len count : ℕ) (given : List ℕ)
+    → count ≡ joint_actions_in text * states_in text
     → given ≡ given_cells text table scale len → count * len ≡ length given
 rows_fit text table scale len count given e g =
     ap (λ n. n * len) e ∙ sym (ap length g ∙ length-map-range_with_len _ 0 (joint_actions_in text * states_in text * len))
@@ -230,20 +236,25 @@ both_sizes text actions states e f = ap (λ n. n * states) e ∙ ap (λ n. joint
 text_scales : (text : Text) → IsSaid text → passed_limit text ≡ None → AreScales (scales_of text)
 text_scales text said within = scales_are text (text_is said.0 text said.1) (small text within)
 
-pub some_trans : (text : Text) (scale : ℕ) → IsSaid text → passed_limit text ≡ None → scale ≡ (scales_of text).trans → 0 < scale
+pub some_trans : (text : Text) (scale : ℕ) → IsSaid text → passed_limit text ≡ None → scale ≡ (scales_of text).trans
+    → 0 < scale
 some_trans text scale said within e = subst (λ n. 0 < n) (sym e) (text_scales text said within).trans
 
-pub some_obs : (text : Text) (scale : ℕ) → IsSaid text → passed_limit text ≡ None → scale ≡ (scales_of text).obs → 0 < scale
+pub some_obs : (text : Text) (scale : ℕ) → IsSaid text → passed_limit text ≡ None → scale ≡ (scales_of text).obs
+    → 0 < scale
 some_obs text scale said within e = subst (λ n. 0 < n) (sym e) (text_scales text said within).obs
 
-pub trans_repaired : (text : Text) (scale len end : ℕ) (cells : List ℕ) (r : Result ℕ Fault) → scale ≡ (scales_of text).trans
-    → len ≡ states_in text → Repairs (repair_all end (table_rows text Trans scale len)) cells r → Repairs (repair_all end (trans_rows text)) cells r
+pub trans_repaired : (text : Text) (scale len end : ℕ) (cells : List ℕ) (r : Result ℕ Fault)
+    → scale ≡ (scales_of text).trans
+    → len ≡ states_in text → Repairs (repair_all end (table_rows text Trans scale len)) cells r
+    → Repairs (repair_all end (trans_rows text)) cells r
 unfolding trans_rows
 trans_repaired text scale len end cells r e f is =
     subst (λ n. Repairs (repair_all end (table_rows text Trans n (states_in text))) cells r) e
     (subst (λ n. Repairs (repair_all end (table_rows text Trans scale n)) cells r) f is)
 
-pub obs_repaired : (text : Text) (scale len end : ℕ) (cells : List ℕ) (r : Result ℕ Fault) → scale ≡ (scales_of text).obs
+pub obs_repaired : (text : Text) (scale len end : ℕ) (cells : List ℕ) (r : Result ℕ Fault)
+    → scale ≡ (scales_of text).obs
     → len ≡ joint_observations_in text → Repairs (repair_all end (table_rows text Obs scale len)) cells r
     → Repairs (repair_all end (obs_rows text)) cells r
 unfolding obs_rows

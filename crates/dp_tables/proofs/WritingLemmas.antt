@@ -23,7 +23,8 @@ AreWrittenUpTo {T} step first i sizes parts block before after =
 
 -- ---- a part of a list that is replaced
 
-put_below : {T : Type 0} (a k : ℕ) (xs ys : List T) (j : ℕ) (d : T) → j < a → a ≤ length xs → get_or (put_mid a k xs ys) j d ≡ get_or xs j d
+put_below : {T : Type 0} (a k : ℕ) (xs ys : List T) (j : ℕ) (d : T) → j < a → a ≤ length xs
+    → get_or (put_mid a k xs ys) j d ≡ get_or xs j d
 put_below a k xs ys j d h fits =
     let long = length-take-le a xs fits in
     get_or_append_left (take a xs) _ d j (omega arith) ∙ get_or-take a xs j d h
@@ -74,7 +75,8 @@ none_written step first sizes parts block before k d h =
         (nat_le first q)
 
 pub one_more : {T : Type 0} (step first i : ℕ) (sizes : List ℕ) (parts : List Part) (block before now new : List T)
-    → 0 < step → first ≤ i → length now ≡ length before → i * step + step ≤ length before → length new ≡ step → length block ∣ step
+    → 0 < step → first ≤ i → length now ≡ length before → i * step + step ≤ length before → length new ≡ step
+    → length block ∣ step
     → AreWrittenUpTo step first i sizes parts block before now
     → ((k : ℕ) (d : T) → k < step → get_or new k d ≡ cond (is_covered sizes parts k) (get_or block (k % length block) d)
     (get_or now (i * step + k) d))
@@ -165,7 +167,8 @@ pub step_of : (sizes : List ℕ) (parts : List Part) (d : Part) → 1 ≤ length
 step_of sizes parts d some_size some_part = record { sizes_are = first_rest sizes 0 some_size; parts_are = first_rest parts d some_part }
 
 -- how long a stretch is
-pub step_is : (sizes : List ℕ) (size : ℕ) (inner : List ℕ) (count : ℕ) → sizes ≡ size ∷ inner → count ≡ product sizes → 0 < product sizes
+pub step_is : (sizes : List ℕ) (size : ℕ) (inner : List ℕ) (count : ℕ) → sizes ≡ size ∷ inner → count ≡ product sizes
+    → 0 < product sizes
     → count / size ≡ product inner
 step_is sizes size inner count e long some = quotient size (product inner) count (long ∙ ap product e) (subst (λ ns. 0 < product ns) e some)
   where
@@ -175,19 +178,23 @@ step_is sizes size inner count e long some = quotient size (product inner) count
         let turned : c ≡ p * n + 0 = f ∙ mul_comm n p ∙ omega arith in
         ap (λ x. x / n) turned ∙ div-mul-add p n 0 above
 
-pub positive_step : (sizes : List ℕ) (size : ℕ) (inner : List ℕ) (step : ℕ) → sizes ≡ size ∷ inner → 0 < product sizes → step
+pub positive_step : (sizes : List ℕ) (size : ℕ) (inner : List ℕ) (step : ℕ) → sizes ≡ size ∷ inner → 0 < product sizes
+    → step
     ≡ product inner
     → 0 < step
 positive_step sizes size inner step e some f =
     subst (λ n. 0 < n) (sym f) (positive_right size (product inner) 0 (subst (λ ns. 0 < product ns) e some))
 
-pub long_step : (sizes : List ℕ) (size : ℕ) (inner : List ℕ) (step : ℕ) {count : ℕ} → sizes ≡ size ∷ inner → count ≡ product sizes
+pub long_step : (sizes : List ℕ) (size : ℕ) (inner : List ℕ) (step : ℕ) {count : ℕ} → sizes ≡ size ∷ inner
+    → count ≡ product sizes
     → step ≡ product inner → count ≡ size * step
 long_step sizes size inner step e long f = long ∙ ap product e ∙ ap (λ n. size * n) (sym f)
 
 -- the size of a block, which is 1 or that of the cells that the parts leave, divides a stretch
-pub block_divides : (sizes : List ℕ) (parts : List Part) (size : ℕ) (inner : List ℕ) (part : Part) (others : List Part) (long step : ℕ)
-    → IsStep sizes parts size inner part others → (long ≡ 1) ⊎ (long ≡ product (drop (length parts) sizes)) → step ≡ product inner
+pub block_divides : (sizes : List ℕ) (parts : List Part) (size : ℕ) (inner : List ℕ) (part : Part)
+    (others : List Part) (long step : ℕ)
+    → IsStep sizes parts size inner part others → (long ≡ 1) ⊎ (long ≡ product (drop (length parts) sizes))
+    → step ≡ product inner
     → long ∣ step
 block_divides sizes parts size inner part others long step is (inl one) e = subst (λ n. n ∣ step) (sym one) (one-dvd step)
 block_divides sizes parts size inner part others long step is (inr all) e =
@@ -197,7 +204,8 @@ block_divides sizes parts size inner part others long step is (inr all) e =
     same = all ∙ ap (λ ps. product (drop (length ps) sizes)) is.parts_are ∙ ap (λ ns. product (drop (suc (length others)) ns)) is.sizes_are
 
 -- a stretch that is written in its turn
-pub next_written : {T : Type 0} (size : ℕ) (inner : List ℕ) (others : List Part) (block before now new : List T) (step first i : ℕ)
+pub next_written : {T : Type 0} (size : ℕ) (inner : List ℕ) (others : List Part) (block before now new : List T)
+    (step first i : ℕ)
     → 0 < step → length before ≡ size * step → i < size → first ≤ i → length now ≡ length before
     → length new ≡ length (take ((i + 1) * step - i * step) (drop (i * step) now)) → length block ∣ step
     → AreWrittenUpTo step first i inner others block before now
@@ -225,12 +233,14 @@ next_written {T} size inner others block before now new step first i some long b
     as_new = ap (λ m. length (take m (drop (i * step) now))) width ∙ length-take-le step (drop (i * step) now)
         (let rest = length-drop (i * step) now in let t = times in omega arith)
 
-    held : (k : ℕ) (d : T) → k < step → get_or (take ((i + 1) * step - i * step) (drop (i * step) now)) k d ≡ get_or now (i * step + k) d
+    held : (k : ℕ) (d : T) → k < step
+        → get_or (take ((i + 1) * step - i * step) (drop (i * step) now)) k d ≡ get_or now (i * step + k) d
     held k d h = ap (λ m. get_or (take m (drop (i * step) now)) k d) width ∙ get_or-take step (drop (i * step) now) k d h
         ∙ get_or-drop (i * step) now k d
 
 -- all are written
-pub written_whole : {T : Type 0} (sizes : List ℕ) (parts : List Part) (size : ℕ) (inner : List ℕ) (part : Part) (others : List Part)
+pub written_whole : {T : Type 0} (sizes : List ℕ) (parts : List Part) (size : ℕ) (inner : List ℕ) (part : Part)
+    (others : List Part)
     (step first end : ℕ) (block before after : List T)
     → IsStep sizes parts size inner part others → step ≡ product inner → length before ≡ product sizes
     → ((q : ℕ) → q < size → allows part q ≡ (nat_le first q && nat_lt q end))
@@ -249,7 +259,8 @@ allow_more [] (n ∷ ns) = refl
 allow_more (part ∷ front) [] = refl
 allow_more (part ∷ front) (n ∷ ns) = ap (λ b. allows part n && b) (allow_more front ns)
 
-pub covered_without : (sizes : List ℕ) (front : List Part) (k : ℕ) → is_covered sizes front k ≡ is_covered sizes (front ++ Any ∷ []) k
+pub covered_without : (sizes : List ℕ) (front : List Part) (k : ℕ)
+    → is_covered sizes front k ≡ is_covered sizes (front ++ Any ∷ []) k
 covered_without sizes front k = sym (allow_more front (parts_of sizes k))
 
 pub within_without : (sizes : List ℕ) (front : List Part) → AreWithin sizes (front ++ Any ∷ []) → AreWithin sizes front

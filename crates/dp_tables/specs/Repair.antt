@@ -9,7 +9,8 @@ use Rattle.dp_meaning.specs.Rows.{Row, repair_at, repair_all}
 
 -- the row is repaired so many times, or its sum is too far from its scale, wherever that is answered
 abbrev pub RepairsRow : ℕ → List ℕ → List ℕ → Option ℕ → Type 0
-RepairsRow scale given cells (Some count) = (at : ℕ) → repair_at at scale given ≡ Ok (record { cells = cells; repaired = count })
+RepairsRow scale given cells (Some count) =
+    (at : ℕ) → repair_at at scale given ≡ Ok (record { cells = cells; repaired = count })
 RepairsRow scale given cells None = (at : ℕ) → repair_at at scale given ≡ fault RowSum at
 
 -- ---- rows in order
@@ -29,6 +30,8 @@ fault_of_row end None = record { at = end; why = MissingRow }
 -- the rows are repaired so many times, or row i is the first that cannot be
 abbrev pub RepairsRows : ℕ → ℕ → ℕ → List ℕ → List ℕ → Result ℕ ℕ → Type 0
 RepairsRows scale count len given cells (Ok repaired) =
-    (end : ℕ) (rows : List Row) → AreRows scale count len given rows → repair_all end rows ≡ Ok (record { cells = cells; repaired = repaired })
+    (end : ℕ) (rows : List Row) → AreRows scale count len given rows →
+    repair_all end rows ≡ Ok (record { cells = cells; repaired = repaired })
 RepairsRows scale count len given cells (Err i) =
-    (end : ℕ) (rows : List Row) (d : Row) → AreRows scale count len given rows → repair_all end rows ≡ Err (fault_of_row end (get_or rows i d).at)
+    (end : ℕ) (rows : List Row) (d : Row) → AreRows scale count len given rows →
+    repair_all end rows ≡ Err (fault_of_row end (get_or rows i d).at)

@@ -27,7 +27,8 @@ module _ (next : ℕ) where
   from_agent agents i lines = name_lists next (agents - i) (drop i lines)
 
   first_line : (n : ℕ) (line : List Piece) (lines : List (List Piece))
-      → name_lists next (suc n) (line ∷ lines) ≡ (name_list next line >>= λ first. name_lists next n lines >>= λ others. Ok
+      → name_lists next (suc n) (line ∷ lines)
+      ≡ (name_list next line >>= λ first. name_lists next n lines >>= λ others. Ok
       (first ∷ others))
   unfolding name_lists
   first_line n line lines = refl
@@ -37,13 +38,16 @@ module _ (next : ℕ) where
 
   -- the line of agent i, and those of the agents behind it
   at_agent : (agents i : ℕ) (lines : List (List Piece)) (line : List Piece) → i < agents → Some line ≡ slice_get lines i
-      → from_agent agents i lines ≡ (name_list next line >>= λ first. from_agent agents (i + 1) lines >>= λ others. Ok (first ∷ others))
+      → from_agent agents i lines
+      ≡ (name_list next line >>= λ first. from_agent agents (i + 1) lines >>= λ others. Ok (first ∷ others))
   at_agent agents i lines line some is =
       rw (left agents i some, drop_at i lines line is, first_line, add-one) refl
 
-  pub line_one : (all : Result (List GivenList) Fault) (lists : List GivenList) (agents i : ℕ) (lines : List (List Piece))
+  pub line_one : (all : Result (List GivenList) Fault) (lists : List GivenList) (agents i : ℕ)
+      (lines : List (List Piece))
       (line : List Piece) (list : GivenList)
-      → i < agents → Some line ≡ slice_get lines i → name_list next line ≡ Ok list → Continues all lists (from_agent agents i lines)
+      → i < agents → Some line ≡ slice_get lines i → name_list next line ≡ Ok list
+      → Continues all lists (from_agent agents i lines)
       → Continues all (lists ++ list ∷ []) (from_agent agents (i + 1) lines)
   line_one all lists agents i lines line list some is read h =
       let steps : from_agent agents i lines ≡ (from_agent agents (i + 1) lines >>= λ others. Ok (list ∷ others)) =
@@ -52,13 +56,15 @@ module _ (next : ℕ) where
       continues_one all lists list (from_agent agents (i + 1) lines)
       (subst (λ (x : Result (List GivenList) Fault). Continues all lists x) steps h)
 
-  wrong_behind : (lists : List GivenList) (meant : Result GivenList Fault) (more : GivenList → Result (List GivenList) Fault)
+  wrong_behind : (lists : List GivenList) (meant : Result GivenList Fault)
+      (more : GivenList → Result (List GivenList) Fault)
       (wrong : TextFault)
       → Reads meant (Err wrong) → Reads (behind lists (meant >>= more)) (Err wrong)
   wrong_behind lists meant more (At e) h = rw h refl
   wrong_behind lists meant more Memory h = tt
 
-  pub line_wrong : (all : Result (List GivenList) Fault) (lists : List GivenList) (agents i : ℕ) (lines : List (List Piece))
+  pub line_wrong : (all : Result (List GivenList) Fault) (lists : List GivenList) (agents i : ℕ)
+      (lines : List (List Piece))
       (line : List Piece) (wrong : TextFault)
       → i < agents → Some line ≡ slice_get lines i → Reads (name_list next line) (Err wrong)
       → Continues all lists (from_agent agents i lines)
@@ -72,8 +78,10 @@ module _ (next : ℕ) where
   unfolding name_lists
   missing n = refl
 
-  pub line_missing : (all : Result (List GivenList) Fault) (lists : List GivenList) (agents i : ℕ) (lines : List (List Piece))
-      → i < agents → None ≡ slice_get lines i → Continues all lists (from_agent agents i lines) → all ≡ fault Expected next
+  pub line_missing : (all : Result (List GivenList) Fault) (lists : List GivenList) (agents i : ℕ)
+      (lines : List (List Piece))
+      → i < agents → None ≡ slice_get lines i → Continues all lists (from_agent agents i lines)
+      → all ≡ fault Expected next
   line_missing all lists agents i lines some is h =
       let steps : from_agent agents i lines ≡ fault Expected next = rw (left agents i some, drop_past i lines is)
       (missing (agents - (i + 1))) in
@@ -90,27 +98,33 @@ module _ (next : ℕ) where
   unfolding name_lists
   too_many line lines = refl
 
-  pub lines_end : (all : Result (List GivenList) Fault) (lists : List GivenList) (agents i : ℕ) (lines : List (List Piece))
+  pub lines_end : (all : Result (List GivenList) Fault) (lists : List GivenList) (agents i : ℕ)
+      (lines : List (List Piece))
       → agents ≤ i → None ≡ slice_get lines i → Continues all lists (from_agent agents i lines) → all ≡ Ok lists
   lines_end all lists agents i lines none is h =
       let steps : from_agent agents i lines ≡ Ok [] = rw (none_left agents i none, drop_past i lines is) all_lines in
       continues_none all lists (subst (λ (x : Result (List GivenList) Fault). Continues all lists x) steps h)
 
-  one_beyond : (agents i : ℕ) (lines : List (List Piece)) (line : List Piece) → agents ≤ i → Some line ≡ slice_get lines i
+  one_beyond : (agents i : ℕ) (lines : List (List Piece)) (line : List Piece) → agents ≤ i
+      → Some line ≡ slice_get lines i
       → from_agent agents i lines ≡ ended [] line
   one_beyond agents i lines line none is = rw (none_left agents i none, drop_at i lines line is) (too_many line (drop (suc i) lines))
 
-  pub empty_line : (all : Result (List GivenList) Fault) (lists : List GivenList) (agents i : ℕ) (lines : List (List Piece))
+  pub empty_line : (all : Result (List GivenList) Fault) (lists : List GivenList) (agents i : ℕ)
+      (lines : List (List Piece))
       (line : List Piece)
-      → agents ≤ i → Some line ≡ slice_get lines i → ends line ≡ Ok tt → Continues all lists (from_agent agents i lines) → all ≡ Ok lists
+      → agents ≤ i → Some line ≡ slice_get lines i → ends line ≡ Ok tt
+      → Continues all lists (from_agent agents i lines) → all ≡ Ok lists
   empty_line all lists agents i lines line none is at_end h =
       let steps : from_agent agents i lines ≡ Ok [] = one_beyond agents i lines line none is ∙ ended_ok {A = List GivenList} [] line
       at_end in
       continues_none all lists (subst (λ (x : Result (List GivenList) Fault). Continues all lists x) steps h)
 
-  pub line_beyond : (all : Result (List GivenList) Fault) (lists : List GivenList) (agents i : ℕ) (lines : List (List Piece))
+  pub line_beyond : (all : Result (List GivenList) Fault) (lists : List GivenList) (agents i : ℕ)
+      (lines : List (List Piece))
       (line : List Piece) (e : Fault)
-      → agents ≤ i → Some line ≡ slice_get lines i → ends line ≡ Err e → Continues all lists (from_agent agents i lines) → all ≡ Err e
+      → agents ≤ i → Some line ≡ slice_get lines i → ends line ≡ Err e
+      → Continues all lists (from_agent agents i lines) → all ≡ Err e
   line_beyond all lists agents i lines line e none is goes_on h =
       let steps : from_agent agents i lines ≡ Err e = one_beyond agents i lines line none is ∙ ended_fault {A = List GivenList} [] line e
       goes_on in

@@ -32,5 +32,6 @@ pub continues_one : {A : Type 0} (all : Result (List A) Fault) (items : List A) 
 continues_one all items x rest h = record { is = h.is ∙ behind_one items x rest }
 
 -- nothing is left
-pub continues_none : {A : Type 0} (all : Result (List A) Fault) (items : List A) → Continues all items (Ok []) → all ≡ Ok items
+pub continues_none : {A : Type 0} (all : Result (List A) Fault) (items : List A) → Continues all items (Ok [])
+    → all ≡ Ok items
 continues_none all items h = h.is ∙ ap Ok (append-nil items)

@@ -42,14 +42,16 @@ left_behind line left n within shorter behind =
     ap (drop n) behind ∙ drop-drop n (length line - length left) line ∙ ap (λ k. drop k line) len
 
 module _ {axes : List Axis} {line : List Piece} {parts : List (List Part)} {left : List Piece} (h : FieldsRead axes line parts left) where
-  at_field : (field : Field) (axis : Axis) → IsFirstField field left → length parts < length axes → axis ≡ get_or axes (length parts) []
+  at_field : (field : Field) (axis : Axis) → IsFirstField field left → length parts < length axes
+      → axis ≡ get_or axes (length parts) []
       → Continues (all_of axes line) parts
       (field_parts axis field >>= λ first. all_of (drop (length parts + 1) axes) (drop (length field.pieces + 1) left) >>= λ others. Ok (first ∷ others))
   unfolding all_parts
   at_field field axis f within a =
       let here = drop_item axes (length parts) [] within in rw (ap (λ fs. fs.fields) f, here, ← a) at h.is
 
-  pub field_read : (field : Field) (axis : Axis) (of_field : List Part) → IsFirstField field left → length field.pieces < length left
+  pub field_read : (field : Field) (axis : Axis) (of_field : List Part) → IsFirstField field left
+      → length field.pieces < length left
       → length parts < length axes → axis ≡ get_or axes (length parts) [] → field_parts axis field ≡ Ok of_field
       → FieldsRead axes line (parts ++ of_field ∷ []) (drop (length field.pieces + 1) left)
   field_read field axis of_field f some within a read = record {
@@ -69,7 +71,8 @@ module _ {axes : List Axis} {line : List Piece} {parts : List (List Part)} {left
   field_fault field axis Memory f within a read = tt
 
   -- there is a field too many
-  pub too_many : (field : Field) → IsFirstField field left → length parts ≡ length axes → all_of axes line ≡ fault Expected field.colon
+  pub too_many : (field : Field) → IsFirstField field left → length parts ≡ length axes
+      → all_of axes line ≡ fault Expected field.colon
   unfolding all_parts
   too_many field f e =
       let none = drop_all (length parts) axes (omega arith) in
@@ -77,7 +80,8 @@ module _ {axes : List Axis} {line : List Piece} {parts : List (List Part)} {left
 
   -- no Colon is left
   pub fields_end : HasNoField left
-      → (all_of axes line ≡ Ok parts) × (length parts ≤ length axes) × (length line - length left ≤ length line) × ((fields_of line).rest ≡ drop (length line - length left) line)
+      → (all_of axes line ≡ Ok parts) × (length parts ≤ length axes) × (length line - length left ≤ length line)
+      × ((fields_of line).rest ≡ drop (length line - length left) line)
   unfolding all_parts
   fields_end f = (
     continues_none _ parts (rw (ap (λ fs. fs.fields) f) at h.is),

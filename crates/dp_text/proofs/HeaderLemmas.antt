@@ -59,14 +59,16 @@ module _ (end : ℕ) (entries : Entries) where
     wrong_on meant f (At e) h = rw h refl
     wrong_on meant f Memory h = tt
 
-    pub entry_wrong : (e : Entry) (wrong : TextFault) → HeaderEntry e ≡ kind_of item → Reads (with_entry e item entries) (Err wrong)
+    pub entry_wrong : (e : Entry) (wrong : TextFault) → HeaderEntry e ≡ kind_of item
+        → Reads (with_entry e item entries) (Err wrong)
         → ReadsHeader items all (Err wrong)
     entry_wrong e wrong kind one =
         let first = at_place ∙ first_item item (drop (suc place) items) (HeaderEntry e) (sym kind) in
         subst (λ (x : Result (Header × List Item) Fault). ReadsHeader items x (Err wrong)) (sym first)
         (wrong_on (with_entry e item entries) (λ more. header_of end more (drop (suc place) items)) wrong one)
 
-    pub statement_one : (table : Table) → StatementOf table ≡ kind_of item → all ≡ header_and (item_at item) entries (drop place items)
+    pub statement_one : (table : Table) → StatementOf table ≡ kind_of item
+        → all ≡ header_and (item_at item) entries (drop place items)
     statement_one table kind =
         at_place ∙ (first_item item (drop (suc place) items) (StatementOf table) (sym kind) ∙ ap (header_and (item_at item) entries)
         (sym (drop_at place items item (sym here))))
@@ -81,7 +83,8 @@ module _ (end : ℕ) (entries : Entries) where
       so_far ∙ (ap (header_of end entries) (drop_of_length-le items past) ∙ (no_more ∙ ap (header_and end entries) (sym none)))
 
 -- what is read is the same along equal meanings
-pub reads_header_along : (items : List Item) (all rest : Result (Header × List Item) Fault) (answer : Result (Header × ℕ) TextFault)
+pub reads_header_along : (items : List Item) (all rest : Result (Header × List Item) Fault)
+    (answer : Result (Header × ℕ) TextFault)
     → all ≡ rest
     → ReadsHeader items rest answer → ReadsHeader items all answer
 reads_header_along items all rest answer is h = subst (λ (x : Result (Header × List Item) Fault). ReadsHeader items x answer) (sym is) h

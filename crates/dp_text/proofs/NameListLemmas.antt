@@ -27,7 +27,8 @@ pub reads_on : {A B : Type 0} (meant : Result A Fault) (more : A → Result B Fa
 reads_on meant more (At e) h = rw h refl
 reads_on meant more Memory h = tt
 
-pub reads_along : {A : Type 0} (all rest : Result A Fault) (answer : Result A TextFault) → all ≡ rest → Reads rest answer → Reads all answer
+pub reads_along : {A : Type 0} (all rest : Result A Fault) (answer : Result A TextFault) → all ≡ rest
+    → Reads rest answer → Reads all answer
 reads_along all rest answer is h = rw is h
 
 chosen : {A B : Type 0} (a b : Bool) (e d : Fault) (x : A) (more : A → Result B Fault)
@@ -36,7 +37,8 @@ chosen true b e d x more = refl
 chosen false true e d x more = refl
 chosen false false e d x more = refl
 
-chosen_is : {A : Type 0} (a b : Bool) (e d : Fault) (x y : A) → Ok y ≡ (if a then Err e else if b then Err d else Ok x) → y ≡ x
+chosen_is : {A : Type 0} (a b : Bool) (e d : Fault) (x y : A)
+    → Ok y ≡ (if a then Err e else if b then Err d else Ok x) → y ≡ x
 chosen_is true b e d x y h = cc
 chosen_is false true e d x y h = cc
 chosen_is false false e d x y h = cc
@@ -50,12 +52,16 @@ name_first names piece pieces =
     (record { at = piece.at; why = DoubleName }) (names ++ piece.text ∷ [])
     (λ more. names_after more pieces)
 
-pub name_one : (all : Result (List (List ℕ)) Fault) (names : List (List ℕ)) (piece : Piece) (pieces rest : List Piece) (now : List (List ℕ))
-    → rest ≡ piece ∷ pieces → with_new_name names piece ≡ Ok now → all ≡ names_after names rest → all ≡ names_after now pieces
+pub name_one : (all : Result (List (List ℕ)) Fault) (names : List (List ℕ)) (piece : Piece) (pieces rest : List Piece)
+    (now : List (List ℕ))
+    → rest ≡ piece ∷ pieces → with_new_name names piece ≡ Ok now → all ≡ names_after names rest
+    → all ≡ names_after now pieces
 name_one all names piece pieces rest now is one h = h ∙ rw (is, name_first, one) refl
 
-pub name_wrong : (all : Result (List (List ℕ)) Fault) (names : List (List ℕ)) (piece : Piece) (pieces rest : List Piece) (wrong : TextFault)
-    → rest ≡ piece ∷ pieces → Reads (with_new_name names piece) (Err wrong) → all ≡ names_after names rest → Reads all (Err wrong)
+pub name_wrong : (all : Result (List (List ℕ)) Fault) (names : List (List ℕ)) (piece : Piece)
+    (pieces rest : List Piece) (wrong : TextFault)
+    → rest ≡ piece ∷ pieces → Reads (with_new_name names piece) (Err wrong) → all ≡ names_after names rest
+    → Reads all (Err wrong)
 name_wrong all names piece pieces rest wrong is one h =
     let first = with_new_name names piece in
     let steps : all ≡ (first >>= λ more. names_after more pieces) = h ∙ (ap (names_after names) is ∙ name_first names piece pieces) in

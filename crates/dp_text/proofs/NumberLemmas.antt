@@ -26,22 +26,26 @@ module _ (f : Decimal → Bool) (next : ℕ) where
 
   -- the first of some Numbers
   first_of : (left : ℕ) (piece : Piece) (pieces : List Piece) → 0 < left
-      → numbers f next left (piece ∷ pieces) ≡ (number f piece >>= λ first. numbers f next (left - 1) pieces >>= λ others. Ok
+      → numbers f next left (piece ∷ pieces)
+      ≡ (number f piece >>= λ first. numbers f next (left - 1) pieces >>= λ others. Ok
       (first ∷ others))
   unfolding numbers
   first_of zero piece pieces h = absurd (omega arith)
   first_of (suc n) piece pieces h = rw (left_one n) refl
 
-  pub numbers_one : (all : Result (List Decimal) Fault) (items : List Decimal) (left : ℕ) (piece : Piece) (pieces rest : List Piece)
+  pub numbers_one : (all : Result (List Decimal) Fault) (items : List Decimal) (left : ℕ) (piece : Piece)
+      (pieces rest : List Piece)
       (d : Decimal)
       → 0 < left → rest ≡ piece ∷ pieces → Ok d ≡ number f piece → Continues all items (numbers f next left rest)
       → Continues all (items ++ d ∷ []) (numbers f next (left - 1) pieces)
   numbers_one all items left piece pieces rest d some is read h =
       continues_one all items d (numbers f next (left - 1) pieces) (rw (is, first_of left piece pieces some, ← read) at h)
 
-  pub numbers_fault : (all : Result (List Decimal) Fault) (items : List Decimal) (left : ℕ) (piece : Piece) (pieces rest : List Piece)
+  pub numbers_fault : (all : Result (List Decimal) Fault) (items : List Decimal) (left : ℕ) (piece : Piece)
+      (pieces rest : List Piece)
       (e : Fault)
-      → 0 < left → rest ≡ piece ∷ pieces → Err e ≡ number f piece → Continues all items (numbers f next left rest) → all ≡ Err e
+      → 0 < left → rest ≡ piece ∷ pieces → Err e ≡ number f piece → Continues all items (numbers f next left rest)
+      → all ≡ Err e
   numbers_fault all items left piece pieces rest e some is read h =
       let stops : Continues all items (Err e) = rw (is, first_of left piece pieces some, ← read) at h in
       stops.is
@@ -67,7 +71,8 @@ module _ (f : Decimal → Bool) (next : ℕ) where
   numbers_end all items left rest none at_end h = continues_none all items
       (rw (last left rest none, ended_ok {A = List Decimal} [] rest at_end) at h)
 
-  pub numbers_more : (all : Result (List Decimal) Fault) (items : List Decimal) (left : ℕ) (rest : List Piece) (e : Fault)
+  pub numbers_more : (all : Result (List Decimal) Fault) (items : List Decimal) (left : ℕ) (rest : List Piece)
+      (e : Fault)
       → left ≤ 0 → ends rest ≡ Err e → Continues all items (numbers f next left rest) → all ≡ Err e
   numbers_more all items left rest e none goes_on h =
       let stops : Continues all items (Err e) = rw (last left rest none, ended_fault {A = List Decimal} [] rest e goes_on) at h in

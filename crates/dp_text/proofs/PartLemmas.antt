@@ -22,7 +22,8 @@ none_read axis field = record { is = starts (parts_in axis field field.pieces) }
 
 module _ {axis : Axis} {field : Field} {parts : List Part} {k : ℕ} (h : PartsRead axis field parts k) where
   -- at a list and a token that says something of it
-  at_token : (list : GivenList) (piece : Piece) → k < length axis → list ≡ get_or axis k list → Some piece ≡ slice_get field.pieces k
+  at_token : (list : GivenList) (piece : Piece) → k < length axis → list ≡ get_or axis k list
+      → Some piece ≡ slice_get field.pieces k
       → Continues (parts_in axis field field.pieces) parts
       (part_of list piece >>= λ first. parts_in (drop (k + 1) axis) field (drop (k + 1) field.pieces) >>= λ others. Ok (first ∷ others))
   unfolding parts_in
@@ -31,7 +32,8 @@ module _ {axis : Axis} {field : Field} {parts : List Part} {k : ℕ} (h : PartsR
       let pieces = drop_at field.pieces k piece (sym p) in rw (lists, ← l, pieces) at h.is
 
   pub part_read : (list : GivenList) (piece : Piece) (part : Part) → k < length axis → list ≡ get_or axis k list
-      → Some piece ≡ slice_get field.pieces k → Ok part ≡ part_of list piece → PartsRead axis field (parts ++ part ∷ []) (k + 1)
+      → Some piece ≡ slice_get field.pieces k → Ok part ≡ part_of list piece
+      → PartsRead axis field (parts ++ part ∷ []) (k + 1)
   part_read list piece part within l p read = record {
     is = continues_one _ parts part _ (rw (← read) at (at_token list piece within l p));
   }

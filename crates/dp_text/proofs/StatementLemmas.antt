@@ -32,10 +32,12 @@ module _ (header : Header) (table : Table) (item : Item) where
   wrong_field (At e) h = rw h refl
   wrong_field Memory h = tt
 
-  enough : (parts : List (List Part)) → least_fields table ≤ length parts → nat_lt (length parts) (least_fields table) ≡ false
+  enough : (parts : List (List Part)) → least_fields table ≤ length parts
+      → nat_lt (length parts) (least_fields table) ≡ false
   enough parts h = grind (arith, nat_tests)
 
-  few : (parts : List (List Part)) → length parts < least_fields table → nat_lt (length parts) (least_fields table) ≡ true
+  few : (parts : List (List Part)) → length parts < least_fields table
+      → nat_lt (length parts) (least_fields table) ≡ true
   few parts h = grind (arith, nat_tests)
 
   pub too_few_fields : (parts : List (List Part)) → fields_read ≡ Ok parts → length parts < least_fields table
@@ -56,7 +58,8 @@ module _ (header : Header) (table : Table) (item : Item) where
     by_value = rw (h, enough parts l, left) refl
 
     pub right_statement : (value : Value)
-        → value_of table (drop (length parts) (axes_of header table)) item.next (drop taken (value_pieces item)) ≡ Ok value
+        → value_of table (drop (length parts) (axes_of header table)) item.next (drop taken (value_pieces item))
+        ≡ Ok value
         → statement header table item ≡ Ok (record { at = item_at item; table = table; fields = parts; value = value })
     right_statement value v = by_value ∙ rw v refl
 
@@ -83,11 +86,13 @@ module _ {header : Header} {items : List Item} {first : ℕ} {statements : List 
   at_item item e = let here = drop_at items k item e in rw here at h.is
 
   pub statement_read : (item : Item) (one : Statement) → slice_get items k ≡ Some item
-      → statement_of_kind header item (kind_of item) ≡ Ok one → StatementsRead header items first (statements ++ one ∷ []) (k + 1)
+      → statement_of_kind header item (kind_of item) ≡ Ok one
+      → StatementsRead header items first (statements ++ one ∷ []) (k + 1)
   statement_read item one e read = record { is = continues_one _ statements one _ (rw read at (at_item item e)) }
 
   pub statement_fault : (item : Item) (e : TextFault) → slice_get items k ≡ Some item
-      → Reads (statement_of_kind header item (kind_of item)) (Err e) → Reads (statements_of header (drop first items)) (Err e)
+      → Reads (statement_of_kind header item (kind_of item)) (Err e)
+      → Reads (statements_of header (drop first items)) (Err e)
   statement_fault item (At e) s read =
       let stops : Continues (statements_of header (drop first items)) statements (Err e) = rw read at (at_item item s) in stops.is
   statement_fault item Memory s read = tt

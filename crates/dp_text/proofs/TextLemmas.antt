@@ -30,13 +30,15 @@ unfolding text_of
 by_steps bytes = refl
 
 -- a text without tokens
-pub has_no_tokens : (bytes : List ℕ) (fault : TokenFault) → IsFirstBadByte bytes fault → Reads (text_of bytes) (Err (fault_of_lexer fault))
+pub has_no_tokens : (bytes : List ℕ) (fault : TokenFault) → IsFirstBadByte bytes fault
+    → Reads (text_of bytes) (Err (fault_of_lexer fault))
 has_no_tokens bytes (lexer.BadByte at) named =
     by_steps bytes ∙ ap (λ (r : Result (List Token) ℕ). steps bytes (pieces_of_tokens bytes r)) named.0
 has_no_tokens bytes lexer.Memory named = tt
 
 -- a text with these tokens
 pub by_items : (bytes : List ℕ) (tokens : List Token) → tokens_of bytes ≡ Ok tokens
-    → text_of bytes ≡ text_of_items (with_end (length bytes) (items_of_pieces (length bytes) (map (piece_of bytes) tokens)))
+    → text_of bytes
+    ≡ text_of_items (with_end (length bytes) (items_of_pieces (length bytes) (map (piece_of bytes) tokens)))
 unfolding text_of_items
 by_items bytes tokens e = by_steps bytes ∙ ap (λ (r : Result (List Token) ℕ). steps bytes (pieces_of_tokens bytes r)) e

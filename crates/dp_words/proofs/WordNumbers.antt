@@ -58,7 +58,8 @@ and_third false b c x = refl
 and_third true true true x = cc
 
 -- what is written where the three tests answer so
-written : (least : ℕ) (word : List ℕ) (b : Bool) → (is_number word && nat_le least (digits_value 10 word) && nat_le (digits_value 10 word) (2 ^ 32 - 1)) ≡ b
+written : (least : ℕ) (word : List ℕ) (b : Bool)
+    → (is_number word && nat_le least (digits_value 10 word) && nat_le (digits_value 10 word) (2 ^ 32 - 1)) ≡ b
     → number_of least (2 ^ 32 - 1) word ≡ (if b then Some (digits_value 10 word) else None)
 written least word b e = ap (λ t. if t then Some (digits_value 10 word) else None) e
 
@@ -74,13 +75,15 @@ abbrev Fits32 : List ℕ → Type 0
 Fits32 word = IsNumeral 10 (without_leading_plus word) × (digits_value 10 (without_leading_plus word) < 2 ^ 32)
 
 -- a number that `parse` reads
-pub number_read : (least n : ℕ) (word : List ℕ) → is_number word ≡ true → Fits32 word × (n ≡ digits_value 10 (without_leading_plus word))
+pub number_read : (least n : ℕ) (word : List ℕ) → is_number word ≡ true
+    → Fits32 word × (n ≡ digits_value 10 (without_leading_plus word))
     → (n ≡ digits_value 10 word) × (digits_value 10 word < 2 ^ 32)
 number_read least n word is read =
     let same = (numeral word (is_index_of word is)).1 in
     (read.1 ∙ ap (digits_value 10) same, subst (λ w. digits_value 10 w < 2 ^ 32) same read.0.1)
 
-pub number_ok : (least n : ℕ) (word : List ℕ) → is_number word ≡ true → Fits32 word × (n ≡ digits_value 10 (without_leading_plus word)) → least ≤ n
+pub number_ok : (least n : ℕ) (word : List ℕ) → is_number word ≡ true
+    → Fits32 word × (n ≡ digits_value 10 (without_leading_plus word)) → least ≤ n
     → Some n ≡ number_of least (2 ^ 32 - 1) word
 number_ok least n word is read enough =
     let value = number_read least n word is read in
@@ -88,7 +91,8 @@ number_ok least n word is read enough =
     let below : digits_value 10 word ≤ 2 ^ 32 - 1 = omega arith in
     ap Some value.0 ∙ sym (written least word true (and_true _ _ _ is (le_true _ _ above) (le_true _ _ below)))
 
-pub number_low : (least n : ℕ) (word : List ℕ) → is_number word ≡ true → Fits32 word × (n ≡ digits_value 10 (without_leading_plus word)) → n < least
+pub number_low : (least n : ℕ) (word : List ℕ) → is_number word ≡ true
+    → Fits32 word × (n ≡ digits_value 10 (without_leading_plus word)) → n < least
     → None ≡ number_of least (2 ^ 32 - 1) word
 number_low least n word is read few =
     let value = number_read least n word is read in

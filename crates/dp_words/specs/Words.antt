@@ -44,7 +44,8 @@ plan_over model None = None
 
 -- the job of the words, where they ask for one
 abbrev pub job_of : List (List ℕ) → Option Job
-job_of (command ∷ model ∷ option ∷ horizon ∷ []) = if is_plan command model option then plan_over model (horizon_of horizon) else None
+job_of (command ∷ model ∷ option ∷ horizon ∷ []) =
+    if is_plan command model option then plan_over model (horizon_of horizon) else None
 job_of _ = None
 
 -- The words were read as that job, or as a fault of usage where there is none, or memory ran out.

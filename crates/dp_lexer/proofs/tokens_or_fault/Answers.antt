@@ -14,7 +14,8 @@ returns-in-Bad-clause-first_bad_byte c =
     (bad, sym (first_bad_byte_is_named c.args.bytes.now) ∙ ap result_err bad)
 
 -- what an iteration learns
-piece : (c : After-kind_of) → IsPiece c.args.bytes.now c.loop-at.at c.more_of.result c.class_of-class.result c.kind_of.result
+piece : (c : After-kind_of)
+    → IsPiece c.args.bytes.now c.loop-at.at c.more_of.result c.class_of-class.result c.kind_of.result
 piece c = record {
   inside = c.loop-at-test.true;
   class_is = c.class_of-class.ensures;

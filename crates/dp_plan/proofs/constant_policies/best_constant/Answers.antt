@@ -10,10 +10,12 @@ use Rattle.dp_plan.proofs.constant_policies.best_constant.Goals.{then-value-best
 use Rattle.dp_plan.proofs.constant_policies.best_constant.Goals as goal
 
 -- the value of the joint action, and the greatest so far
-value : (c : goal.Joined-value-best) → to_z w128 (of_z w128 c.constant_value-value.result) ≡ constant_value c.args.model.now.model c.loop-action.action
+value : (c : goal.Joined-value-best)
+    → to_z w128 (of_z w128 c.constant_value-value.result) ≡ constant_value c.args.model.now.model c.loop-action.action
 value c = to_z-of_z w128 c.constant_value-value.result (search rules) ∙ c.constant_value-value.ensures
 
-so_far : (c : goal.Joined-value-best) → to_z w128 (of_z w128 c.loop-action.best.value) ≡ constant_value c.args.model.now.model c.loop-action.best.action
+so_far : (c : goal.Joined-value-best)
+    → to_z w128 (of_z w128 c.loop-action.best.value) ≡ constant_value c.args.model.now.model c.loop-action.best.action
 so_far c =
     let m : Model = c.args.model.now.model in
     let before = c.loop-action.invariant.first.below in

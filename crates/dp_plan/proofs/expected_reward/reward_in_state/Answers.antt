@@ -8,7 +8,9 @@ use Rattle.dp_plan.proofs.Rooms.{state_room}
 use Rattle.dp_plan.proofs.WeighedSums.{next_fits, next_sum, read_back, term_fits}
 use Rattle.dp_plan.proofs.expected_reward.reward_in_state.Goals as goal
 
-number : (c : goal.After-weighed-total) → to_z w128 (of_z w128 c.reward_on_arrival.result) ≡ reward_on_arrival c.args.model.now.model c.args.a c.args.s c.loop-t.t
+number : (c : goal.After-weighed-total)
+    → to_z w128 (of_z w128 c.reward_on_arrival.result)
+      ≡ reward_on_arrival c.args.model.now.model c.args.a c.args.s c.loop-t.t
 number c = to_z-of_z w128 c.reward_on_arrival.result (search rules) ∙ c.reward_on_arrival.ensures
 
 below : (c : goal.After-weighed-total) → c.loop-t.t < c.args.model.now.model.states

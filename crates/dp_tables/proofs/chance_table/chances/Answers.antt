@@ -20,13 +20,15 @@ write_chances-requires-clause-some_len c =
     let some = some_row c.args.text.now c.args.table c.requires.said in let e = c.row_len-len.ensures.is in omega arith
 
 -- the statement is one of the table's
-is_statement : (c : goal.After-deref) → IsChanceStatement c.args.table (axes_of c.args.text.now.header c.args.table) c.statement-item.result
+is_statement : (c : goal.After-deref)
+    → IsChanceStatement c.args.table (axes_of c.args.text.now.header c.args.table) c.statement-item.result
 is_statement c = chance_statement c.args.text.now c.args.table c.as_slice-statement-items.result.now c.loop-statement.statement-index
     c.statement-item.result c.requires.said c.requires.table c.as_slice-statement-items.ensures c.loop-statement-test.true
     c.statement-item.is
     (sym c.if-is_same.ensures)
 
-is_writable : (c : goal.After-deref) → IsWritable c.args.scale c.row_len-len.result c.deref.result.now c.statement-item.result
+is_writable : (c : goal.After-deref)
+    → IsWritable c.args.scale c.row_len-len.result c.deref.result.now c.statement-item.result
 is_writable c = writable c.args.scale _ _ c.row_len-len.result c.args.table (axes_of c.args.text.now.header c.args.table)
     c.statement-item.result
     c.deref.result.now (table_over_len c.args.text.now c.args.table c.row_len-len.result c.requires.said c.requires.table

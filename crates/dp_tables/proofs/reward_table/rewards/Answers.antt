@@ -16,7 +16,8 @@ is_statement c = reward_statement c.args.text.now c.as_slice-statement-items.res
     c.statement-item.result c.requires.said c.as_slice-statement-items.ensures c.loop-statement-test.true c.statement-item.is
     (sym c.if-is_same.ensures)
 
-is_writable : (c : goal.After-deref) → IsWritable c.args.text.now.header.cost c.args.scale c.deref.result.now c.statement-item.result
+is_writable : (c : goal.After-deref)
+    → IsWritable c.args.text.now.header.cost c.args.scale c.deref.result.now c.statement-item.result
 is_writable c = writable c.args.text.now c.args.scale c.statement-item.result c.deref.result.now c.requires.said (is_statement c)
     (c.deref.ensures.value ∙ c.in_ok-sizes.ensures)
 

@@ -12,15 +12,18 @@ pub returns-in-None : goal.returns-in-None
 returns-in-None c = rw c.fault.ensures (no_value c.args.table _ c.args.next c.args.pieces.now c.in-None.ensures)
 
 -- how many axes are left
-left : (c : After-is_uniform) → c.axis_count.result - c.args.fields ≡ length (drop c.args.fields (axes_of c.args.header.now c.args.table))
+left : (c : After-is_uniform)
+    → c.axis_count.result - c.args.fields ≡ length (drop c.args.fields (axes_of c.args.header.now c.args.table))
 left c = let count = c.axis_count.ensures.is c.args.header.now in omega (arith, length-drop {A = Axis})
 
 uniform : (c : After-is_uniform)
-    → (allows_uniform c.args.table (drop c.args.fields (axes_of c.args.header.now c.args.table)) && says (codes "uniform") c.in-Some.parts.0) ≡ c.is_uniform.result
+    → (allows_uniform c.args.table (drop c.args.fields (axes_of c.args.header.now c.args.table)) && says (codes "uniform") c.in-Some.parts.0)
+    ≡ c.is_uniform.result
 uniform c = uniform_test c.args.table _ _ _ _ (left c) c.is_uniform.ensures
 
 identity : (c : After-is_identity)
-    → (allows_identity c.args.table (drop c.args.fields (axes_of c.args.header.now c.args.table)) && says (codes "identity") c.in-Some.parts.0) ≡ c.is_identity.result
+    → (allows_identity c.args.table (drop c.args.fields (axes_of c.args.header.now c.args.table)) && says (codes "identity") c.in-Some.parts.0)
+    ≡ c.is_identity.result
 identity c = identity_test c.args.table _ _ _ _ (left (goal.at.After-is_identity c).After-is_uniform) c.is_identity.ensures
 
 pub returns-then-is_uniform : goal.returns-then-is_uniform
