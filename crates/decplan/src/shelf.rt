@@ -52,7 +52,8 @@ fn read_up_to<F: Read>(alloc: Global, file: &mut F, limit: u64) -> Result<Vec<u8
     ensures most { IfOk result (λ bytes. vec_len bytes ≤ limit) }
 
     // All that a reader has, where it is known what it has and that is within the limit.
-    ensures given { IfOk result (λ bytes. IfSome (F.remaining file.old) (λ left. bytes.items ≡ take limit left)) }
+    ensures given { IfOk result
+        (λ bytes. IfSome (F.remaining file.old) (λ left. bytes.items ≡ take limit left)) }
 {
     let mut bytes = Vec::new(alloc);
     let mut piece = [0u8; PIECE];

@@ -36,7 +36,8 @@ impl<W: Write> HostSink<W> {
 // Writes all the bytes, and sends them on.
 fn write_whole<W: Write>(out: &mut W, bytes: &[u8]) -> Result<(), SinkFailed>
     ensures ok { OnOk result (Appends (W.contents out.old) (W.contents out.new) bytes.now) }
-    ensures err { OnErr result ((rest : List ℕ) × WritesAllBut (W.contents out.old) (W.contents out.new) bytes.now rest) }
+    ensures err { OnErr result
+        ((rest : List ℕ) × WritesAllBut (W.contents out.old) (W.contents out.new) bytes.now rest) }
 {
     let mut rest = bytes;
     while !rest.is_empty() {
@@ -64,7 +65,8 @@ impl<W: Write> Sink for HostSink<W> {
 
         // What is written, where it is known what the writer holds.
         ensures ok { OnOk result (Appends (W.contents self.old.out) (W.contents self.new.out) bytes.now) }
-        ensures err { OnErr result ((rest : List ℕ) × WritesAllBut (W.contents self.old.out) (W.contents self.new.out) bytes.now rest) }
+        ensures err { OnErr result
+            ((rest : List ℕ) × WritesAllBut (W.contents self.old.out) (W.contents self.new.out) bytes.now rest) }
     {
         self.puts += 1;
         self.offered += bytes.len() as u128;

@@ -1,4 +1,7 @@
-ghost use Rattle.dp_laws.specs.ArithmeticLaws.{ExactArithmeticIsSound, OutwardArithmeticIsSound, ArithmeticIsSound, ExactArithmeticGivesTheNumbers, OutwardArithmeticEnclosesTheNumbers, ArithmeticEnclosesTheNumbers, RecursionGivesForwardWorth};
+ghost use Rattle.dp_laws.specs.ArithmeticLaws.{ExactArithmeticIsSound, OutwardArithmeticIsSound};
+ghost use Rattle.dp_laws.specs.ArithmeticLaws.{ArithmeticIsSound, ExactArithmeticGivesTheNumbers};
+ghost use Rattle.dp_laws.specs.ArithmeticLaws.{OutwardArithmeticEnclosesTheNumbers};
+ghost use Rattle.dp_laws.specs.ArithmeticLaws.{ArithmeticEnclosesTheNumbers, RecursionGivesForwardWorth};
 
 /// Each operation of the exact arithmetic gives the true number.
 #[tactic(auto, using(crate::proofs::ExactArithmetic::exact_sound))]

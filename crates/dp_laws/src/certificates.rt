@@ -1,4 +1,5 @@
-ghost use Rattle.dp_laws.specs.CertificateLaws.{ValidCertificatesHold, EndsAreInOrder, LowerEndIsTheValue, ClosedCertificatesAreOptimal};
+ghost use Rattle.dp_laws.specs.CertificateLaws.{ValidCertificatesHold, EndsAreInOrder, LowerEndIsTheValue};
+ghost use Rattle.dp_laws.specs.CertificateLaws.{ClosedCertificatesAreOptimal};
 
 /// The true value of a valid certificate's policy lies in its interval, and no joint policy is
 /// worth more than its upper end, in both modes and with merges.

@@ -1,4 +1,5 @@
-ghost use Rattle.dp_laws.specs.ClassCountLaws.{ClassesAreAtMostOwnHistories, JointClassesAreAtMostJointHistories};
+ghost use Rattle.dp_laws.specs.ClassCountLaws.{ClassesAreAtMostOwnHistories};
+ghost use Rattle.dp_laws.specs.ClassCountLaws.{JointClassesAreAtMostJointHistories};
 
 /// An agent of a well-formed front has at most one class for each own history of the stage.
 pub fn classes_are_at_most_own_histories()

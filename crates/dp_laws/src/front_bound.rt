@@ -1,4 +1,6 @@
-ghost use Rattle.dp_laws.specs.FrontBoundLaws.{AdvancingNeverRaisesBound, ChoiceNeverRaisesBound, ChoosingNeverRaisesBound, MergingNeverRaisesBound, NoKeepingPolicyAboveBound};
+ghost use Rattle.dp_laws.specs.FrontBoundLaws.{AdvancingNeverRaisesBound, ChoiceNeverRaisesBound};
+ghost use Rattle.dp_laws.specs.FrontBoundLaws.{ChoosingNeverRaisesBound, MergingNeverRaisesBound};
+ghost use Rattle.dp_laws.specs.FrontBoundLaws.{NoKeepingPolicyAboveBound};
 
 /// No policy that keeps a front is worth more than the front's bound, with any look.
 #[tactic(auto, using(crate::proofs::KeptBound::keeper_under_bound))]

@@ -1,4 +1,7 @@
-ghost use Rattle.dp_laws.specs.FrontStepLaws.{AdvancingKeepsWellFormed, ChoosingKeepsWellFormed, FrontAfterChoiceIsWellFormed, KeepingPolicyAdvances, KeepingPolicyGoesOn, KeepingPolicyMakesChoice, MergingKeepsWellFormed};
+ghost use Rattle.dp_laws.specs.FrontStepLaws.{AdvancingKeepsWellFormed, ChoosingKeepsWellFormed};
+ghost use Rattle.dp_laws.specs.FrontStepLaws.{FrontAfterChoiceIsWellFormed, KeepingPolicyAdvances};
+ghost use Rattle.dp_laws.specs.FrontStepLaws.{KeepingPolicyGoesOn, KeepingPolicyMakesChoice};
+ghost use Rattle.dp_laws.specs.FrontStepLaws.{MergingKeepsWellFormed};
 
 /// A well-formed front stays so where an unassigned class is given an action of its agent.
 #[tactic(auto, using(crate::proofs::WellFormedSteps::chosen_is_front))]

@@ -1,4 +1,5 @@
-ghost use Rattle.dp_laws.specs.FullFrontLaws.{FullFrontEarnsTheValue, FullFrontHasOnePolicy, FullPolicyKeepsItsFront};
+ghost use Rattle.dp_laws.specs.FullFrontLaws.{FullFrontEarnsTheValue, FullFrontHasOnePolicy};
+ghost use Rattle.dp_laws.specs.FullFrontLaws.{FullPolicyKeepsItsFront};
 
 /// What a well-formed full front fixes is a joint policy, and keeps the front.
 pub fn full_policy_keeps_its_front()

@@ -1,4 +1,5 @@
-ghost use Rattle.dp_laws.specs.MergingLaws.{MergingLosesNothing, KeepingTheMergedKeepsTheFront, EmptyClassesAreEquivalent};
+ghost use Rattle.dp_laws.specs.MergingLaws.{MergingLosesNothing, KeepingTheMergedKeepsTheFront};
+ghost use Rattle.dp_laws.specs.MergingLaws.{EmptyClassesAreEquivalent};
 
 /// Where two equivalent classes without an action are merged, each joint policy that keeps the
 /// front has one that keeps the merged front and is worth at least as much.

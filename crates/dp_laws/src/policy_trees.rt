@@ -1,4 +1,5 @@
-ghost use Rattle.dp_laws.specs.TreeLaws.{ActionsAreOfTheAgent, TreeOfAnyActionsExists, TreesWithEqualActionsAreEqual};
+ghost use Rattle.dp_laws.specs.TreeLaws.{ActionsAreOfTheAgent, TreeOfAnyActionsExists};
+ghost use Rattle.dp_laws.specs.TreeLaws.{TreesWithEqualActionsAreEqual};
 
 /// A tree of r steps does an action of its agent after each own history shorter than r.
 #[tactic(auto, using(crate::proofs::TreeActions::action_below))]

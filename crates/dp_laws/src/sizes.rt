@@ -1,4 +1,7 @@
-ghost use Rattle.dp_laws.specs.SizeLaws.{ModeAllowsPushes, ModeAllowsRewards, ModeAllowsTable, ModeAllowsLookAhead, HistoryWeightsAreWithinBound, ModeAllowsEarnings, ModeAllowsWorth, ModeAllowsClassWeights, ModeAllowsBounds, ModeAllowsAdvances};
+ghost use Rattle.dp_laws.specs.SizeLaws.{ModeAllowsPushes, ModeAllowsRewards, ModeAllowsTable};
+ghost use Rattle.dp_laws.specs.SizeLaws.{ModeAllowsLookAhead, HistoryWeightsAreWithinBound};
+ghost use Rattle.dp_laws.specs.SizeLaws.{ModeAllowsEarnings, ModeAllowsWorth, ModeAllowsClassWeights};
+ghost use Rattle.dp_laws.specs.SizeLaws.{ModeAllowsBounds, ModeAllowsAdvances};
 
 /// In either mode the weights of the start, and from weights within the sum bound those of the
 /// next time, are computed by allowed calls and stay within 127 bits with a sign.

@@ -1,6 +1,8 @@
 //! One spelling: policies and certificates belong to their texts one to one.
 
-ghost use Rattle.dp_laws.specs.OneSpelling.{OnePolicyPerText, OneTextPerPolicy, EachPolicyHasText, OneCertificatePerText, OneTextPerCertificate, EachCertificateHasText};
+ghost use Rattle.dp_laws.specs.OneSpelling.{OnePolicyPerText, OneTextPerPolicy, EachPolicyHasText};
+ghost use Rattle.dp_laws.specs.OneSpelling.{OneCertificatePerText, OneTextPerCertificate};
+ghost use Rattle.dp_laws.specs.OneSpelling.{EachCertificateHasText};
 
 /// For a model, no two joint policies have the same text, and each has one.
 pub fn policies_have_one_text()

@@ -1,4 +1,5 @@
-ghost use Rattle.dp_laws.specs.TreeDepthLaws.{PathsBelowAFrontAreShort, PathsBelowTheRootAreShort, PathsOfValidTreesAreShort};
+ghost use Rattle.dp_laws.specs.TreeDepthLaws.{PathsBelowAFrontAreShort, PathsBelowTheRootAreShort};
+ghost use Rattle.dp_laws.specs.TreeDepthLaws.{PathsOfValidTreesAreShort};
 
 /// On a path of a tree that fits a well-formed front there are at most as many inner nodes as own
 /// histories from the front's stage on.

@@ -41,8 +41,8 @@ pub struct Token {
 /// Why a text has no tokens.
 #[derive(Clone, Copy, Debug, PartialEq, Eq)]
 pub enum LexFault {
-    /// A byte outside comments that is neither a blank nor one of a token. Lines and columns count from 1, and
-    /// columns count bytes.
+    /// A byte outside comments that is neither a blank nor one of a token. Lines and columns count
+    /// from 1, and columns count bytes.
     BadByte { line: u32, column: u32 },
     /// Memory ran out.
     Memory,

@@ -133,7 +133,8 @@ fn mode_and_unit(model: &Model, horizon: u32) -> Fit
 // The unit of exact mode, or `None` in outward mode.
 fn exact_unit(model: &Model, horizon: u32) -> Option<u128>
     requires { 1 ≤ horizon }
-    ensures is { SomeIff result (is_exact_mode model.now.model horizon ≡ true) (value_scale model.now.model horizon) }
+    ensures is { SomeIff result
+        (is_exact_mode model.now.model horizon ≡ true) (value_scale model.now.model horizon) }
     ensures limit { IfSome result (λ unit. unit ≤ 2 ^ 126) }
 {
     model.kept();
@@ -147,7 +148,8 @@ fn exact_unit(model: &Model, horizon: u32) -> Option<u128>
 
 // What weights are counted in after so many steps, or `None` where it is more than 2^126.
 fn weight_scale(model: &Model, steps: u32) -> Option<u128>
-    ensures { let scale = model.now.model.scales.start * step_scale model.now.model ^ steps in SomeIff result (scale ≤ 2 ^ 126) scale }
+    ensures { let scale = model.now.model.scales.start * step_scale model.now.model ^ steps in
+        SomeIff result (scale ≤ 2 ^ 126) scale }
 {
     model.kept();
     let scales = model.scales();
@@ -164,7 +166,8 @@ fn weight_scale(model: &Model, steps: u32) -> Option<u128>
 // The scale of weights one step on, or `None` where it is more than 2^126.
 fn scale_after_step(scale: u128, scales: &Scales) -> Option<u128>
     requires { AreScales scales.now }
-    ensures { let next = scale * (scales.now.trans * scales.now.obs * scales.now.discount) in SomeIff result (next ≤ 2 ^ 126) next }
+    ensures { let next = scale * (scales.now.trans * scales.now.obs * scales.now.discount) in
+        SomeIff result (next ≤ 2 ^ 126) next }
 {
     let arrived = product_within(scale, u128::from(scales.trans))?;
     let seen = product_within(arrived, u128::from(scales.obs))?;

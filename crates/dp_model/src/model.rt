@@ -2,7 +2,8 @@
 ghost use Rattle.std.specs.Prelude.{◌≡◌, ◌<◌, ◌≤◌, length, slice_index};
 ghost use Rattle.dp_spec.specs.JointNumbers.{joint_number};
 ghost use Rattle.dp_spec.specs.Mode.{greatest_magnitude};
-ghost use Rattle.dp_spec.specs.Model.{IsModel, joint_actions, joint_observations, obs_at, reward_at, start_at, trans_at};
+ghost use Rattle.dp_spec.specs.Model.{IsModel, joint_actions, joint_observations, obs_at, reward_at};
+ghost use Rattle.dp_spec.specs.Model.{start_at, trans_at};
 ghost use Rattle.dp_model.specs.Parts.{AreParts, part_of};
 ghost use Rattle.dp_model.specs.Tables.{AreNamesOf, model_of};
 
@@ -32,9 +33,15 @@ impl std::marker::Model for Model {
 
     ghost Value = { NamedModel };
 
-    ghost view = { λ m. record { model = model_of (record { states = m.states; actions = m.actions; observations = m.observations }) m.scales m.cells; names = m.names } };
+    ghost view = { λ m. record {
+      model = model_of (record { states = m.states; actions = m.actions; observations = m.observations }) m.scales m.cells;
+      names = m.names;
+    } };
 
-    ghost invariant = { λ m. IsStoredModel (record { model = model_of (record { states = m.states; actions = m.actions; observations = m.observations }) m.scales m.cells; names = m.names }) m.greatest_reward };
+    ghost invariant = { λ m. IsStoredModel (record {
+      model = model_of (record { states = m.states; actions = m.actions; observations = m.observations }) m.scales m.cells;
+      names = m.names;
+    }) m.greatest_reward };
 }
 
 impl Model {

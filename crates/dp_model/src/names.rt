@@ -1,8 +1,10 @@
 //! The names of a model.
-ghost use Rattle.std.specs.Prelude.{◌≡◌, ◌<◌, ◌^◌, ◌↔◌, [], IsTrue, IsNone, not, length, slice_get, IfOk, OnOk, OnErr, replicate};
+ghost use Rattle.std.specs.Prelude.{◌≡◌, ◌<◌, ◌^◌, ◌↔◌, [], IsTrue, IsNone, not, length, slice_get, IfOk};
+ghost use Rattle.std.specs.Prelude.{OnOk, OnErr, replicate};
 ghost use Rattle.std.specs.Option.{option_copied};
 ghost use Rattle.dp_num.specs.Names.{is_name};
-ghost use Rattle.dp_model.specs.Names.{AreNames, counts_of, has_name, names_of, place_of, with_name, with_name_of};
+ghost use Rattle.dp_model.specs.Names.{AreNames, counts_of, has_name, names_of, place_of, with_name};
+ghost use Rattle.dp_model.specs.Names.{with_name_of};
 
 use crate::name_list::NameList;
 use dp_num::Memory;
@@ -28,9 +30,19 @@ impl Model for Names {
 
     ghost Value = { NameLists };
 
-    ghost view = { λ n. record { agents = n.agents; states = n.states; actions = n.actions.items; observations = n.observations.items } };
+    ghost view = { λ n. record {
+      agents = n.agents;
+      states = n.states;
+      actions = n.actions.items;
+      observations = n.observations.items;
+    } };
 
-    ghost invariant = { λ n. AreNames (record { agents = n.agents; states = n.states; actions = n.actions.items; observations = n.observations.items }) };
+    ghost invariant = { λ n. AreNames (record {
+      agents = n.agents;
+      states = n.states;
+      actions = n.actions.items;
+      observations = n.observations.items;
+    }) };
 }
 
 impl Names {
@@ -54,8 +66,18 @@ impl Names {
         actions: Vec<NameList>,
         observations: Vec<NameList>,
     ) -> Names
-        requires { AreNames (record { agents = agents; states = states; actions = actions.items; observations = observations.items }) }
-        ensures { result ≡ record { agents = agents; states = states; actions = actions.items; observations = observations.items } }
+        requires { AreNames (record {
+          agents = agents;
+          states = states;
+          actions = actions.items;
+          observations = observations.items;
+        }) }
+        ensures { result ≡ record {
+          agents = agents;
+          states = states;
+          actions = actions.items;
+          observations = observations.items;
+        } }
     {
         Names {
             agents,
@@ -101,8 +123,10 @@ impl Names {
         requires agent { i < length self.old.actions }
         requires name { IsTrue (is_name name.now) }
         requires room { length (names_of self.old.actions i) < 2 ^ 26 }
-        ensures is_new { IfOk result (λ is_new. is_new ≡ not (has_name (names_of self.old.actions i) name.now)) }
-        ensures added { OnOk result (self.new ≡ record self.old { actions = with_name_of self.old.actions i name.now }) }
+        ensures is_new { IfOk result
+            (λ is_new. is_new ≡ not (has_name (names_of self.old.actions i) name.now)) }
+        ensures added { OnOk result
+            (self.new ≡ record self.old { actions = with_name_of self.old.actions i name.now }) }
         ensures err { OnErr result (self.new ≡ self.old) }
     {
         let list = &mut self.actions[i as usize];
@@ -114,8 +138,10 @@ impl Names {
         requires agent { i < length self.old.observations }
         requires name { IsTrue (is_name name.now) }
         requires room { length (names_of self.old.observations i) < 2 ^ 26 }
-        ensures is_new { IfOk result (λ is_new. is_new ≡ not (has_name (names_of self.old.observations i) name.now)) }
-        ensures added { OnOk result (self.new ≡ record self.old { observations = with_name_of self.old.observations i name.now }) }
+        ensures is_new { IfOk result
+            (λ is_new. is_new ≡ not (has_name (names_of self.old.observations i) name.now)) }
+        ensures added { OnOk result
+            (self.new ≡ record self.old { observations = with_name_of self.old.observations i name.now }) }
         ensures err { OnErr result (self.new ≡ self.old) }
     {
         let list = &mut self.observations[i as usize];
@@ -143,7 +169,8 @@ impl Names {
     /// The name of action `a` of agent `i`, or none where its actions were given as a count.
     pub fn action(&self, i: u32, a: u32) -> Option<&str>
         requires agent { i < length self.now.actions }
-        requires action { 0 < length (names_of self.now.actions i) → a < length (names_of self.now.actions i) }
+        requires action { 0 < length (names_of self.now.actions i) →
+            a < length (names_of self.now.actions i) }
         ensures name { option_copied result ≡ slice_get (names_of self.now.actions i) a }
         ensures none { IsNone result ↔ (names_of self.now.actions i ≡ []) }
     {
@@ -155,7 +182,8 @@ impl Names {
     /// count.
     pub fn observation(&self, i: u32, o: u32) -> Option<&str>
         requires agent { i < length self.now.observations }
-        requires observation { 0 < length (names_of self.now.observations i) → o < length (names_of self.now.observations i) }
+        requires observation { 0 < length (names_of self.now.observations i) →
+            o < length (names_of self.now.observations i) }
         ensures name { option_copied result ≡ slice_get (names_of self.now.observations i) o }
         ensures none { IsNone result ↔ (names_of self.now.observations i ≡ []) }
     {

@@ -55,5 +55,6 @@ pub trait Arith {
         ensures { result ≡ (operations self.now).tail w v };
 
     // For a model of these scales each operation is sound: its results are the true numbers or enclose them.
-    ghost holds: { (a : Self) (m : Model) → IsModel m → scales_of a ≡ m.scales → IsSound m (operations a) (enclosure (operations a).is_exact) };
+    ghost holds: { (a : Self) (m : Model) → IsModel m → scales_of a ≡ m.scales →
+        IsSound m (operations a) (enclosure (operations a).is_exact) };
 }

@@ -1,10 +1,12 @@
 //! Decimal numbers.
-ghost use Rattle.std.specs.Prelude.{◌≡◌, ◌↔◌, ℕ, List, ◌+◌, ◌*◌, ◌^◌, ◌<◌, ◌≤◌, length, slice_index, true, false, IfOk, IsTrue};
+ghost use Rattle.std.specs.Prelude.{◌≡◌, ◌↔◌, ℕ, List, ◌+◌, ◌*◌, ◌^◌, ◌<◌, ◌≤◌, length, slice_index, true};
+ghost use Rattle.std.specs.Prelude.{false, IfOk, IsTrue};
 ghost use Rattle.std.specs.Str.Parse.{digits_value};
 ghost use Rattle.std.specs.Char.{is_ascii_digit};
 ghost use Rattle.dp_num.specs.DecimalShape.{is_decimal};
 ghost use Rattle.dp_num.specs.DecimalShape as spec;
-ghost use Rattle.dp_num.specs.Decimals.{decimal_of, IsRead, IsLarge, HasTooManyDigits, magnitude_where, judged, shortest, signed, tens_more, tens_less};
+ghost use Rattle.dp_num.specs.Decimals.{decimal_of, IsRead, IsLarge, HasTooManyDigits, magnitude_where};
+ghost use Rattle.dp_num.specs.Decimals.{judged, shortest, signed, tens_more, tens_less};
 ghost use Rattle.dp_num.specs.Significands.{IsSeen};
 
 use crate::shape::{byte_at, is_exponent, skip_one, unsigned};
@@ -29,8 +31,8 @@ pub enum NumFault {
 }
 
 /// The number that a text writes, as `units / 10^digits` with the least `digits`. It asks for at most `2^26`
-/// bytes. The fault is `Shape` where the text is not of the decimal shape; else `Large` where the magnitude is
-/// at least `10^18`; else `Digits` where the least number of fraction digits is more than 18.
+/// bytes. The fault is `Shape` where the text is not of the decimal shape; else `Large` where the
+/// magnitude is at least `10^18`; else `Digits` where the least number of fraction digits is more than 18.
 pub fn read_decimal(text: &[u8]) -> Result<Decimal, NumFault>
     requires { length text.now ≤ 2 ^ 26 }
     ensures computed { result ≡ decimal_of text.now }
@@ -39,7 +41,8 @@ pub fn read_decimal(text: &[u8]) -> Result<Decimal, NumFault>
     // The faults in the order in which they are tried.
     ensures shape { (result ≡ Err NumFault.Shape) ↔ (is_decimal text.now ≡ false) }
     ensures large { (result ≡ Err NumFault.Large) ↔ (IsTrue (is_decimal text.now) × IsLarge text.now) }
-    ensures digits { (k : ℕ) → (result ≡ Err (NumFault.Digits k)) ↔ (IsTrue (is_decimal text.now) × HasTooManyDigits text.now k) }
+    ensures digits { (k : ℕ) →
+        (result ≡ Err (NumFault.Digits k)) ↔ (IsTrue (is_decimal text.now) × HasTooManyDigits text.now k) }
 {
     read_magnitude(byte_at(text, 0) == b'-', unsigned(text))
 }
@@ -77,7 +80,9 @@ fn scaled(
     requires exponent { spec.is_exponent exponent.now ≡ true }
     requires room { seen.len + seen.zeros ≤ 2 ^ 27 }
     requires fraction { fraction ≤ 2 ^ 27 }
-    ensures { (ds : List ℕ) → IsSeen ds seen → result ≡ judged (shortest negative (digits_value 10 ds * 10 ^ tens_more exponent.now) (fraction + tens_less exponent.now)) }
+    ensures { (ds : List ℕ) → IsSeen ds seen →
+        result ≡ judged (shortest negative
+        (digits_value 10 ds * 10 ^ tens_more exponent.now) (fraction + tens_less exponent.now)) }
 {
     let power = power_of(unsigned(skip_one(exponent)));
     if byte_at(exponent, 1) == b'-' {
@@ -106,7 +111,8 @@ fn power_of(digits: &[u8]) -> u32
 fn judge(negative: bool, seen: Significand, raised: u32, lowered: u32) -> Result<Decimal, NumFault>
     requires room { seen.len + seen.zeros + raised < 2 ^ 31 }
     requires lowered { lowered < 2 ^ 31 }
-    ensures { (ds : List ℕ) → IsSeen ds seen → result ≡ judged (shortest negative (digits_value 10 ds * 10 ^ raised) lowered) }
+    ensures { (ds : List ℕ) → IsSeen ds seen →
+        result ≡ judged (shortest negative (digits_value 10 ds * 10 ^ raised) lowered) }
 {
     if seen.len == 0 {
         return Ok(Decimal {

@@ -33,8 +33,8 @@ impl Model for Exact {
 }
 
 impl Exact {
-    /// The exact arithmetic over these scales: start, trans, obs, reward and discount from 1 to `2^62`, and a gain
-    /// of at most the discount.
+    /// The exact arithmetic over these scales: start, trans, obs, reward and discount from 1 to
+    /// `2^62`, and a gain of at most the discount.
     pub fn of(scales: Scales) -> Exact
         requires range { AreInRange scales }
         ensures { result ≡ scales }

@@ -14,7 +14,8 @@ use std::marker::Model;
 const ONE: i128 = 1_000_000_000_000;
 
 /// The arithmetic that divides each product at once and rounds it outward: weights in `10^-12`, values in
-/// `10^-9`. The true number lies between the ends of each span, and at or below each number that is from above.
+/// `10^-9`. The true number lies between the ends of each span, and at or below each number that is
+/// from above.
 #[derive(Drop)]
 pub struct Outward {
     scales: Scales,
@@ -32,8 +33,8 @@ impl Model for Outward {
 }
 
 impl Outward {
-    /// The outward arithmetic over these scales: start, trans, obs, reward and discount from 1 to `2^62`, and a gain
-    /// of at most the discount.
+    /// The outward arithmetic over these scales: start, trans, obs, reward and discount from 1 to
+    /// `2^62`, and a gain of at most the discount.
     pub fn of(scales: Scales) -> Outward
         requires range { AreInRange scales }
         ensures { result ≡ scales }

@@ -70,7 +70,8 @@ impl Significand {
     /// The digits with which the text begins, and how many they are.
     pub(crate) fn scan(self, text: &[u8]) -> (Significand, usize)
         requires room { self.len + self.zeros + length text.now < 2 ^ 30 }
-        ensures seen { (ds : List ℕ) → IsSeen ds self → IsSeen (ds ++ take_while is_ascii_digit text.now) result.0 }
+        ensures seen { (ds : List ℕ) → IsSeen ds self →
+            IsSeen (ds ++ take_while is_ascii_digit text.now) result.0 }
         ensures count { result.1 ≡ digit_count text.now }
         ensures within { result.1 ≤ length text.now }
         ensures room { result.0.len + result.0.zeros ≤ self.len + self.zeros + result.1 }
