@@ -24,7 +24,7 @@ chosen false h pairs rest e = e
 -- what is found among the pairs is of the one that is found
 pub held_by_last : (held : List Held) (name : List ℕ)
     → held_by (map pair_of held) name
-      ≡ option_map (λ h. h.bytes.items) (find (λ h. bytes_eq (string_bytes h.name) name) held)
+    ≡ option_map (λ h. h.bytes.items) (find (λ h. bytes_eq (string_bytes h.name) name) held)
 held_by_last [] name = refl
 held_by_last (h ∷ held) name =
     chosen (bytes_eq (string_bytes h.name) name) h (find (λ pair. bytes_eq pair.0 name) (map pair_of held)) (find (λ h. bytes_eq (string_bytes h.name) name) held) (held_by_last held name)

@@ -28,7 +28,7 @@ use Rattle.std.proofs.lemmas.Bool.{eqb-true}
 -- with look k + 1 a joint action earns its reward and the look-ahead with look k of what follows
 pub action_look_ahead_is : (m : Model) (r : ℕ) (w : ℕ → ℕ) (a k : ℕ)
     → action_look_ahead m r w a (suc k)
-      ≡ weighted_reward m r w a +ℤ int_sum (joint_observations m) (λ o. look_ahead m r (weights_after m w a o) k)
+    ≡ weighted_reward m r w a +ℤ int_sum (joint_observations m) (λ o. look_ahead m r (weights_after m w a o) k)
 unfolding action_look_ahead
 action_look_ahead_is m r w a k = let e : suc k - 1 ≡ k = omega arith in rw e
 

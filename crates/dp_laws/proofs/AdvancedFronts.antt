@@ -50,7 +50,7 @@ counts_advanced {f} (and_agent {n = n} {ns = ns} {d = d} {ds = ds} k ks) =
 
 class_step : (n f x p : ℕ) (cs : List ℕ) → x < n ^ f → p < n
     → get_or (map (λ x. get_or cs (x / n) 0 * n + x % n) (range_with_len 0 (n ^ suc f))) (x * n + p) 0
-      ≡ get_or cs x 0 * n + p
+    ≡ get_or cs x 0 * n + p
 class_step n f x p cs h g =
     let first : (x * n + p) / n ≡ x = div-mul-add x n p g in
     let rest : (x * n + p) % n ≡ p = mod-mul-add x n p g in

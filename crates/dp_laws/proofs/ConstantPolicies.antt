@@ -87,7 +87,7 @@ root_counts (b ∷ bs) = let e = root_counts bs in omega arith
 
 root_class : (bs ns : List ℕ)
     → joint_number (class_counts (map (λ n. root_agent) bs)) (own_classes (map (λ n. root_agent) bs) (map (λ n. 0) ns))
-      ≡ 0
+    ≡ 0
 root_class [] ns = refl
 root_class (b ∷ bs) [] = refl
 root_class (b ∷ bs) (n ∷ ns) = let e = root_class bs ns in omega arith
@@ -105,7 +105,7 @@ agrees_with_none o a e = rw e
 
 root_agrees : (bs : List ℕ) (C a : ℕ)
     → all_agree (map (λ n. root_agent) bs) (parts_of (class_counts (map (λ n. root_agent) bs)) C) (parts_of bs a)
-      ≡ true
+    ≡ true
 root_agrees [] C a = refl
 root_agrees (b ∷ bs) C a = rw (agrees_with_none _ _ (no_choice _), root_agrees bs)
 
@@ -119,7 +119,7 @@ only_one n f e = rw e (omega (arith, ints))
 -- at a horizon of one step the bound of the root front is the greatest value of a constant joint action
 pub root_bound_at_one : (m : Model) → IsModel m → (look : ℕ)
     → bound_of m 1 (root_front m) look
-      ≡ greatest (λ a. policy_value m 1 (constant_policy m 1 a)) (numbers_below (joint_actions m))
+    ≡ greatest (λ a. policy_value m 1 (constant_policy m 1 a)) (numbers_below (joint_actions m))
 unfolding root_front
 root_bound_at_one m ok look =
     only_one _ _ (root_counts m.actions)

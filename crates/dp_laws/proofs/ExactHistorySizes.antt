@@ -38,7 +38,7 @@ module _ (m : Model) (is : IsModel m) where
   -- all weights of a time together
   pub histories_total : (act : List ℕ → ℕ) (t : ℕ) → IsActing m t act
       → nat_history_sum (joint_observations m) t (λ H. total_size m (history_weight_in (exact m.scales) m act H))
-        ≤ m.scales.start * step_scale m ^ t
+      ≤ m.scales.start * step_scale m ^ t
   histories_total act zero acts = let e = start_total in let f = scale_of_first m in omega arith
   histories_total act (suc t) acts =
       let O = joint_observations m in
@@ -78,7 +78,7 @@ module _ (m : Model) (is : IsModel m) where
   -- all classes of a front together
   pub front_total : (F : Front) (n : ℕ) → IsActing m F.stage (fixed_joint_action m F)
       → nat_sum n (λ C. total_size m (class_weight_in (exact m.scales) m F C))
-        ≤ m.scales.start * step_scale m ^ F.stage
+      ≤ m.scales.start * step_scale m ^ F.stage
   front_total F n acts = let all = classes_total (exact m.scales) m F n in let most = histories_total (fixed_joint_action m F) F.stage acts in omega arith
 
   -- look-ahead of a joint action, with look k
@@ -89,7 +89,7 @@ module _ (m : Model) (is : IsModel m) where
   -- a value over the steps that are left against the weights of a stage
   value_at_stage : (f r h : ℕ) → f + suc r ≡ h
       → m.scales.start * step_scale m ^ f * value_most m (suc r)
-        ≡ suc r * (m.scales.start * step_scale m ^ h * reward_most m)
+      ≡ suc r * (m.scales.start * step_scale m ^ h * reward_most m)
   unfolding value_most
   value_at_stage f r h e = weights_times_value m.scales.start (step_scale m ^ f) (suc r) (reward_most m) (step_scale m ^ suc r) (step_scale m ^ h) (split_power f (suc r) h e)
 

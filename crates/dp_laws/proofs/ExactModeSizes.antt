@@ -198,13 +198,13 @@ module _ (m : Model) (is : IsModel m) (h : ℕ) (some : 0 < h) (mode : true ≡ 
   -- all weights of a time
   weights_fit : (act : List ℕ → ℕ) (t : ℕ) → t ≤ h → IsActing m t act
       → nat_history_sum (joint_observations m) t (λ H. total_size m (history_weight_in (exact m.scales) m act H))
-        < 2 ^ 127
+      < 2 ^ 127
   weights_fit act t le acts = let most = histories_total m is act t acts in let grown = power_grows m is h some mode t le in let room = weight_room m is h some mode in omega arith
 
   -- what a front has earned and its best look-aheads
   looks_of_front_fit : (F : Front) (r k : ℕ) → IsFront m h F → F.stage + suc r ≡ h
       → earned_size (exact m.scales) m (fixed_joint_action m F) h F.stage + class_look_size (exact m.scales) m r F k
-        < 2 ^ 127
+      < 2 ^ 127
   looks_of_front_fit F r k front e =
       let acts = front_acting m h F front in
       let earned = earned_most m is (fixed_joint_action m F) h F.stage (omega arith) acts in
@@ -250,7 +250,7 @@ module _ (m : Model) (is : IsModel m) (h : ℕ) (some : 0 < h) (mode : true ≡ 
   -- what a front has earned and its rewards
   rewards_of_front_fit : (F : Front) (r : ℕ) (act : ℕ → ℕ) → IsFront m h F → F.stage + suc r ≡ h → IsChoosing m F act
       → earned_size (exact m.scales) m (fixed_joint_action m F) h F.stage + class_reward_size (exact m.scales) m r F act
-        < 2 ^ 127
+      < 2 ^ 127
   rewards_of_front_fit F r act front e chosen =
       let acts = front_acting m h F front in
       let earned = earned_most m is (fixed_joint_action m F) h F.stage (omega arith) acts in

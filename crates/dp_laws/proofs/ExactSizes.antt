@@ -77,7 +77,7 @@ pushed_part c w p z = later_size c ((exact c).chance w p z) ∙ ap (λ (n : ℕ)
 -- one weight with its chances and reward
 gained_part : (m : Model) (w : Span) (p z r : ℕ) (x : ℤ)
     → size ((exact m.scales).gain ((exact m.scales).chance w p z) x r)
-      ≡ size w * (p * z) * (unsigned_abs x * (m.scales.discount * step_scale m ^ r))
+    ≡ size w * (p * z) * (unsigned_abs x * (m.scales.discount * step_scale m ^ r))
 gained_part m w p z r x =
     gain_size m.scales ((exact m.scales).chance w p z) x r ∙ ap (λ (n : ℕ). n * (unsigned_abs x * reward_factor m.scales r)) (chance_size m.scales w p z)
     ∙ ap (λ (n : ℕ). size w * (p * z) * (unsigned_abs x * n)) (reward_factor_is m r)
@@ -87,7 +87,7 @@ module _ (m : Model) (is : IsModel m) where
   -- all next weights together
   spread : (w : ℕ → ℕ) (a : ℕ) → a < joint_actions m
       → nat_sum (joint_observations m) (λ o. nat_sum m.states (λ t. weights_after m w a o t))
-        ≡ nat_sum m.states w * (m.scales.trans * m.scales.obs * m.scales.gain)
+      ≡ nat_sum m.states w * (m.scales.trans * m.scales.obs * m.scales.gain)
   unfolding weights_after
   spread w a p =
       let S = m.states in
@@ -109,14 +109,14 @@ module _ (m : Model) (is : IsModel m) where
   -- the parts of a next weight are those of the exact definition, from the magnitudes
   pushed_parts : (ws : ℕ → Span) (a o t : ℕ)
       → nat_sum m.states (λ s. size ((exact m.scales).later ((exact m.scales).chance (ws s) (trans_at m a s t) (obs_at m a t o))))
-        ≡ weights_after m (λ s. size (ws s)) a o t
+      ≡ weights_after m (λ s. size (ws s)) a o t
   unfolding weights_after
   pushed_parts ws a o t = nat_sum_ext m.states _ _ (λ s p. pushed_part m.scales (ws s) (trans_at m a s t) (obs_at m a t o))
 
   -- all parts of all next weights together
   parts_total : (ws : ℕ → Span) (a : ℕ) → a < joint_actions m
       → nat_sum (joint_observations m) (λ o. nat_sum m.states (λ t. weights_after m (λ s. size (ws s)) a o t))
-        ≤ total_size m ws * step_scale m
+      ≤ total_size m ws * step_scale m
   unfolding step_scale
   parts_total ws a p = let e = spread (λ s. size (ws s)) a p in let le = mul-le-mul_left (total_size m ws) (mul-le-mul_left (m.scales.trans * m.scales.obs) is.scales.gain) in omega arith
 
@@ -132,7 +132,7 @@ module _ (m : Model) (is : IsModel m) where
   -- all next weights together
   pub pushed_total : (ws : ℕ → Span) (a : ℕ) → a < joint_actions m
       → nat_sum (joint_observations m) (λ o. total_size m (weights_after_in (exact m.scales) m ws a o))
-        ≤ total_size m ws * step_scale m
+      ≤ total_size m ws * step_scale m
   pushed_total ws a pa =
       let all = parts_total ws a pa in
       let each = nat_sum_le (joint_observations m) (λ o. total_size m (weights_after_in (exact m.scales) m ws a o)) (λ o. nat_sum m.states (λ t. weights_after m (λ s. size (ws s)) a o t))
@@ -143,7 +143,7 @@ module _ (m : Model) (is : IsModel m) where
   -- a reward over the scales of a step
   step_of : (most r w : ℕ)
       → w * m.scales.trans * (m.scales.obs * (most * (m.scales.discount * step_scale m ^ r)))
-        ≡ w * (most * step_scale m ^ suc r)
+      ≡ w * (most * step_scale m ^ suc r)
   step_of most r w = scaled w m.scales.trans m.scales.obs m.scales.discount most (step_scale m ^ r) (step_scale m) _ (step_scale_is m) (pow-suc (step_scale m) r)
     where
       scaled : (w dt do' dg x p k q : ℕ) → dt * do' * dg ≡ k → q ≡ p * k → w * dt * (do' * (x * (dg * p))) ≡ w * (x * q)

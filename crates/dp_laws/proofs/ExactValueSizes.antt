@@ -160,5 +160,5 @@ module _ (m : Model) (is : IsModel m) where
   -- the reward now and the look-aheads after it
   pub looks_most : (r k : ℕ) (ws : ℕ → Span) (a : ℕ) → a < joint_actions m
       → reward_size (exact m.scales) m r ws a + next_look_size (exact m.scales) m r ws a k
-        ≤ total_size m ws * value_most m (suc r)
+      ≤ total_size m ws * value_most m (suc r)
   looks_most r k ws a pa = looks_from r k ws a pa (λ vs. look_most r k vs)

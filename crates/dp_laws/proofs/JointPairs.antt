@@ -76,7 +76,7 @@ pair_step c n cs ns x C p o hC ho =
 -- a sum over the numbers of pairs is a sum over joint classes and joint observations
 pub int_sum_pairs : (cs ns : List ℕ) → length ns ≡ length cs → (g : ℕ → ℤ)
     → int_sum (product (pair_counts cs ns)) g
-      ≡ int_sum (product cs) (λ C. int_sum (product ns) (λ o. g (pair_number cs ns C o)))
+    ≡ int_sum (product cs) (λ C. int_sum (product ns) (λ o. g (pair_number cs ns C o)))
 int_sum_pairs [] [] e g = one_place g
 int_sum_pairs [] (n ∷ ns) e g = absurd (omega arith)
 int_sum_pairs (c ∷ cs) [] e g = absurd (omega arith)

@@ -86,7 +86,7 @@ place_later i n ns y c x h =
 -- a sum over joint numbers, by place
 pub int_sum_placed : (i : ℕ) (ns : List ℕ) → i < length ns → (g : ℕ → ℤ)
     → int_sum (product ns) g
-      ≡ int_sum (get_or ns i 0) (λ c. int_sum (product (without i ns)) (λ x. g (placed_number i ns c x)))
+    ≡ int_sum (get_or ns i 0) (λ c. int_sum (product (without i ns)) (λ x. g (placed_number i ns c x)))
 int_sum_placed i [] p g = absurd (omega arith)
 int_sum_placed zero (n ∷ ns) p g = int_sum_prod n (product ns) g ∙ int_sum_ext n _ _ (λ c q. int_sum_ext (product ns) _ _ (λ x h. ap g (place_first n ns c x h)))
 int_sum_placed (suc i) (n ∷ ns) p g =

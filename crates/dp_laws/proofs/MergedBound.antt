@@ -103,7 +103,7 @@ module _ (m : Model) (h r look : ℕ) (F : Front) (front : IsFront m h F) (lt : 
   -- a joint class with the joined one is bounded by the two together
   joined_best : (x : ℕ) → x < product (without i counts)
       → best G (placed_number i merged a x)
-        ≤ℤ (best F (placed_number i counts a x) +ℤ best F (placed_number i counts b x))
+      ≤ℤ (best F (placed_number i counts a x) +ℤ best F (placed_number i counts b x))
   joined_best x hx =
       let A = placed_number i counts a x in
       let B = placed_number i counts b x in

@@ -186,7 +186,7 @@ agree_either (suc i) a b (d ∷ ds) (e ∷ ps) (x ∷ xs) p q = ap (λ z. agrees
 -- by the parts of a joint class
 agreeing_parts : (m : Model) (F : Front) (C : ℕ) (cs : List ℕ) → parts_of (class_counts F.agents) C ≡ cs
     → agreeing_actions m F C
-      ≡ filter (λ x. all_agree F.agents cs (parts_of m.actions x)) (numbers_below (joint_actions m))
+    ≡ filter (λ x. all_agree F.agents cs (parts_of m.actions x)) (numbers_below (joint_actions m))
 unfolding agreeing_actions
 agreeing_parts m F C cs e = ap (λ z. filter (λ x. all_agree F.agents z (parts_of m.actions x)) (numbers_below (joint_actions m))) e
 
@@ -209,7 +209,7 @@ module _ (m : Model) (F : Front) (i a b : ℕ) (free_a : IsUnassigned i a F.agen
   -- with the two classes agree the same
   pub agreeing_either : (x : ℕ) → x < product (without i (class_counts F.agents))
       → agreeing_actions m F (placed_number i (class_counts F.agents) b x)
-        ≡ agreeing_actions m F (placed_number i (class_counts F.agents) a x)
+      ≡ agreeing_actions m F (placed_number i (class_counts F.agents) a x)
   agreeing_either x hx =
       let i_in = unassigned_agent i a F.agents free_a in
       let b_in = unassigned_agent i b F.agents free_b in

@@ -23,7 +23,7 @@ regroup w p g k r n =
 -- the weights one step on against a function of the next state
 weights_after_times : (m : Model) (w : ℕ → ℕ) (a o t : ℕ) (x : ℤ)
     → pos (weights_after m w a o t) *ℤ x
-      ≡ int_sum m.states (λ s. pos (w s * (trans_at m a s t * obs_at m a t o * m.scales.gain)) *ℤ x)
+    ≡ int_sum m.states (λ s. pos (w s * (trans_at m a s t * obs_at m a t o * m.scales.gain)) *ℤ x)
 unfolding weights_after
 weights_after_times m w a o t x = sym (int_sum_weigh m.states _ x)
 
@@ -120,7 +120,7 @@ value_le_look_ahead m ok (suc r) (suc k) w qs h =
 pub value_le_action_look_ahead : (m : Model) → IsModel m → (r k : ℕ) (w : ℕ → ℕ) (qs : List PolicyTree)
     → IsPolicyOf m (suc r) qs
     → int_sum m.states (λ s. pos (w s) *ℤ backward_value m (suc r) s qs)
-      ≤ℤ action_look_ahead m r w (joint_root_action m qs) k
+    ≤ℤ action_look_ahead m r w (joint_root_action m qs) k
 unfolding action_look_ahead
 value_le_action_look_ahead m ok r k w qs h =
     let a = joint_root_action m qs in

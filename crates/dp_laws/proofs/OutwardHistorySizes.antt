@@ -139,7 +139,7 @@ module _ (m : Model) (is : IsModel m) (h : ℕ) (horizon : h ≤ 24) (cells : m.
   -- all weights of a time
   histories_total : (act : List ℕ → ℕ) (t : ℕ) → t ≤ h → IsActing m t act
       → nat_history_sum (joint_observations m) t (λ H. total_size m (history_weight_in (outward m.scales) m act H))
-        ≤ joint_observations m ^ t * 2 ^ 40
+      ≤ joint_observations m ^ t * 2 ^ 40
   histories_total act t le acts =
       let each = nat_history_sum_le (joint_observations m) t (λ H. total_size m (history_weight_in (outward m.scales) m act H)) (λ H. 2 ^ 40) (λ H hist. history_small act t H le acts hist) in
       let flat = nat_history_sum_const (joint_observations m) t (2 ^ 40) in omega arith
@@ -167,7 +167,7 @@ module _ (m : Model) (is : IsModel m) (h : ℕ) (horizon : h ≤ 24) (cells : m.
   -- all weights of a time fit
   weights_fit : (act : List ℕ → ℕ) (t : ℕ) → t ≤ h → IsActing m t act
       → nat_history_sum (joint_observations m) t (λ H. total_size m (history_weight_in (outward m.scales) m act H))
-        < 2 ^ 127
+      < 2 ^ 127
   weights_fit act t le acts = let all = histories_total act t le acts in let few = mul-le-mul_right (2 ^ 40) (histories_to t le) in omega arith
 
   -- in outward mode weights of joint classes can be added up
@@ -182,7 +182,7 @@ module _ (m : Model) (is : IsModel m) (h : ℕ) (horizon : h ≤ 24) (cells : m.
   -- the best look-ahead of a joint class
   class_look_most : (F : Front) (C r k : ℕ) → IsFront m h F → F.stage + suc r ≡ h
       → unsigned_abs (greatest (λ a. action_look_ahead_in (outward m.scales) m r (class_weight_in (outward m.scales) m F C) a k) (agreeing_actions m F C))
-        ≤ 2 ^ 97
+      ≤ 2 ^ 97
   class_look_most F C r k front e =
       let W = class_weight_in (outward m.scales) m F C in
       let are = weights_of_class F C front (omega arith) in
@@ -202,7 +202,7 @@ module _ (m : Model) (is : IsModel m) (h : ℕ) (horizon : h ≤ 24) (cells : m.
   -- what a front has earned and its best look-aheads
   front_fits : (F : Front) (r k : ℕ) → IsFront m h F → F.stage + suc r ≡ h
       → earned_size (outward m.scales) m (fixed_joint_action m F) h F.stage + class_look_size (outward m.scales) m r F k
-        < 2 ^ 127
+      < 2 ^ 127
   front_fits F r k front e =
       let earned = earned_most (fixed_joint_action m F) F.stage (omega arith) (front_acting m h F front) in
       let looks = class_looks_most F r k front e in omega arith
@@ -229,7 +229,7 @@ module _ (m : Model) (is : IsModel m) (h : ℕ) (horizon : h ≤ 24) (cells : m.
   -- what a front has earned and its rewards
   rewards_of_front_fit : (F : Front) (r : ℕ) (act : ℕ → ℕ) → IsFront m h F → F.stage + suc r ≡ h → IsChoosing m F act
       → earned_size (outward m.scales) m (fixed_joint_action m F) h F.stage + class_reward_size (outward m.scales) m r F act
-        < 2 ^ 127
+      < 2 ^ 127
   unfolding class_reward_size
   rewards_of_front_fit F r act front e chosen =
       let lt : F.stage < h = omega arith in

@@ -103,7 +103,7 @@ module _ (m : Model) (is : IsModel m) where
     -- one weight against the table
     tail_part : (t r s : ℕ) (ws : ℕ → Span) → t + r ≡ h → AreWeights false m t ws → s < m.states
         → unsigned_abs ((outward m.scales).tail (ws s) (mdp_table_in (outward m.scales) m r s))
-          ≤ size (ws s) * 2 ^ 23 + 1
+        ≤ size (ws s) * 2 ^ 23 + 1
     tail_part t r s ws e are ps = tail_most m is (ws s) (mdp_table_in (outward m.scales) m r s) (table_room m is h horizon r s (omega arith) ps)
 
     -- all weights against the table

@@ -24,7 +24,7 @@ times_gain T K a b c p d e = omega (arith, ap (λ (n : ℕ). T * (d * (p * n))) 
 -- a reward of one step more
 pub scale_after_reward : (m : Model) (T r : ℕ)
     → T * (m.scales.trans * m.scales.obs) * (m.scales.discount * step_scale m ^ r) * m.scales.reward
-      ≡ T * (m.scales.reward * step_scale m ^ suc r)
+    ≡ T * (m.scales.reward * step_scale m ^ suc r)
 scale_after_reward m T r =
     times_gain T (step_scale m) m.scales.trans m.scales.obs m.scales.discount (step_scale m ^ r) m.scales.reward (step_scale_is m)
     ∙ ap (λ (n : ℕ). T * (m.scales.reward * n)) (sym (pow-suc (step_scale m) r))

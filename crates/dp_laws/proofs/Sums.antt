@@ -84,7 +84,7 @@ mul_two c n k f = sym (int_sum_mul c n (λ i. int_sum k (λ j. f i j))) ∙ int_
 -- sums of two, inside
 pub add_two : (n k : ℕ) (f g : ℕ → ℕ → ℤ)
     → int_sum n (λ i. int_sum k (λ j. f i j +ℤ g i j))
-      ≡ int_sum n (λ i. int_sum k (λ j. f i j)) +ℤ int_sum n (λ i. int_sum k (λ j. g i j))
+    ≡ int_sum n (λ i. int_sum k (λ j. f i j)) +ℤ int_sum n (λ i. int_sum k (λ j. g i j))
 add_two n k f g = int_sum_ext n _ _ (λ i h. int_sum_add k (f i) (g i)) ∙ int_sum_add n (λ i. int_sum k (f i)) (λ i. int_sum k (g i))
 
 -- equal numbers, inside
@@ -100,7 +100,7 @@ le_two n k f g h = int_sum_le n _ _ (λ i p. int_sum_le k _ _ (λ j q. h i j p q
 -- the sums of three, outermost first and last exchanged
 pub rotate : (n m k : ℕ) (f : ℕ → ℕ → ℕ → ℤ)
     → int_sum n (λ s. int_sum m (λ t. int_sum k (λ o. f s t o)))
-      ≡ int_sum k (λ o. int_sum m (λ t. int_sum n (λ s. f s t o)))
+    ≡ int_sum k (λ o. int_sum m (λ t. int_sum n (λ s. f s t o)))
 rotate n m k f =
     int_sum_ext n _ _ (λ s h. int_sum_swap m k (f s)) ∙ int_sum_swap n k (λ s o. int_sum m (λ t. f s t o)) ∙ int_sum_ext k _ _ (λ o h. int_sum_swap n m (λ s t. f s t o))
 

@@ -56,7 +56,7 @@ pub record EnclosesQuantities (m : Model) (A : Arithmetic) (R : Enclosure) : Typ
       → R.Tops (T * (m.scales.reward * step_scale m ^ r)) (look_ahead m r w k) (look_ahead_in A m r spans k)
   pub action_look_aheads : (T r k : ℕ) (w : ℕ → ℕ) (spans : ℕ → Span) (a : ℕ) → WeighEach m R T w spans
       → R.Tops (T * (m.scales.reward * step_scale m ^ suc r)) (action_look_ahead m r w a k)
-        (action_look_ahead_in A m r spans a k)
+      (action_look_ahead_in A m r spans a k)
   pub bounds : (r : ℕ) (F : Front) (look : ℕ)
       → R.Tops (value_scale m (F.stage + r)) (bound_of m r F look) (bound_in A m r F look)
 

@@ -63,7 +63,7 @@ module _ (ds : List ℕ) (s : Significand) (negative : Bool) (up down : ℕ) whe
   -- where the tens make it a whole number
   pub at_whole : (seen : IsSeen ds s) → down ≤ s.zeros + up
       → shortest negative (digits_value 10 ds * 10 ^ up) down
-        ≡ decimal_with negative (seen.0 * 10 ^ (s.zeros + up - down)) 0
+      ≡ decimal_with negative (seen.0 * 10 ^ (s.zeros + up - down)) 0
   at_whole seen le =
       let split : s.zeros + up ≡ (s.zeros + up - down) + down = omega arith in
       let apart : seen.0 * 10 ^ (s.zeros + up) ≡ seen.0 * (10 ^ (s.zeros + up - down) * 10 ^ down) = ap (λ k. seen.0 * 10 ^ k) split ∙ ap (λ p. seen.0 * p) (pow-add 10 (s.zeros + up - down) down) in

@@ -42,7 +42,7 @@ agents_text_is k (b ∷ bs) (n ∷ ns) (p ∷ ps) e f =
 -- the next agent's lines are appended
 pub next_agent : (text parts : List ℕ) (i : ℕ) → i < length parts
     → (text ++ agent_text i (get_or parts i 0)) ++ agents_text (i + 1) (drop (i + 1) parts)
-      ≡ text ++ agents_text i (drop i parts)
+    ≡ text ++ agents_text i (drop i parts)
 next_agent text parts i lt =
     append_assoc text (agent_text i (get_or parts i 0)) (agents_text (i + 1) (drop (i + 1) parts))
     ∙ ap (λ (l : List ℕ). text ++ l) (rw (drop-cons parts i 0 lt, add-one) refl)
@@ -100,7 +100,7 @@ constant_text m a ok exact_mode =
 -- the pieces of the head, appended one after the other
 head_pieces : (t a b d n l s u i : List ℕ)
     → (((t ++ a) ++ (b ++ (d ++ n))) ++ (l ++ (s ++ (u ++ (s ++ n))))) ++ i
-      ≡ t ++ (a ++ (b ++ (d ++ (n ++ (l ++ (s ++ (u ++ (s ++ (n ++ i)))))))))
+    ≡ t ++ (a ++ (b ++ (d ++ (n ++ (l ++ (s ++ (u ++ (s ++ (n ++ i)))))))))
 head_pieces t a b d n l s u i = simp append_assoc refl
 
 pub head_pushed : (t t1 t2 t3 t4 : List ℕ) (unit : ℕ) (value : ℤ)

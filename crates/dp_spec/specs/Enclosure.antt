@@ -25,7 +25,7 @@ pub record IsSound (m : Model) (A : Arithmetic) (R : Enclosure) : Type 0 where
   pub later : (T w : ℕ) (s : Span) → R.Weighs T w s → R.Weighs (T * m.scales.discount) (w * m.scales.gain) (A.later s)
   pub gain : (T w rest : ℕ) (r : ℤ) (s : Span) → R.Weighs T w s →
       R.Earns (T * (m.scales.discount * step_scale m ^ rest) * m.scales.reward)
-        (pos w *ℤ (r *ℤ pos (m.scales.discount * step_scale m ^ rest))) (A.gain s r rest)
+      (pos w *ℤ (r *ℤ pos (m.scales.discount * step_scale m ^ rest))) (A.gain s r rest)
   pub carry : (F p : ℕ) (x v : ℤ) → R.Tops F x v
       → R.Tops (F * step_scale m) (pos (p * m.scales.obs * m.scales.gain) *ℤ x) (A.carry v p)
   pub tail : (T w F : ℕ) (x v : ℤ) (s : Span) → R.Weighs T w s → R.Tops F x v → R.Tops (T * F) (pos w *ℤ x) (A.tail s v)

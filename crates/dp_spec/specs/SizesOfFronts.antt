@@ -18,7 +18,7 @@ pub record CanClassify (A : Arithmetic) (m : Model) (h : ℕ) : Type 0 where
   -- all weights of one time together, in any order
   pub add : (act : List ℕ → ℕ) (t : ℕ) → t ≤ h → IsActing m t act
       → nat_history_sum (joint_observations m) t (λ H. nat_sum m.states (λ s. size (history_weight_in A m act H s)))
-        < 2 ^ 127
+      < 2 ^ 127
   -- the weights of a joint class are weights of the front's stage
   pub weights : (F : Front) (C : ℕ) → IsFront m h F → F.stage < h
       → AreWeights A.is_exact m F.stage (class_weight_in A m F C)

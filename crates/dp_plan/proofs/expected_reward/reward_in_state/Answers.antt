@@ -10,7 +10,7 @@ use Rattle.dp_plan.proofs.expected_reward.reward_in_state.Goals as goal
 
 number : (c : goal.After-weighed-total)
     → to_z w128 (of_z w128 c.reward_on_arrival.result)
-      ≡ reward_on_arrival c.args.model.now.model c.args.a c.args.s c.loop-t.t
+    ≡ reward_on_arrival c.args.model.now.model c.args.a c.args.s c.loop-t.t
 number c = to_z-of_z w128 c.reward_on_arrival.result (search rules) ∙ c.reward_on_arrival.ensures
 
 below : (c : goal.After-weighed-total) → c.loop-t.t < c.args.model.now.model.states
