@@ -26,9 +26,17 @@ impl Model for MemSink {
 
     ghost Value = { MemSinkView };
 
-    ghost view = { λ s. record { bytes = s.bytes.items; room = s.room; puts = s.puts; offered = s.offered; faults = s.faults; named = s.named } };
+    ghost view = { λ s. record {
+      bytes = s.bytes.items;
+      room = s.room;
+      puts = s.puts;
+      offered = s.offered;
+      faults = s.faults;
+      named = s.named;
+    } };
 
-    ghost invariant = { λ s. (length s.bytes.items ≤ s.room) × (s.room ≤ vec_capacity s.bytes) × (s.faults ≤ s.puts) × (s.offered ≤ s.puts * 2 ^ 64) };
+    ghost invariant = { λ s. (length s.bytes.items ≤ s.room) × (s.room ≤ vec_capacity s.bytes)
+        × (s.faults ≤ s.puts) × (s.offered ≤ s.puts * 2 ^ 64) };
 }
 
 impl MemSink {

@@ -21,7 +21,7 @@ use Rattle.dp_spec.specs.Steps.{root_front}
 use Rattle.dp_spec.specs.Sums.{greatest, numbers_below}
 use Rattle.dp_plan.specs.BestConstant.{IsBestConstant, IsFirstGreatest, constant_value}
 use Rattle.dp_plan.specs.ConstantCertificate.{constant_certificate}
-use Rattle.dp_plan.proofs.Modes.{within_one_step}
+use Rattle.dp_plan.proofs.OneStep.{within_one_step}
 use Rattle.dp_laws.proofs.GreatestValues.{greatest_below_at_most, le_greatest_below}
 
 -- ---- the first greatest, one number after the other

@@ -1,6 +1,6 @@
 pub mod BestConstants
 pub mod ConstantTexts
 pub mod ExpectedRewards
-pub mod Modes
+pub mod OneStep
 pub mod Rooms
 pub mod WeighedSums

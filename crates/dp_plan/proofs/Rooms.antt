@@ -9,7 +9,7 @@ use Rattle.dp_spec.specs.declared.scales.Scales.{Scales}
 use Rattle.dp_plan.specs.BestConstant.{constant_value}
 use Rattle.dp_plan.specs.ExpectedReward.{reward_from_start, reward_in_state, reward_on_arrival}
 use Rattle.dp_plan.proofs.ExpectedRewards.{value_is_expected}
-use Rattle.dp_plan.proofs.Modes.{power_one}
+use Rattle.dp_plan.proofs.OneStep.{power_one}
 use Rattle.dp_plan.proofs.WeighedSums.{HasRoom, weighed_abs}
 use Rattle.dp_laws.proofs.ModeCondition.{exact_condition, reward_at_most, reward_most}
 

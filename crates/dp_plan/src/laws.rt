@@ -1,5 +1,5 @@
 //! What holds of the certificate of the best constant policy.
-ghost use Rattle.dp_plan.specs.PlanLaws.{BestConstantCertificateHolds, BestConstantCertificateIsValid, OneStepIsWithin, OneStepOverSmallScalesIsExact};
+ghost use Rattle.dp_plan.specs.PlanLaws.{BestConstantCertificateHolds, BestConstantCertificateIsValid, OneStepIsWithin};
 
 /// In exact mode the certificate of the best constant policy over one step is valid, for any
 /// number of agents.
@@ -15,10 +15,4 @@ pub fn best_constant_certificate_holds()
 /// Every model keeps the limits of a horizon of one step.
 pub fn one_step_is_within()
     ensures { OneStepIsWithin }
-{}
-
-/// One step over small scales is in exact mode.
-#[tactic(auto, using(crate::proofs::Modes::small_scales_are_exact))]
-pub fn one_step_over_small_scales_is_exact()
-    ensures { OneStepOverSmallScalesIsExact }
 {}

@@ -10,5 +10,4 @@ pub use certificate_text::best_constant_text;
 pub use constant_policies::{BestConstant, best_constant};
 pub use laws::{
     best_constant_certificate_holds, best_constant_certificate_is_valid, one_step_is_within,
-    one_step_over_small_scales_is_exact,
 };

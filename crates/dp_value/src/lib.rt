@@ -4,3 +4,6 @@
 mod push;
 
 pub use push::{next_weight, next_weight_in};
+
+#[cfg(test)]
+mod tests;

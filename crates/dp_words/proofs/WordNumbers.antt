@@ -4,21 +4,17 @@ use Rattle.std.specs.Prelude.{◌&&◌, nat_le, nat_lt, if◌then◌else◌}
 use Rattle.std.specs.List.{list_all}
 use Rattle.std.specs.Char.{is_ascii_digit}
 use Rattle.std.specs.Str.Parse.{AllDigits, IsNumeral, without_leading_plus, digits_value}
+use Rattle.std.proofs.lemmas.Bool.{and_parts, le-leb, lt-leb}
 use Rattle.std.proofs.lemmas.Str.{digit_value_digit}
 use Rattle.std.proofs.lemmas.Str.Parse.{without_leading_plus_none}
 use Rattle.dp_num.specs.DecimalShape.{is_index}
 use Rattle.dp_num.proofs.DigitRuns.{digit_low, digit_high}
 use Rattle.dp_words.specs.Words.{is_number, number_of}
 
-parts : (a b : Bool) → (a && b) ≡ true → (a ≡ true) × (b ≡ true)
-parts true true e = (refl, refl)
-parts true false e = cc
-parts false b e = cc
-
 digits : (word : List ℕ) → list_all is_ascii_digit word ≡ true → AllDigits 10 word
 digits [] all = tt
 digits (c ∷ cs) all =
-    let both = parts (is_ascii_digit c) (list_all is_ascii_digit cs) all in
+    let both = and_parts (is_ascii_digit c) (list_all is_ascii_digit cs) all in
     let low = digit_low c both.0 in
     let high = digit_high c both.0 in
     let value = digit_value_digit c (low, high) in
@@ -29,15 +25,9 @@ numeral : (word : List ℕ) → is_index word ≡ true → IsNumeral 10 word × 
 unfolding is_index
 numeral [] is = cc
 numeral (c ∷ cs) is =
-    let all = (parts (nat_lt 0 (length (c ∷ cs))) (list_all is_ascii_digit (c ∷ cs)) is).1 in
-    let low = digit_low c (parts (is_ascii_digit c) (list_all is_ascii_digit cs) all).0 in
+    let all = (and_parts (nat_lt 0 (length (c ∷ cs))) (list_all is_ascii_digit (c ∷ cs)) is).1 in
+    let low = digit_low c (and_parts (is_ascii_digit c) (list_all is_ascii_digit cs) all).0 in
     ((omega arith, digits (c ∷ cs) all), without_leading_plus_none (c ∷ cs) (λ e. omega arith))
-
-le_true : (a b : ℕ) → a ≤ b → nat_le a b ≡ true
-le_true a b h = grind arith
-
-le_false : (a b : ℕ) → b < a → nat_le a b ≡ false
-le_false a b h = grind arith
 
 and_true : (a b c : Bool) → a ≡ true → b ≡ true → c ≡ true → (a && b && c) ≡ true
 and_true a b c x y z = cc
@@ -64,7 +54,7 @@ written : (least : ℕ) (word : List ℕ) (b : Bool)
 written least word b e = ap (λ t. if t then Some (digits_value 10 word) else None) e
 
 is_index_of : (word : List ℕ) → is_number word ≡ true → is_index word ≡ true
-is_index_of word is = (parts (is_index word) _ is).0
+is_index_of word is = (and_parts (is_index word) _ is).0
 
 -- a word that is no number
 pub no_number : (least : ℕ) (word : List ℕ) → is_number word ≡ false → None ≡ number_of least (2 ^ 32 - 1) word
@@ -89,7 +79,7 @@ number_ok least n word is read enough =
     let value = number_read least n word is read in
     let above : least ≤ digits_value 10 word = omega arith in
     let below : digits_value 10 word ≤ 2 ^ 32 - 1 = omega arith in
-    ap Some value.0 ∙ sym (written least word true (and_true _ _ _ is (le_true _ _ above) (le_true _ _ below)))
+    ap Some value.0 ∙ sym (written least word true (and_true _ _ _ is (le-leb _ _ above) (le-leb _ _ below)))
 
 pub number_low : (least n : ℕ) (word : List ℕ) → is_number word ≡ true
     → Fits32 word × (n ≡ digits_value 10 (without_leading_plus word)) → n < least
@@ -97,7 +87,7 @@ pub number_low : (least n : ℕ) (word : List ℕ) → is_number word ≡ true
 number_low least n word is read few =
     let value = number_read least n word is read in
     let low : digits_value 10 word < least = omega arith in
-    sym (written least word false (and_second (is_number word) _ _ (le_false _ _ low)))
+    sym (written least word false (and_second (is_number word) _ _ (lt-leb _ _ low)))
 
 pub number_high : (least : ℕ) (word : List ℕ) → is_number word ≡ true → (Fits32 word → ⊥)
     → None ≡ number_of least (2 ^ 32 - 1) word
@@ -111,4 +101,4 @@ number_high least word is none =
     large beyond = by (digits_value 10 word) beyond
       where
         by : (v : ℕ) → ((v < 2 ^ 32) → ⊥) → nat_le v (2 ^ 32 - 1) ≡ false
-        by v beyond = le_false v (2 ^ 32 - 1) (grind arith)
+        by v beyond = lt-leb v (2 ^ 32 - 1) (grind arith)
