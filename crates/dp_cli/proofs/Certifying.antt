@@ -1,10 +1,11 @@
 -- A call that is done put a certificate whose claims hold.
-use Rattle.std.proofs.Common.{◌≡◌, ◌≢◌, ℕ, List, [], ◌∷◌, Bool, Option, Some, None, Result, Ok, Err, IfSome, ⊎_elim, refl, sym, ap, ◌∙◌}
+use Rattle.std.proofs.Common.{◌≡◌, ◌≢◌, ℕ, List, [], ◌∷◌, Bool, Option, Some, None, Result, Ok, Err, IfSome, ⊎_elim, refl, sym, ap, ◌∙◌, subst}
 use Rattle.dp_io.specs.FetchLaws.{fetch_answer}
 use Rattle.dp_io.specs.Shelf.{Contents}
 use Rattle.dp_io.specs.Sink.{SinkView, Puts}
 use Rattle.dp_io.specs.declared.sink.SinkFailed.{SinkFailed}
 use Rattle.dp_plan.proofs.BestConstants.{best_constant_claims_hold, best_constant_is_valid}
+use Rattle.dp_plan.proofs.CertificateTexts.{best_constant_has_text}
 use Rattle.dp_plan.specs.ConstantCertificate.{constant_certificate}
 use Rattle.dp_words.specs.declared.job.Job.{Job}
 use Rattle.dp_words.specs.declared.job.Job.TheVariants.{Plan}
@@ -22,6 +23,7 @@ use Rattle.dp_cli.specs.Planned.{IsPlanOf, IsPlanOfText, plan_refusal}
 use Rattle.dp_cli.specs.Put.{status_after}
 use Rattle.dp_cli.specs.Refusal.{fetch_refusal, most_bytes}
 use Rattle.dp_cli.specs.Run.{IsToldAnswer, RunsAsTold}
+use Rattle.dp_spec.specs.CertificateText.{IsCertificateText}
 use Rattle.dp_spec.specs.Model as models
 
 module _ (contents : Contents) (model : List ℕ) (horizon nodes look : ℕ) (merge : Bool) (order : OrderWord) where
@@ -43,7 +45,8 @@ plan_certifies : (m : models.Model) (horizon : ℕ) (bytes : List ℕ) → IsPla
 plan_certifies m horizon bytes h = record {
   certificate = constant_certificate m h.text.action;
   over = sym h.one_step;
-  spelled = h.text.spelled;
+  spelled = subst (λ (text : List ℕ). IsCertificateText m text (constant_certificate m h.text.action)) (sym h.text.spelled)
+      (best_constant_has_text m h.text.action h.is_model h.exact_mode h.text.best);
   valid = best_constant_is_valid m h.text.action h.is_model h.exact_mode h.text.best;
   claims = best_constant_claims_hold m h.text.action h.is_model h.exact_mode h.text.best;
 }

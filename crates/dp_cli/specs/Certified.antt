@@ -1,7 +1,7 @@
 -- The headline: what is known of a certificate that a plan puts.
 use Rattle.std.specs.Prelude.{◌≡◌, ℕ, List, Option, Some, None, Ok}
 use Rattle.dp_spec.specs.Certificate.{Certificate, IsValid}
-use Rattle.dp_spec.specs.CertificateText.{certificate_text}
+use Rattle.dp_spec.specs.CertificateText.{IsCertificateText}
 use Rattle.dp_spec.specs.Claims.{ClaimsHold}
 use Rattle.dp_spec.specs.Model.{IsModel, Model}
 use Rattle.dp_io.specs.FetchLaws.{fetch_answer}
@@ -20,7 +20,7 @@ use Rattle.dp_cli.specs.Refusal.{most_bytes}
 pub record CertifiesFor (m : Model) (horizon : ℕ) (bytes : List ℕ) : Type 0 where
   pub certificate : Certificate
   pub over : certificate.horizon ≡ horizon
-  pub spelled : bytes ≡ certificate_text m.actions m.observations certificate
+  pub spelled : IsCertificateText m bytes certificate
   pub valid : IsValid m certificate
   pub claims : ClaimsHold m certificate
 

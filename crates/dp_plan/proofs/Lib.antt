@@ -1,4 +1,5 @@
 pub mod BestConstants
+pub mod CertificateTexts
 pub mod ConstantTexts
 pub mod ExpectedRewards
 pub mod OneStep

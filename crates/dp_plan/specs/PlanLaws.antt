@@ -3,6 +3,7 @@ use Rattle.std.specs.Prelude.{◌≡◌, ℕ, true}
 use Rattle.dp_spec.specs.Model.{Model, IsModel}
 use Rattle.dp_spec.specs.Mode.{IsWithin, is_exact_mode}
 use Rattle.dp_spec.specs.Certificate.{IsValid}
+use Rattle.dp_spec.specs.CertificateText.{certificate_text, IsCertificateText}
 use Rattle.dp_spec.specs.Claims.{ClaimsHold}
 use Rattle.dp_plan.specs.BestConstant.{IsBestConstant}
 use Rattle.dp_plan.specs.ConstantCertificate.{constant_certificate}
@@ -18,6 +19,12 @@ abbrev pub BestConstantCertificateHolds : Type 0
 BestConstantCertificateHolds =
     (m : Model) (a : ℕ) → IsModel m → is_exact_mode m 1 ≡ true → IsBestConstant m a →
     ClaimsHold m (constant_certificate m a)
+
+-- and it has a text
+abbrev pub BestConstantCertificateHasText : Type 0
+BestConstantCertificateHasText =
+    (m : Model) (a : ℕ) → IsModel m → is_exact_mode m 1 ≡ true → IsBestConstant m a →
+    IsCertificateText m (certificate_text m.actions m.observations (constant_certificate m a)) (constant_certificate m a)
 
 -- every model keeps the limits of a horizon of one step
 abbrev pub OneStepIsWithin : Type 0

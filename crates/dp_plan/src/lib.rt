@@ -9,5 +9,6 @@ mod laws;
 pub use certificate_text::best_constant_text;
 pub use constant_policies::{BestConstant, best_constant};
 pub use laws::{
-    best_constant_certificate_holds, best_constant_certificate_is_valid, one_step_is_within,
+    best_constant_certificate_has_text, best_constant_certificate_holds,
+    best_constant_certificate_is_valid, one_step_is_within,
 };

@@ -1,4 +1,5 @@
--- The model of the tests: one agent and one action, two states and two observations. Its weights over 24 steps are too fine for exact numbers.
+-- The model of the tests: one agent and one action, two states and two observations. Its weights over 24 steps are
+-- too fine for exact numbers.
 use Rattle.std.proofs.Common.{◌≡◌, ℕ, zero, suc, ◌+◌, ◌<◌, ◌≤◌, Bool, true, false, pos, ◌≤ℤ◌, ℤ, unsigned_abs, List, [], ◌∷◌, get_or, replicate, refl, arith}
 use Rattle.dp_spec.specs.Arithmetic.{point}
 use Rattle.dp_spec.specs.Mode.{is_exact_mode}
@@ -23,7 +24,8 @@ two_states = record {
 }
 
 -- it is made of lists that are its own
-pub made_of : (actions observations start trans obs : List ℕ) (reward : List ℤ) → actions ≡ two_states.actions → observations ≡ two_states.observations
+pub made_of : (actions observations start trans obs : List ℕ) (reward : List ℤ) → actions ≡ two_states.actions
+    → observations ≡ two_states.observations
     → start ≡ two_states.start → trans ≡ two_states.trans → obs ≡ two_states.obs → reward ≡ two_states.reward
     → model_of (record { states = 2; actions = actions; observations = observations }) two_states.scales
     (record { start = start; trans = trans; obs = obs; reward = reward }) ≡ two_states
@@ -95,7 +97,8 @@ unfolding is_exact_mode step_scale
 outward_over_many_steps = refl
 
 -- two points within the sum bound are weights of the start
-pub two_points : (e : Bool) (x y : ℕ) → x + y ≤ weight_limit e two_states 0 → AreWeights e two_states 0 (weights_of (point (pos x) ∷ point (pos y) ∷ []))
+pub two_points : (e : Bool) (x y : ℕ) → x + y ≤ weight_limit e two_states 0
+    → AreWeights e two_states 0 (weights_of (point (pos x) ∷ point (pos y) ∷ []))
 two_points e x y limit = record {
   from = from;
   order = order;
@@ -108,7 +111,9 @@ two_points e x y limit = record {
     from (suc zero) state = zle_pos y
     from (suc (suc s)) state = absurd (omega arith)
 
-    order : (s : ℕ) → s < 2 → (weights_of (point (pos x) ∷ point (pos y) ∷ []) s).low ≤ℤ (weights_of (point (pos x) ∷ point (pos y) ∷ []) s).high
+    order : (s : ℕ) → s < 2
+        → (weights_of (point (pos x) ∷ point (pos y) ∷ []) s).low
+          ≤ℤ (weights_of (point (pos x) ∷ point (pos y) ∷ []) s).high
     order zero state = zle_of _ _ refl
     order (suc zero) state = zle_of _ _ refl
     order (suc (suc s)) state = absurd (omega arith)

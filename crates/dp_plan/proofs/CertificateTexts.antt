@@ -1,0 +1,44 @@
+-- The certificate of the best constant policy has a text: its numbers are of 128 bits.
+use Rattle.std.proofs.Common.{◌≡◌, true, ℕ, ◌^◌, ◌≤◌, pos, FitsSigned, refl, arith}
+use Rattle.std.specs.Int.{w128}
+use Rattle.dp_laws.proofs.CertificateTexts.{certificate_has_text}
+use Rattle.dp_laws.proofs.ConstantPolicies.{constant_policy_fits}
+use Rattle.dp_spec.specs.CertificateText.{certificate_text, HasTextNumbers, IsCertificateText}
+use Rattle.dp_spec.specs.Mode.{is_exact_mode, unit_of}
+use Rattle.dp_spec.specs.Model.{IsModel, Model, value_scale}
+use Rattle.dp_plan.specs.BestConstant.{IsBestConstant}
+use Rattle.dp_plan.specs.ConstantCertificate.{constant_certificate}
+use Rattle.dp_plan.proofs.Rooms.{constant_value_fits, unit_has_room, unit_is}
+
+-- in exact mode the unit is the value scale
+unit_at_one : (m : Model) → is_exact_mode m 1 ≡ true → unit_of m 1 ≡ value_scale m 1
+unfolding unit_of
+unit_at_one m e = rw e refl
+
+unit_fits : (m : Model) → IsModel m → is_exact_mode m 1 ≡ true → FitsSigned w128 (pos (unit_of m 1))
+unit_fits m ok e =
+    let room = (unit_has_room m ok e).whole in
+    let is = unit_is m in
+    let at_one = unit_at_one m e in
+    let limit : unit_of m 1 ≤ 2 ^ 126 = omega arith in
+    record { sfits = omega arith }
+
+numbers : (m : Model) (a : ℕ) → IsModel m → is_exact_mode m 1 ≡ true → IsBestConstant m a
+    → HasTextNumbers (constant_certificate m a)
+numbers m a ok e best =
+    let value = constant_value_fits m ok e a best.below in
+    record {
+      horizon = (omega arith, omega arith, omega arith, tt);
+      look = (omega arith, omega arith, omega arith, tt);
+      unit = unit_fits m ok e;
+      lower = value;
+      upper = value;
+      inner = (omega arith, omega arith, omega arith, tt);
+      tree = ((value, tt), tt);
+    }
+
+-- The certificate of the best constant policy has a text.
+pub best_constant_has_text : (m : Model) (a : ℕ) → IsModel m → is_exact_mode m 1 ≡ true → IsBestConstant m a
+    → IsCertificateText m (certificate_text m.actions m.observations (constant_certificate m a)) (constant_certificate m a)
+best_constant_has_text m a ok e best =
+    certificate_has_text m ok (constant_certificate m a) (numbers m a ok e best) (constant_policy_fits m ok 1 a best.below)
