@@ -7,11 +7,11 @@ use Rattle.dp_spec.specs.Arithmetic.{Arithmetic, point, span_add}
 
 -- what a computed number says of a true number over a scale
 pub record Enclosure : Type 1 where
-  -- of the scale and the weight the span
+  -- the span encloses the weight over the scale
   pub Weighs : ℕ → ℕ → Span → Type 0
-  -- of the scale and the reward the span
+  -- the span encloses the reward over the scale
   pub Earns : ℕ → ℤ → Span → Type 0
-  -- of the scale and the number the number from above
+  -- the number is at or above the true one over the scale
   pub Tops : ℕ → ℤ → ℤ → Type 0
   -- what values over a scale are counted in
   pub unit : ℕ → ℕ
@@ -65,6 +65,7 @@ containment = record {
   unit = λ F. 10 ^ 9;
 }
 
+-- the enclosure that the arithmetic of a mode keeps: equality in exact mode, and else containment
 abbrev pub enclosure : Bool → Enclosure
 enclosure true = equality
 enclosure false = containment
