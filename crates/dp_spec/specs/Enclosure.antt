@@ -42,7 +42,7 @@ pub record IsSound (m : Model) (A : Arithmetic) (R : Enclosure) : Type 0 where
   -- what it says of values counted in the unit
   pub reads : (F : ℕ) (x v : ℤ) → R.Tops F x v → (x *ℤ pos (R.unit F)) ≤ℤ (v *ℤ pos F)
 
--- ---- the true number itself
+-- every computed number is the true number itself
 abbrev pub equality : Enclosure
 equality = record {
   Weighs = λ T w s. s ≡ point (pos w);
@@ -56,7 +56,7 @@ pub record Encloses (T u : ℕ) (x : ℤ) (s : Span) : Type 0 where
   pub from : (s.low *ℤ pos T) ≤ℤ (x *ℤ pos u)
   pub to : (x *ℤ pos u) ≤ℤ (s.high *ℤ pos T)
 
--- ---- a span round it, weights in 10^-12 and values in 10^-9
+-- every computed span holds the true number; weights are counted in 10^-12 and values in 10^-9
 abbrev pub containment : Enclosure
 containment = record {
   Weighs = λ T w s. Encloses T (10 ^ 12) (pos w) s;
