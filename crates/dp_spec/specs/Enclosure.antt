@@ -56,7 +56,7 @@ pub record Encloses (T u : ℕ) (x : ℤ) (s : Span) : Type 0 where
   pub from : (s.low *ℤ pos T) ≤ℤ (x *ℤ pos u)
   pub to : (x *ℤ pos u) ≤ℤ (s.high *ℤ pos T)
 
--- every computed span holds the true number; weights are counted in 10^-12 and values in 10^-9
+-- spans hold the true numbers and bounds are at or above them; weights are in 10^-12 and values in 10^-9
 abbrev pub containment : Enclosure
 containment = record {
   Weighs = λ T w s. Encloses T (10 ^ 12) (pos w) s;
