@@ -21,11 +21,12 @@ use Rattle.dp_cli.specs.declared.refusal.Refusal.TheVariants as refusals
 use Rattle.dp_cli.specs.declared.status.Status.{Status}
 use Rattle.dp_cli.specs.declared.status.Status.TheVariants as statuses
 
--- the most bytes of a file, and the limit that a longer one passes
+-- the most bytes of a file of each role
 abbrev pub most_bytes : FileRole → ℕ
 most_bytes Model = 2 ^ 26
 most_bytes Second = 2 ^ 28
 
+-- the limit that a file of each role passes where it is longer than it may be
 abbrev pub role_limit : FileRole → Limit
 role_limit Model = ModelBytes
 role_limit Second = FileBytes
@@ -51,6 +52,7 @@ model_refusal (model_faults.At line column why) = refusals.BadModel line column 
 model_refusal (model_faults.TooLarge passed) = refusals.TooLarge passed
 model_refusal model_faults.Memory = refusals.Memory
 
+-- the exit status of each refusal
 abbrev pub refusal_status : Refusal → Status
 refusal_status refusals.Usage = statuses.Usage
 refusal_status (refusals.BadModel line column why) = statuses.BadModel
@@ -74,10 +76,12 @@ abbrev pub read_line : FileRole → List ℕ
 read_line Model = codes "refused read 1\n"
 read_line Second = codes "refused read 2\n"
 
+-- the line for a job of a part that is not built
 abbrev pub unbuilt_line : UnbuiltPart → List ℕ
 unbuilt_line Horizon = codes "refused unbuilt horizon\n"
 unbuilt_line Outward = codes "refused unbuilt outward\n"
 
+-- the line that a refusal prints
 abbrev pub refusal_line : Refusal → List ℕ
 refusal_line refusals.Usage = codes "refused usage\n"
 refusal_line (refusals.BadModel line column why) = model_line line column why

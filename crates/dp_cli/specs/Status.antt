@@ -3,6 +3,7 @@ use Rattle.std.specs.Prelude.{ℕ}
 use Rattle.dp_cli.specs.declared.status.Status.{Status}
 use Rattle.dp_cli.specs.declared.status.Status.TheVariants as statuses
 
+-- the number of each exit status
 abbrev pub status_code : Status → ℕ
 status_code statuses.Done = 0
 status_code statuses.Rejected = 1

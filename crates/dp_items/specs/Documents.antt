@@ -14,6 +14,7 @@ pub record ItemsOfText : Type 0 where
   pub items : List Item
   pub end : ℕ
 
+-- the lines and items of a text that ends at `end`
 abbrev pub with_end : ℕ → Items → ItemsOfText
 with_end end items = record { before = items.before; items = items.items; end = end }
 

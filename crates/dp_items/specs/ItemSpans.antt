@@ -6,13 +6,15 @@ use Rattle.dp_items.specs.declared.item_span.ItemSpan.{ItemSpan}
 use Rattle.dp_items.specs.declared.item_span.ItemSpans.{ItemSpans}
 use Rattle.dp_items.specs.Lines.{line_of, item_of, IsItem}
 
+-- an empty stretch, in the place of a line that is not there
 abbrev pub no_line : LineSpan
 no_line = record { first = 0; past = 0; ends = 0 }
 
--- the first line of an item, and the lines behind it
+-- the first line of an item
 abbrev pub first_of : List LineSpan → ItemSpan → LineSpan
 first_of lines span = slice_index_or lines span.line no_line
 
+-- the lines behind the first line of an item
 abbrev pub more_of : List LineSpan → ItemSpan → List LineSpan
 more_of lines span = slice_range lines (span.line + 1) span.lines_past
 

@@ -5,6 +5,7 @@ use Rattle.dp_lexer.specs.declared.Kind.TheVariants.{LineEnd}
 use Rattle.dp_meaning.specs.Items.{Piece, Line, Item, begins_item, has_pieces, lines_of}
 use Rattle.dp_items.specs.declared.line.LineSpan.{LineSpan}
 
+-- whether a token is no line end
 abbrev pub is_no_line_end : Kind → Bool
 is_no_line_end LineEnd = false
 is_no_line_end _ = true
@@ -28,6 +29,7 @@ abbrev pub AreOneRun : ℕ → List LineSpan → ℕ → Type 0
 AreOneRun from [] past = from ≡ past
 AreOneRun from (span ∷ spans) past = BeginsAt from span × AreOneRun span.past spans past
 
+-- a stretch alone, or none where it has no pieces
 abbrev pub unless_empty : LineSpan → List LineSpan
 unless_empty span = if nat_lt span.first span.past then span ∷ [] else []
 

@@ -15,9 +15,11 @@ pub record WeighAlike (m : Model) (F G : Front) : Type 0 where
   pub places : (i c x s : ℕ) → place_weight m F i c x s ≡ place_weight m G i c x s
   pub totals : (i c : ℕ) → class_total m F i c ≡ class_total m G i c
 
+-- a front after a choice and the front before it weigh alike
 abbrev pub ChoosingChangesNoWeight : Type 0
 ChoosingChangesNoWeight = (m : Model) (F : Front) (i c a : ℕ) → WeighAlike m (chosen_front F i c a) F
 
+-- two classes are equivalent after a choice if and only if they are before it
 abbrev pub EquivalenceIgnoresChoices : Type 0
 EquivalenceIgnoresChoices =
     (m : Model) (F : Front) (i c a j first second : ℕ) →

@@ -14,6 +14,7 @@ pub record FollowsAgentFront (b n f r : ℕ) (d : AgentFront) (q : PolicyTree) (
   pub in_range : (x : ℕ) → x < n ^ f → get_or d.class_of x 0 < length d.chosen
   pub of_stage : length d.fixed ≡ f
 
+-- each tree of a joint policy follows its agent's part of a front of stage f, over the r steps that remain
 pub data FollowsAgentFronts (f r : ℕ) : List ℕ → List ℕ → List AgentFront → List PolicyTree → List (ℕ → PolicyTree) → Type 0 where
   no_agents : FollowsAgentFronts f r [] [] [] [] []
   and_agent : {b n : ℕ} {bs ns : List ℕ} {d : AgentFront} {ds : List AgentFront} {q : PolicyTree} {qs : List PolicyTree} {us : ℕ → PolicyTree} {uss : List (ℕ → PolicyTree)} →

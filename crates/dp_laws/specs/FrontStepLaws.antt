@@ -15,20 +15,20 @@ ChoosingKeepsWellFormed =
     a < get_or m.actions i 0 →
     IsFront m h (chosen_front F i c a)
 
--- where a complete front goes on to the next stage
+-- a well-formed front stays so where it is complete and goes on to the next stage
 abbrev pub AdvancingKeepsWellFormed : Type 0
 AdvancingKeepsWellFormed =
     (m : Model) (h : ℕ) (F : Front) → IsFront m h F → F.stage < h → is_complete F.agents ≡ true →
     IsFront m h (advanced_front m F)
 
--- where two unassigned classes are merged
+-- a well-formed front stays so where two unassigned classes of one agent are merged
 abbrev pub MergingKeepsWellFormed : Type 0
 MergingKeepsWellFormed =
     (m : Model) (h : ℕ) (F : Front) (i a b : ℕ) → IsFront m h F → F.stage < h → a < b → IsUnassigned i a F.agents →
     IsUnassigned i b F.agents →
     IsFront m h (merged_front F i a b)
 
--- after a choice, and the advance where it follows
+-- a well-formed front stays so after a choice, and after the advance where it follows
 abbrev pub FrontAfterChoiceIsWellFormed : Type 0
 FrontAfterChoiceIsWellFormed =
     (m : Model) (h : ℕ) (F : Front) (i c a : ℕ) → IsFront m h F → F.stage < h → IsUnassigned i c F.agents →

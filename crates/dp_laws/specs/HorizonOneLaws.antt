@@ -13,7 +13,7 @@ abbrev pub ConstantPolicyIsPolicy : Type 0
 ConstantPolicyIsPolicy =
     (m : Model) → IsModel m → (h a : ℕ) → a < joint_actions m → IsPolicyOf m h (constant_policy m h a)
 
--- with any look
+-- at one step the bound of the root front, with any look, is the greatest value of a constant policy
 abbrev pub RootBoundIsBestConstantAction : Type 0
 RootBoundIsBestConstantAction =
     (m : Model) → IsModel m → (look : ℕ) →

@@ -14,25 +14,25 @@ use Rattle.dp_spec.specs.SizesOfTable.{CanTabulate}
 
 -- ---- from any weights within the sum bound, up to a horizon of 24
 
--- the next weights
+-- the weights of the next time are computed by allowed calls
 abbrev pub ModeAllowsPushes : Type 0
 ModeAllowsPushes =
     (m : Model) → IsModel m → (h : ℕ) → 0 < h → h ≤ 24 → (e : Bool) → e ≡ is_exact_mode m h →
     CanPush (arithmetic e m.scales) (calls_in e m.scales) m h
 
--- the reward of a joint action
+-- the reward of a joint action is computed by allowed calls
 abbrev pub ModeAllowsRewards : Type 0
 ModeAllowsRewards =
     (m : Model) → IsModel m → (h : ℕ) → 0 < h → h ≤ 24 → (e : Bool) → e ≡ is_exact_mode m h →
     CanReward (arithmetic e m.scales) (calls_in e m.scales) m h
 
--- the table of the Markov decision process
+-- the table of the Markov decision process is computed by allowed calls
 abbrev pub ModeAllowsTable : Type 0
 ModeAllowsTable =
     (m : Model) → IsModel m → (h : ℕ) → 0 < h → h ≤ 24 → (e : Bool) → e ≡ is_exact_mode m h →
     CanTabulate (arithmetic e m.scales) (calls_in e m.scales) m h
 
--- look-ahead
+-- look-ahead is computed by allowed calls
 abbrev pub ModeAllowsLookAhead : Type 0
 ModeAllowsLookAhead =
     (m : Model) → IsModel m → (h : ℕ) → 0 < h → h ≤ 24 → (e : Bool) → e ≡ is_exact_mode m h →
@@ -47,31 +47,31 @@ HistoryWeightsAreWithinBound =
 
 -- ---- sums along joint histories, in outward mode within the limit of stage cells
 
--- what is earned
+-- what is earned can be added up
 abbrev pub ModeAllowsEarnings : Type 0
 ModeAllowsEarnings =
     (m : Model) → IsModel m → (h : ℕ) → 0 < h → h ≤ 24 → (e : Bool) → e ≡ is_exact_mode m h →
     (e ≡ false → m.states * joint_observations m ^ (h - 1) ≤ 2 ^ 22) → CanEarn (arithmetic e m.scales) m h
 
--- the worth of a joint policy
+-- the worth of a joint policy can be added up
 abbrev pub ModeAllowsWorth : Type 0
 ModeAllowsWorth =
     (m : Model) → IsModel m → (h : ℕ) → 0 < h → h ≤ 24 → (e : Bool) → e ≡ is_exact_mode m h →
     (e ≡ false → m.states * joint_observations m ^ (h - 1) ≤ 2 ^ 22) → CanEvaluate (arithmetic e m.scales) m h
 
--- the weights of joint classes
+-- the weights of joint classes can be added up
 abbrev pub ModeAllowsClassWeights : Type 0
 ModeAllowsClassWeights =
     (m : Model) → IsModel m → (h : ℕ) → 0 < h → h ≤ 24 → (e : Bool) → e ≡ is_exact_mode m h →
     (e ≡ false → m.states * joint_observations m ^ (h - 1) ≤ 2 ^ 22) → CanClassify (arithmetic e m.scales) m h
 
--- the bound of a front
+-- the bound of a front can be added up
 abbrev pub ModeAllowsBounds : Type 0
 ModeAllowsBounds =
     (m : Model) → IsModel m → (h : ℕ) → 0 < h → h ≤ 24 → (e : Bool) → e ≡ is_exact_mode m h →
     (e ≡ false → m.states * joint_observations m ^ (h - 1) ≤ 2 ^ 22) → CanBound (arithmetic e m.scales) m h
 
--- the advance of a front
+-- what the advance of a front adds can be added up
 abbrev pub ModeAllowsAdvances : Type 0
 ModeAllowsAdvances =
     (m : Model) → IsModel m → (h : ℕ) → 0 < h → h ≤ 24 → (e : Bool) → e ≡ is_exact_mode m h →

@@ -9,51 +9,58 @@ pub fn mode_allows_pushes()
     ensures { ModeAllowsPushes }
 {}
 
-/// So is the reward of a joint action.
+/// In either mode the reward of a joint action, from weights within the sum bound, is computed by
+/// allowed calls and within 127 bits with a sign.
 #[tactic(auto, using(crate::proofs::SizeLaws::mode_can_reward))]
 pub fn mode_allows_rewards()
     ensures { ModeAllowsRewards }
 {}
 
-/// So is the table of the Markov decision process.
+/// In either mode the table of the Markov decision process is computed by allowed calls and within
+/// 127 bits with a sign.
 #[tactic(auto, using(crate::proofs::SizeLaws::mode_can_tabulate))]
 pub fn mode_allows_table()
     ensures { ModeAllowsTable }
 {}
 
-/// So is look-ahead.
+/// In either mode look-ahead, from weights within the sum bound, is computed by allowed calls and
+/// within 127 bits with a sign.
 #[tactic(auto, using(crate::proofs::SizeLaws::mode_can_look_ahead))]
 pub fn mode_allows_look_ahead()
     ensures { ModeAllowsLookAhead }
 {}
 
-/// The weights of a joint history are within the sum bound of its time.
+/// In either mode the weights of a joint history are within the sum bound of its time.
 pub fn history_weights_are_within_bound()
     ensures { HistoryWeightsAreWithinBound }
 {}
 
-/// What is earned along joint histories can be added up: in exact mode always, and in outward
-/// mode within the limit of stage cells.
+/// In exact mode always, and in outward mode within the limit of stage cells, what is earned along
+/// joint histories can be added up.
 pub fn mode_allows_earnings()
     ensures { ModeAllowsEarnings }
 {}
 
-/// So can the worth of a joint policy.
+/// In exact mode always, and in outward mode within the limit of stage cells, the worth of a joint
+/// policy can be added up.
 pub fn mode_allows_worth()
     ensures { ModeAllowsWorth }
 {}
 
-/// So can the weights of joint classes.
+/// In exact mode always, and in outward mode within the limit of stage cells, the weights of joint
+/// classes can be added up.
 pub fn mode_allows_class_weights()
     ensures { ModeAllowsClassWeights }
 {}
 
-/// So can the bound of a front.
+/// In exact mode always, and in outward mode within the limit of stage cells, the bound of a front
+/// can be added up.
 pub fn mode_allows_bounds()
     ensures { ModeAllowsBounds }
 {}
 
-/// So can what the advance of a front adds up.
+/// In exact mode always, and in outward mode within the limit of stage cells, what the advance of a
+/// front adds can be added up.
 pub fn mode_allows_advances()
     ensures { ModeAllowsAdvances }
 {}

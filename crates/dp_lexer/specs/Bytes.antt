@@ -3,25 +3,31 @@ use Rattle.std.specs.Prelude.{ℕ, ◌+◌, Bool, not, ◌||◌, ◌==◌, List,
 use Rattle.std.specs.List.{after_last}
 use Rattle.dp_num.specs.Bytes.{is_name_byte}
 
--- the bytes, by name
+-- a tab, a blank
 abbrev pub tab : ℕ
 tab = 9
 
+-- a line feed, which ends a line
 abbrev pub line_feed : ℕ
 line_feed = 10
 
+-- a carriage return, a blank
 abbrev pub carriage_return : ℕ
 carriage_return = 13
 
+-- a space, a blank
 abbrev pub space : ℕ
 space = 32
 
+-- `#`, which begins a comment
 abbrev pub hash : ℕ
 hash = 35
 
+-- `*`, which stands for all items of a list
 abbrev pub star : ℕ
 star = 42
 
+-- `:`, which stands behind the first token of an item and behind each field of a statement
 abbrev pub colon : ℕ
 colon = 58
 
@@ -29,10 +35,11 @@ colon = 58
 abbrev pub is_blank : ℕ → Bool
 is_blank b = (b == space || b == tab) || b == carriage_return
 
--- a line feed, and any other byte
+-- whether a byte is a line feed
 abbrev pub is_line_feed : ℕ → Bool
 is_line_feed b = b == line_feed
 
+-- whether a byte is no line feed
 abbrev pub is_no_line_feed : ℕ → Bool
 is_no_line_feed b = not (is_line_feed b)
 
@@ -45,9 +52,10 @@ is_in_alphabet b =
 abbrev pub last_line : List ℕ → List ℕ
 last_line text = after_last is_line_feed text
 
--- The line and the column of the byte at an offset. Both count from 1, and columns count bytes.
+-- the line of the byte at an offset, from 1 on
 abbrev pub line_at : List ℕ → ℕ → ℕ
 line_at text at = 1 + count_by is_line_feed (take at text)
 
+-- the column of the byte at an offset, in bytes of its line, from 1 on
 abbrev pub column_at : List ℕ → ℕ → ℕ
 column_at text at = 1 + length (last_line (take at text))

@@ -16,10 +16,11 @@ offsets text = range_with_len 0 (length text)
 abbrev pub is_kept : List ℕ → ℕ → Bool
 is_kept text at = not (is_in_comment text at || is_blank (slice_index text at))
 
--- the offsets of what is left of a text without blanks and comments, and that text
+-- the offsets of what is left of a text without blanks and comments
 abbrev pub kept_offsets : List ℕ → List ℕ
 kept_offsets text = filter (is_kept text) (offsets text)
 
+-- what is left of a text without blanks and comments
 abbrev pub without_blanks_and_comments : List ℕ → List ℕ
 without_blanks_and_comments text = map (slice_index text) (kept_offsets text)
 

@@ -12,10 +12,11 @@ use Rattle.dp_lexer.specs.Bytes.{line_feed, colon, star, line_at}
 use Rattle.dp_lexer.specs.Comments.{kept_offsets, without_blanks_and_comments, first_bad}
 use Rattle.dp_lexer.specs.Tokens.{tokens_of}
 
--- the bytes of a token, and the offsets at which they stand
+-- the bytes of a token
 abbrev pub slice_of : List ℕ → Token → List ℕ
 slice_of text token = slice_range text token.start token.end
 
+-- the offsets at which the bytes of a token stand
 abbrev pub offsets_of : Token → List ℕ
 offsets_of token = range_with_len token.start (token.end - token.start)
 

@@ -20,6 +20,7 @@ Cell = List ℕ
 
 -- ---- which statement counts
 
+-- a part allows the number n of its list
 abbrev pub allows : Part → ℕ → Bool
 allows Any n = true
 allows (Only m) n = m == n
@@ -35,6 +36,7 @@ abbrev pub covers : List Axis → List (List Part) → Cell → Bool
 covers (axis ∷ axes) (parts ∷ fields) (n ∷ cell) = allow parts (parts_of (map size_of axis) n) && covers axes fields cell
 covers _ _ _ = true
 
+-- the tables are the same
 abbrev pub is_same_table : Table → Table → Bool
 is_same_table Trans Trans = true
 is_same_table Obs Obs = true
@@ -82,16 +84,20 @@ given_reward cost scale sizes fields cell _ = pos 0
 
 -- ---- the value of a cell, which is 0 where no statement covers it
 
+-- the chance, over the scale, that a statement of the table gives the cell, or 0 without a statement
 abbrev pub chance_by : ℕ → List Axis → Cell → Option Statement → ℕ
 chance_by scale axes cell (Some s) = given_chance scale (map axis_size axes) (length s.fields) cell s.value
 chance_by scale axes cell None = 0
 
+-- the chance of a cell, over the scale, by all statements of its table
 unfoldable pub chance_of_cell : ℕ → List Axis → List Statement → Cell → ℕ
 chance_of_cell scale axes statements cell = chance_by scale axes cell (last_covering axes statements cell)
 
+-- the reward, over the scale, that a statement of the table gives the cell, or 0 without a statement
 abbrev pub reward_by : Bool → ℕ → List Axis → Cell → Option Statement → ℤ
 reward_by cost scale axes cell (Some s) = given_reward cost scale (map axis_size axes) (length s.fields) cell s.value
 reward_by cost scale axes cell None = pos 0
 
+-- the reward of a cell, over the scale, by all statements of its table; costs are negated
 unfoldable pub reward_of_cell : Bool → ℕ → List Axis → List Statement → Cell → ℤ
 reward_of_cell cost scale axes statements cell = reward_by cost scale axes cell (last_covering axes statements cell)

@@ -45,6 +45,7 @@ is_state_index states piece = is_index piece.text && (not (states == 1) || says 
 abbrev pub is_one_state : ℕ → Piece → List Piece → Bool
 is_one_state states piece more = is_name piece.text || (length more == 0 && is_state_index states piece)
 
+-- the value of `start`: `uniform`, one state, or a row of one chance for each state
 unfoldable pub start_of : GivenList → ℕ → List Piece → Result Start Fault
 start_of states next [] = fault Expected next
 start_of states next (piece ∷ pieces) =

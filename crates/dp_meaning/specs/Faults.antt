@@ -4,11 +4,13 @@ use Rattle.dp_meaning.specs.declared.why.Fault.{Fault}
 use Rattle.dp_meaning.specs.declared.why.Why.{Why}
 use Rattle.dp_meaning.specs.declared.why.Why.TheVariants as whys
 
+-- the step f on what the step before it has read, or the fault of that step
 infixl 10 ◌>>=◌
 abbrev pub ◌>>=◌ : {A B : Type 0} → Result A Fault → (A → Result B Fault) → Result B Fault
 (Ok x) >>= f = f x
 (Err e) >>= f = Err e
 
+-- a step that fails at this offset, and why
 abbrev pub fault : {A : Type 0} → Why → ℕ → Result A Fault
 fault why at = Err (record { at = at; why = why })
 

@@ -20,6 +20,7 @@ pub record Fields : Type 0 where
   pub fields : List Field
   pub rest : List Piece
 
+-- one more piece in front, of the first field, or where there is no field of the rest
 abbrev pub in_first_field : Piece → List Field → List Piece → Fields
 in_first_field piece [] rest = record { fields = []; rest = piece ∷ rest }
 in_first_field piece (field ∷ fields) rest =
@@ -30,6 +31,7 @@ abbrev pub with_field_piece : Bool → Piece → Fields → Fields
 with_field_piece true piece others = record others { fields = record { pieces = []; colon = piece.at } ∷ others.fields }
 with_field_piece false piece others = in_first_field piece others.fields others.rest
 
+-- the fields of the pieces of a line, each of which ends at a Colon, and what stands after the last Colon
 unfoldable pub fields_of : List Piece → Fields
 fields_of [] = record { fields = []; rest = [] }
 fields_of (piece ∷ pieces) = with_field_piece (is_colon piece.kind) piece (fields_of pieces)
@@ -41,6 +43,7 @@ fields_of (piece ∷ pieces) = with_field_piece (is_colon piece.kind) piece (fie
 abbrev pub Axis : Type 0
 Axis = List GivenList
 
+-- what a piece allows of a list: a Star all of it, a name or an index one number
 unfoldable pub part_of : GivenList → Piece → Result Part Fault
 part_of list piece = if is_star piece.kind then Ok Any else (find_in list piece >>= λ n. Ok (Only n))
 
@@ -53,6 +56,7 @@ parts_in (list ∷ lists) field (piece ∷ pieces) = do
   others ← parts_in lists field pieces
   Ok (first ∷ others)
 
+-- the pieces are a Star alone
 abbrev pub is_one_star : List Piece → Bool
 is_one_star (piece ∷ []) = is_star piece.kind
 is_one_star _ = false

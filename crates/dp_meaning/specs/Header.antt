@@ -17,6 +17,7 @@ use Rattle.dp_meaning.specs.Entries.{discount_of, is_cost, agent_lines, start_of
 
 -- ---- what an item is, by its first token
 
+-- what an item is, by the text of its first token
 abbrev pub item_words : List (List ℕ × ItemKind)
 item_words =
     (codes "agents", HeaderEntry Agents) ∷ (codes "discount", HeaderEntry Discount) ∷ (codes "values", HeaderEntry Values)
@@ -24,19 +25,23 @@ item_words =
     ∷ (codes "observations", HeaderEntry Observations)
     ∷ (codes "T", StatementOf Trans) ∷ (codes "O", StatementOf Obs) ∷ (codes "R", StatementOf Reward) ∷ []
 
+-- what an item is by the first such word that is its text, and no item without one
 abbrev pub kind_in : List (List ℕ × ItemKind) → List ℕ → ItemKind
 kind_in [] text = NoItem
 kind_in (word ∷ words) text = if bytes_eq word.0 text then word.1 else kind_in words text
 
+-- what an item is, by the pieces of its first line
 abbrev pub kind_of_pieces : List Piece → ItemKind
 kind_of_pieces [] = NoItem
 kind_of_pieces (piece ∷ _) = kind_in item_words piece.text
 
+-- what an item is
 unfoldable pub kind_of : Item → ItemKind
 kind_of item = kind_of_pieces item.first.pieces
 
 -- ---- the entries
 
+-- no entry has come yet
 abbrev pub no_entries : Entries
 no_entries = record { agents = None; discount = None; cost = None; states = None; start = None; actions = None; observations = None }
 

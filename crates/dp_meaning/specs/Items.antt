@@ -11,13 +11,16 @@ pub record Piece : Type 0 where
   pub kind : Kind
   pub text : List ℕ
 
+-- the piece of a token of these bytes
 abbrev pub piece_of : List ℕ → Token → Piece
 piece_of bytes token = record { at = token.start; kind = token.kind; text = slice_range bytes token.start token.end }
 
+-- whether a token is a Colon
 abbrev pub is_colon : Kind → Bool
 is_colon Colon = true
 is_colon _ = false
 
+-- whether a token is a Star
 abbrev pub is_star : Kind → Bool
 is_star Star = true
 is_star _ = false
@@ -29,6 +32,7 @@ pub record Line : Type 0 where
   pub pieces : List Piece
   pub ends : ℕ
 
+-- the pieces of a line
 abbrev pub pieces_of : Line → List Piece
 pieces_of line = line.pieces
 
@@ -61,6 +65,7 @@ pub record Items : Type 0 where
   pub before : List Line
   pub items : List Item
 
+-- a line begins an item where its second piece is a Colon
 abbrev pub begins_item : List Piece → Bool
 begins_item (first ∷ second ∷ _) = is_colon second.kind
 begins_item _ = false
@@ -70,6 +75,7 @@ abbrev pub first_at : ℕ → List Piece → ℕ
 first_at end [] = end
 first_at end (piece ∷ _) = piece.at
 
+-- where the first of these items begins, or `end`
 abbrev pub first_item_at : ℕ → List Item → ℕ
 first_item_at end [] = end
 first_item_at end (item ∷ _) = first_at end item.first.pieces
@@ -80,6 +86,7 @@ with_line end true line others =
     record { before = []; items = record { first = line; more = others.before; next = first_item_at end others.items } ∷ others.items }
 with_line end false line others = record others { before = line ∷ others.before }
 
+-- the items of the lines of a text that ends at `end`
 unfoldable pub items_of : ℕ → List Line → Items
 items_of end [] = record { before = []; items = [] }
 items_of end (line ∷ lines) = with_line end (begins_item line.pieces) line (items_of end lines)

@@ -36,5 +36,6 @@ tried_limits text =
     ∷ at_most limits.Scale scales.obs (2 ^ 62)
     ∷ []
 
+-- the first limit that a text passes, in the order in which they are tried, with its count
 unfoldable pub passed_limit : Text → Option TooLarge
 passed_limit text = first_passed (tried_limits text)

@@ -28,6 +28,7 @@ use Rattle.dp_meaning.specs.Limits.{passed_limit}
 
 -- ---- the text
 
+-- the pieces of the tokens of these bytes, or the fault of a bad byte
 abbrev pub pieces_of_tokens : List ℕ → Result (List Token) ℕ → Result (List Piece) Fault
 pieces_of_tokens bytes (Ok tokens) = Ok (map (piece_of bytes) tokens)
 pieces_of_tokens bytes (Err at) = fault BadByte at
@@ -111,14 +112,17 @@ pub record Place : Type 0 where
   pub line : ℕ
   pub column : ℕ
 
+-- what a model file may mean: a model, or one fault and its place, or one passed limit with its count
 pub data Meaning : Type 0 where
   Means : ReadModel → Meaning
   FaultAt : Place → Why → Meaning
   Passes : TooLarge → Meaning
 
+-- the place of the byte at an offset
 abbrev pub place_at : List ℕ → ℕ → Place
 place_at bytes at = record { line = line_at bytes at; column = column_at bytes at }
 
+-- what a file means whose text passes no limit: its model, or the fault of a row
 abbrev pub meaning_of_model : List ℕ → Result ReadModel Fault → Meaning
 meaning_of_model bytes (Ok r) = Means r
 meaning_of_model bytes (Err e) = FaultAt (place_at bytes e.at) e.why
@@ -128,9 +132,11 @@ abbrev pub meaning_within : List ℕ → Text → Option TooLarge → Meaning
 meaning_within bytes text (Some passed) = Passes passed
 meaning_within bytes text None = meaning_of_model bytes (model_of (length bytes) text)
 
+-- what a file means that says a text, or in which reading failed
 abbrev pub meaning_of_text : List ℕ → Result Text Fault → Meaning
 meaning_of_text bytes (Ok text) = meaning_within bytes text (passed_limit text)
 meaning_of_text bytes (Err e) = FaultAt (place_at bytes e.at) e.why
 
+-- what a model file means
 unfoldable pub meaning : List ℕ → Meaning
 meaning bytes = meaning_of_text bytes (text_of bytes)

@@ -32,19 +32,21 @@ some_covers axes statements cell = list_any (λ s. covers axes s.fields cell) st
 abbrev pub IsUncovered : Text → Table → Cell → Type 0
 IsUncovered text table cell = some_covers (axes_of text.header table) (statements_for table text.statements) cell ≡ false
 
--- Cells that no statement covers are 0, also in rows that were repaired.
+-- Chances of transitions that no statement covers are 0, also in rows that were repaired.
 abbrev pub UncoveredTransitionsAreZero : Type 0
 UncoveredTransitionsAreZero =
     (bytes : List ℕ) (text : Text) (r : ReadModel) → IsMeant bytes text r →
     (a s t : ℕ) → a < joint_actions r.model.model → s < r.model.model.states → t < r.model.model.states →
     IsUncovered text Trans (a ∷ s ∷ t ∷ []) → trans_at r.model.model a s t ≡ 0
 
+-- Chances of observations that no statement covers are 0, also in rows that were repaired.
 abbrev pub UncoveredObservationsAreZero : Type 0
 UncoveredObservationsAreZero =
     (bytes : List ℕ) (text : Text) (r : ReadModel) → IsMeant bytes text r →
     (a t o : ℕ) → a < joint_actions r.model.model → t < r.model.model.states → o < joint_observations r.model.model →
     IsUncovered text Obs (a ∷ t ∷ o ∷ []) → obs_at r.model.model a t o ≡ 0
 
+-- Rewards that no statement covers are 0.
 abbrev pub UncoveredRewardsAreZero : Type 0
 UncoveredRewardsAreZero =
     (bytes : List ℕ) (text : Text) (r : ReadModel) → IsMeant bytes text r →
@@ -52,26 +54,28 @@ UncoveredRewardsAreZero =
     → o < joint_observations r.model.model →
     IsUncovered text Reward (a ∷ s ∷ t ∷ o ∷ []) → reward_at r.model.model a s t o ≡ pos 0
 
--- A statement that covers a cell gives its value, whatever stands before it, where no later one covers the cell.
+-- A statement that covers a chance gives it, whatever stands before it, where no later one covers the chance.
 abbrev pub LastCoveringChanceWins : Type 0
 LastCoveringChanceWins =
     (scale : ℕ) (axes : List Axis) (before : List Statement) (s : Statement) (after : List Statement) (cell : Cell) →
     covers axes s.fields cell ≡ true → some_covers axes after cell ≡ false →
     chance_of_cell scale axes (before ++ s ∷ after) cell ≡ given_chance scale (map axis_size axes) (length s.fields) cell s.value
 
+-- A statement that covers a reward gives it, whatever stands before it, where no later one covers the reward.
 abbrev pub LastCoveringRewardWins : Type 0
 LastCoveringRewardWins =
     (cost : Bool) (scale : ℕ) (axes : List Axis) (before : List Statement) (s : Statement) (after : List Statement) (cell : Cell) →
     covers axes s.fields cell ≡ true → some_covers axes after cell ≡ false →
     reward_of_cell cost scale axes (before ++ s ∷ after) cell ≡ given_reward cost scale (map axis_size axes) (length s.fields) cell s.value
 
--- A statement that does not cover a cell changes nothing of it, wherever it stands.
+-- A statement that does not cover a chance changes nothing of it, wherever it stands.
 abbrev pub OtherChancesAreKept : Type 0
 OtherChancesAreKept =
     (scale : ℕ) (axes : List Axis) (before : List Statement) (s : Statement) (after : List Statement) (cell : Cell) →
     covers axes s.fields cell ≡ false →
     chance_of_cell scale axes (before ++ s ∷ after) cell ≡ chance_of_cell scale axes (before ++ after) cell
 
+-- A statement that does not cover a reward changes nothing of it, wherever it stands.
 abbrev pub OtherRewardsAreKept : Type 0
 OtherRewardsAreKept =
     (cost : Bool) (scale : ℕ) (axes : List Axis) (before : List Statement) (s : Statement) (after : List Statement) (cell : Cell) →
@@ -80,18 +84,20 @@ OtherRewardsAreKept =
 
 -- ---- the tables of the model
 
--- the chance of a cell, and its reward, as the statements of a text give it
+-- the chance of a transition, as the statements of a text give it
 abbrev pub given_trans : Text → Cell → ℕ
 given_trans text cell = chance_of_cell (scales_of text).trans (axes_of text.header Trans) (statements_for Trans text.statements) cell
 
+-- the chance of an observation, as the statements of a text give it
 abbrev pub given_obs : Text → Cell → ℕ
 given_obs text cell = chance_of_cell (scales_of text).obs (axes_of text.header Obs) (statements_for Obs text.statements) cell
 
+-- the reward of a cell, as the statements of a text give it
 abbrev pub given_rewards : Text → Cell → ℤ
 given_rewards text cell = reward_of_cell text.header.cost (scales_of text).reward (axes_of text.header Reward)
     (statements_for Reward text.statements) cell
 
--- A row whose chances sum to their scale stands in the model as it is given.
+-- A row of transitions whose chances sum to their scale stands in the model as it is given.
 abbrev pub RightTransitionsAreKept : Type 0
 RightTransitionsAreKept =
     (bytes : List ℕ) (text : Text) (r : ReadModel) → IsMeant bytes text r →
@@ -99,6 +105,7 @@ RightTransitionsAreKept =
     sum (map (given_trans text) (row_cells (a ∷ s ∷ []) r.model.model.states)) ≡ r.model.model.scales.trans →
     trans_at r.model.model a s t ≡ given_trans text (a ∷ s ∷ t ∷ [])
 
+-- A row of observations whose chances sum to their scale stands in the model as it is given.
 abbrev pub RightObservationsAreKept : Type 0
 RightObservationsAreKept =
     (bytes : List ℕ) (text : Text) (r : ReadModel) → IsMeant bytes text r →
@@ -106,13 +113,14 @@ RightObservationsAreKept =
     sum (map (given_obs text) (row_cells (a ∷ t ∷ []) (joint_observations r.model.model))) ≡ r.model.model.scales.obs →
     obs_at r.model.model a t o ≡ given_obs text (a ∷ t ∷ o ∷ [])
 
--- In any row the sum of what is given misses the scale by at most a thousandth of it, and all cells but the first
--- of the largest are as they are given.
+-- A row is nearly as it is given where the sum of what is given misses the scale by at most a thousandth of it, and
+-- all cells but the first of the largest are as they are given.
 abbrev pub IsNearlyGiven : ℕ → List ℕ → (ℕ → ℕ) → Type 0
 IsNearlyGiven scale given cell_at =
     (is_near scale (sum given) ≡ true)
     × ((i : ℕ) → i < length given → i ≢ greatest_place given → cell_at i ≡ get_or given i 0)
 
+-- Each row of transitions is nearly as it is given.
 abbrev pub TransitionsAreNearlyGiven : Type 0
 TransitionsAreNearlyGiven =
     (bytes : List ℕ) (text : Text) (r : ReadModel) → IsMeant bytes text r →
@@ -120,6 +128,7 @@ TransitionsAreNearlyGiven =
     IsNearlyGiven r.model.model.scales.trans (map (given_trans text) (row_cells (a ∷ s ∷ []) r.model.model.states))
     (trans_at r.model.model a s)
 
+-- Each row of observations is nearly as it is given.
 abbrev pub ObservationsAreNearlyGiven : Type 0
 ObservationsAreNearlyGiven =
     (bytes : List ℕ) (text : Text) (r : ReadModel) → IsMeant bytes text r →
@@ -127,6 +136,7 @@ ObservationsAreNearlyGiven =
     IsNearlyGiven r.model.model.scales.obs (map (given_obs text) (row_cells (a ∷ t ∷ []) (joint_observations r.model.model)))
     (obs_at r.model.model a t)
 
+-- The row of the start is nearly as it is given.
 abbrev pub StartIsNearlyGiven : Type 0
 StartIsNearlyGiven =
     (bytes : List ℕ) (text : Text) (r : ReadModel) → IsMeant bytes text r →

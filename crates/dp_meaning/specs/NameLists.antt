@@ -13,6 +13,7 @@ use Rattle.dp_meaning.specs.Faults.{◌>>=◌, fault}
 use Rattle.dp_meaning.specs.Items.{Piece}
 use Rattle.dp_meaning.specs.Numbers.{ended}
 
+-- how many items a list has
 abbrev pub size_of : GivenList → ℕ
 size_of (Counted n) = n
 size_of (Named names) = length names
@@ -63,6 +64,7 @@ name_lists next (suc agents) (line ∷ lines) = do
 
 -- ---- a name or an index that is looked up
 
+-- the number n where it is below the size, and else none
 abbrev pub if_below : ℕ → ℕ → Option ℕ
 if_below size n = if nat_lt n size then Some n else None
 
@@ -70,10 +72,12 @@ if_below size n = if nat_lt n size then Some n else None
 abbrev pub place_in : GivenList → Piece → Option ℕ
 place_in list piece = if is_index piece.text then if_below (size_of list) (index piece) else place_of (names_in list) piece.text
 
+-- the number that was found, or the fault of an unknown name at this offset
 abbrev pub found_at : ℕ → Option ℕ → Result ℕ Fault
 found_at at (Some n) = Ok n
 found_at at None = fault UnknownName at
 
+-- the number that an index or a name stands for in a list
 unfoldable pub find_in : GivenList → Piece → Result ℕ Fault
 find_in list piece =
     if is_index piece.text || is_name piece.text then found_at piece.at (place_in list piece) else fault Expected piece.at

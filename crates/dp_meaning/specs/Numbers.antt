@@ -28,6 +28,7 @@ number_in is_in_range at (Ok d) = if is_in_range d then Ok d else fault Number a
 number_in is_in_range at (Err Shape) = fault Expected at
 number_in is_in_range at (Err _) = fault Number at
 
+-- the number of a piece, where it is in range
 unfoldable pub number : (Decimal → Bool) → Piece → Result Decimal Fault
 number is_in_range piece = number_in is_in_range piece.at (decimal_of piece.text)
 

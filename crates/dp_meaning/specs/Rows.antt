@@ -25,6 +25,7 @@ pub record Row : Type 0 where
 
 -- ---- the row of the start
 
+-- the chance to start in state s, over the scale
 abbrev pub start_chance : ℕ → ℕ → Start → ℕ → ℕ
 start_chance scale states AnyState s = scale / states
 start_chance scale states (OneState only) s = if s == only then scale else 0
@@ -35,6 +36,7 @@ abbrev pub start_at : Start → ℕ
 start_at (StartRow at ns) = at
 start_at _ = 0
 
+-- the row of the start, as the text gives it
 unfoldable pub start_row : Text → Row
 start_row text =
     let scale = (scales_of text).start in
@@ -55,10 +57,12 @@ row_cells row len = map (λ n. row ++ n ∷ []) (range_with_len 0 len)
 abbrev pub last_of_row : List Axis → List Statement → List Cell → Option Statement
 last_of_row axes statements cells = find (λ s. list_any (covers axes s.fields) cells) (reverse statements)
 
+-- where the statement begins, if there is one
 abbrev pub statement_at : Option Statement → Option ℕ
 statement_at (Some s) = Some s.at
 statement_at None = None
 
+-- one row of a table of chances, with len cells, as the statements of the table give it
 unfoldable pub table_row : ℕ → List Axis → List Statement → ℕ → List ℕ → Row
 table_row scale axes statements len row = record {
   cells = map (chance_of_cell scale axes statements) (row_cells row len);
@@ -74,9 +78,11 @@ table_rows text table scale len =
     let count = joint_actions_in text * states_in text in
     map (λ r. table_row scale (axes_of text.header table) statements len (parts_of sizes r)) (range_with_len 0 count)
 
+-- the rows of the transitions, each over the next states
 unfoldable pub trans_rows : Text → List Row
 trans_rows text = table_rows text Trans (scales_of text).trans (states_in text)
 
+-- the rows of the observations, each over the joint observations
 unfoldable pub obs_rows : Text → List Row
 obs_rows text = table_rows text Obs (scales_of text).obs (joint_observations_in text)
 
@@ -87,6 +93,7 @@ pub record Repaired : Type 0 where
   pub cells : List ℕ
   pub repaired : ℕ
 
+-- the largest cell
 abbrev pub greatest_cell : List ℕ → ℕ
 greatest_cell cells = fold max 0 cells
 
@@ -102,6 +109,7 @@ repaired_cells scale cells = slice_set cells (greatest_place cells) (greatest_ce
 abbrev pub is_near : ℕ → ℕ → Bool
 is_near scale total = nat_le (((scale - total) + (total - scale)) * 1000) scale
 
+-- the cells as they are where they sum to the scale, repaired where the sum is near it, and else a wrong row sum
 abbrev pub repair_at : ℕ → ℕ → List ℕ → Result Repaired Fault
 repair_at at scale cells =
     if sum cells == scale then Ok (record { cells = cells; repaired = 0 })
@@ -113,6 +121,7 @@ abbrev pub row_place : ℕ → Option ℕ → Result ℕ Fault
 row_place end (Some at) = Ok at
 row_place end None = fault MissingRow end
 
+-- a row, repaired where it has to be, or its fault
 unfoldable pub repair : ℕ → Row → Result Repaired Fault
 repair end row = row_place end row.at >>= λ at. repair_at at row.scale row.cells
 

@@ -18,13 +18,16 @@ use Rattle.dp_meaning.specs.Cells.{statements_for}
 abbrev pub most_digits : List Decimal → ℕ
 most_digits ns = fold (λ most d. max most d.digits) 0 ns
 
+-- the greatest number of fraction digits in the value of a statement
 abbrev pub digits_of_value : Value → ℕ
 digits_of_value (Numbers ns) = most_digits ns
 digits_of_value _ = 0
 
+-- the greatest number of fraction digits in the values of statements
 abbrev pub digits_of_statements : List Statement → ℕ
 digits_of_statements statements = fold (λ most s. max most (digits_of_value s.value)) 0 statements
 
+-- the value is `uniform`
 abbrev pub is_uniform : Value → Bool
 is_uniform Uniform = true
 is_uniform _ = false
@@ -37,11 +40,13 @@ scale_of digits uniform len = if uniform then lcm_of (10 ^ digits) len else 10 ^
 abbrev pub table_scale : List Statement → ℕ → ℕ
 table_scale statements len = scale_of (digits_of_statements statements) (list_any (λ s. is_uniform s.value) statements) len
 
+-- the scale of the start
 abbrev pub start_scale : Start → ℕ → ℕ
 start_scale AnyState states = scale_of 0 true states
 start_scale (OneState s) states = scale_of 0 false states
 start_scale (StartRow at ns) states = scale_of (most_digits ns) false states
 
+-- the scales of a text, and its discount, which is `gain` over its scale
 unfoldable pub scales_of : Text → Scales
 scales_of text = record {
   start = start_scale text.header.start (states_in text);

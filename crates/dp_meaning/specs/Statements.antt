@@ -23,10 +23,12 @@ use Rattle.dp_meaning.specs.Fields.{Axis, fields_of, all_parts}
 
 -- ---- the tables
 
+-- the table is that of the transitions
 abbrev pub is_trans : Table → Bool
 is_trans Trans = true
 is_trans _ = false
 
+-- the table is that of the rewards
 abbrev pub is_reward_table : Table → Bool
 is_reward_table Reward = true
 is_reward_table _ = false
@@ -56,10 +58,12 @@ allows_uniform table rest = not (is_reward_table table) && nat_lt 0 (length rest
 abbrev pub allows_identity : Table → List Axis → Bool
 allows_identity table rest = is_trans table && length rest == 2
 
+-- the number may stand in the table: among the rewards as a reward, and else as a chance
 abbrev pub is_number_of : Table → Decimal → Bool
 is_number_of Reward d = is_reward d
 is_number_of _ d = is_chance d
 
+-- the value of a statement of the table, over the axes `rest`, which have no field
 unfoldable pub value_of : Table → List Axis → ℕ → List Piece → Result Value Fault
 value_of table rest next [] = fault why.Expected next
 value_of table rest next (piece ∷ pieces) =
@@ -73,6 +77,7 @@ value_of table rest next (piece ∷ pieces) =
 abbrev pub unless_too_few : ℕ → List (List Part) → ℕ → Result (Unit {0}) Fault
 unless_too_few least fields ends = if nat_lt (length fields) least then fault why.Expected ends else Ok tt
 
+-- the statement of an item: its fields, and its value over the axes that have no field
 unfoldable pub statement : Header → Table → Item → Result Statement Fault
 statement header table item = do
   let line = fields_of (after_colon item)
@@ -87,6 +92,7 @@ statement_of_kind header item (HeaderEntry e) = fault why.Header (item_at item)
 statement_of_kind header item (StatementOf table) = statement header table item
 statement_of_kind header item NoItem = fault why.Expected (item_at item)
 
+-- the statements of the items behind the header, in order
 unfoldable pub statements_of : Header → List Item → Result (List Statement) Fault
 statements_of header [] = Ok []
 statements_of header (item ∷ items) = do

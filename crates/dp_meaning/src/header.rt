@@ -45,6 +45,7 @@ pub struct Entries {
 pub struct Header {
     pub agents: GivenList,
     pub discount: Decimal,
+    /// Whether the numbers of the rewards are costs.
     pub cost: bool,
     pub states: GivenList,
     pub start: Start,

@@ -32,8 +32,11 @@ impl Table {
 /// What an item of a model file is, by its first token.
 #[derive(Clone, Copy)]
 pub enum ItemKind {
+    /// An entry of the header.
     HeaderEntry(Entry),
+    /// A statement of a table.
     StatementOf(Table),
+    /// Neither: no such first token begins an item.
     NoItem,
 }
 

@@ -44,6 +44,7 @@ pub record IsNameList (names : List (List ℕ)) : Type 0 where
   pub once : AllPairs (λ a b. a ≢ b) names
   pub limit : length names ≤ 2 ^ 26
 
+-- the lists of all kinds are name lists, and there are as many lists of observations as of actions
 pub record AreNames (names : NameLists) : Type 0 where
   pub agents : IsNameList names.agents
   pub states : IsNameList names.states

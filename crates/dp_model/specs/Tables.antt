@@ -7,6 +7,7 @@ use Rattle.dp_model.specs.declared.sizes.Sizes.{Sizes}
 use Rattle.dp_model.specs.declared.sizes.Cells.{Cells}
 use Rattle.dp_model.specs.Names.{NameLists, names_of}
 
+-- a model, and the names of its agents, states, actions and observations
 pub record NamedModel : Type 0 where
   pub model : Model
   pub names : NameLists

@@ -28,7 +28,8 @@ const OUTWARD_UNIT: i128 = 1_000_000_000;
 pub struct Fit {
     /// How many steps a policy has.
     pub horizon: u32,
-    /// Whether the mode is exact: no value can pass `2^126`. Else numbers are rounded outward.
+    /// Whether the mode is exact: the bound on every value is at most `2^126`. Else numbers are
+    /// rounded outward.
     pub exact: bool,
     /// What values are counted in: in exact mode the expected reward is the value over the unit.
     pub unit: i128,

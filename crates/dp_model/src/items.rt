@@ -2,7 +2,7 @@ ghost use Rattle.std.specs.Prelude.{◌≡◌};
 
 use std::marker::Model;
 
-/// A list of numbers. Contracts see it as the list of its items.
+/// A list that does not grow. Contracts see it as the list of its items.
 #[derive(Drop)]
 pub struct Items<T: Drop> {
     items: Vec<T>,

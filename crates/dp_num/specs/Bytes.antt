@@ -2,15 +2,19 @@
 use Rattle.std.specs.Prelude.{ℕ, Bool, ◌||◌, ◌==◌}
 use Rattle.std.specs.Char.{is_ascii_alphanumeric}
 
+-- `+`, a sign
 abbrev pub plus : ℕ
 plus = 43
 
+-- `-`, a sign
 abbrev pub minus : ℕ
 minus = 45
 
+-- `.`, the decimal point
 abbrev pub point : ℕ
 point = 46
 
+-- `_`, which may stand in names
 abbrev pub underscore : ℕ
 underscore = 95
 

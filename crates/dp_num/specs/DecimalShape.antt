@@ -13,10 +13,11 @@ first text = slice_index text 0
 abbrev pub unsigned : List ℕ → List ℕ
 unsigned text = if is_sign (first text) then drop 1 text else text
 
--- how many digits stand at the front, and what stands after them
+-- how many digits stand at the front
 abbrev pub digit_count : List ℕ → ℕ
 digit_count text = prefix_len is_ascii_digit text
 
+-- what stands after the digits at the front
 abbrev pub after_digits : List ℕ → List ℕ
 after_digits text = drop (digit_count text) text
 

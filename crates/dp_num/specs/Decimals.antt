@@ -23,10 +23,11 @@ fraction rest = if first rest == point then take_while is_ascii_digit (drop 1 re
 abbrev pub exponent : List ℕ → List ℕ
 exponent rest = if first rest == point then after_digits (drop 1 rest) else rest
 
--- by how many tens an exponent multiplies, and by how many it divides
+-- the power of ten by which an exponent multiplies, 0 where it has a minus sign
 abbrev pub tens_more : List ℕ → ℕ
 tens_more power = if slice_index power 1 == minus then 0 else digits_value 10 (unsigned (drop 1 power))
 
+-- the power of ten by which an exponent divides, 0 where it has no minus sign
 abbrev pub tens_less : List ℕ → ℕ
 tens_less power = if slice_index power 1 == minus then digits_value 10 (unsigned (drop 1 power)) else 0
 
@@ -36,9 +37,11 @@ tens_less power = if slice_index power 1 == minus then digits_value 10 (unsigned
 unfoldable pub significand : List ℕ → ℕ
 significand number = digits_value 10 (whole number ++ fraction (after_digits number))
 
+-- the power of ten by which the significand is multiplied
 unfoldable pub raised : List ℕ → ℕ
 raised number = tens_more (exponent (after_digits number))
 
+-- the power of ten by which the significand is divided: its fraction digits, and what the exponent adds
 unfoldable pub lowered : List ℕ → ℕ
 lowered number = length (fraction (after_digits number)) + tens_less (exponent (after_digits number))
 

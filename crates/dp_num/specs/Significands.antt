@@ -16,5 +16,6 @@ pub record IsSeenAs (ds : List ℕ) (s : Significand) (n : ℕ) : Type 0 where
   pub some : 0 < s.len → HasLength n s.len
   pub kept : s.len ≤ 36 → s.number ≡ n
 
+-- these digits are kept as the significand s
 abbrev pub IsSeen : List ℕ → Significand → Type 0
 IsSeen ds s = (n : ℕ) × IsSeenAs ds s n

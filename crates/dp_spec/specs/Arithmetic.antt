@@ -12,6 +12,7 @@ point x = record { low = x; high = x }
 abbrev pub span_add : Span → Span → Span
 span_add a b = record { low = a.low +ℤ b.low; high = a.high +ℤ b.high }
 
+-- an arithmetic: how weights, rewards and values of the table are computed, each number as a span or from above
 pub record Arithmetic : Type 0 where
   -- the weight of a start chance
   pub start : ℕ → Span
@@ -66,6 +67,7 @@ outward c = record {
   is_exact = false;
 }
 
+-- the arithmetic of a mode: exact where the mode is exact, and else outward
 abbrev pub arithmetic : Bool → Scales → Arithmetic
 arithmetic true c = exact c
 arithmetic false c = outward c

@@ -65,6 +65,7 @@ outward_calls c = record {
 
 -- ---- of a mode
 
+-- the calls that the arithmetic of a mode allows
 abbrev pub calls_in : Bool → Scales → Calls
 calls_in true c = exact_calls c
 calls_in false c = outward_calls c

@@ -9,6 +9,8 @@ use Rattle.dp_spec.specs.Quantities.{forward_worth_in}
 use Rattle.dp_spec.specs.BoundTree.{BoundTree, inner_count, greatest_leaf}
 use Rattle.dp_spec.specs.Fitting.{FitsFront, front_bound}
 
+-- A certificate. Lower and upper are the ends of its interval of expected rewards, counted in the unit; `look` is
+-- that of its bounds, and `inner` is how many branches and merges its tree has.
 pub record Certificate : Type 0 where
   pub horizon : ℕ
   pub look : ℕ

@@ -1,4 +1,4 @@
--- What a certificate claims of the policies of a model: the headline, in words that know no fronts, bounds or search.
+-- What a certificate claims of the policies of a model, in terms of policies and values alone.
 use Rattle.std.specs.Prelude.{ℕ, ℤ, pos, ◌*ℤ◌, ◌≤ℤ◌, List}
 use Rattle.dp_spec.specs.Model.{Model, value_scale}
 use Rattle.dp_spec.specs.PolicyTree.{PolicyTree, IsPolicyOf}

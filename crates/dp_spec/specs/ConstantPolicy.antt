@@ -1,4 +1,4 @@
--- The joint policy that always does one joint action.
+-- The joint policy that always does one joint action (Oliehoek and Amato, chapter 3).
 use Rattle.std.specs.Prelude.{ℕ, zero, suc, List, [], ◌∷◌}
 use Rattle.dp_spec.specs.JointNumbers.{parts_of}
 use Rattle.dp_spec.specs.Model.{Model}

@@ -7,11 +7,11 @@ use Rattle.dp_spec.specs.Arithmetic.{Arithmetic, point, span_add}
 
 -- what a computed number says of a true number over a scale
 pub record Enclosure : Type 1 where
-  -- of the scale and the weight the span
+  -- the span encloses the weight over the scale
   pub Weighs : ℕ → ℕ → Span → Type 0
-  -- of the scale and the reward the span
+  -- the span encloses the reward over the scale
   pub Earns : ℕ → ℤ → Span → Type 0
-  -- of the scale and the number the number from above
+  -- the number is at or above the true one over the scale
   pub Tops : ℕ → ℤ → ℤ → Type 0
   -- what values over a scale are counted in
   pub unit : ℕ → ℕ
@@ -42,7 +42,7 @@ pub record IsSound (m : Model) (A : Arithmetic) (R : Enclosure) : Type 0 where
   -- what it says of values counted in the unit
   pub reads : (F : ℕ) (x v : ℤ) → R.Tops F x v → (x *ℤ pos (R.unit F)) ≤ℤ (v *ℤ pos F)
 
--- ---- the true number itself
+-- every computed number is the true number itself
 abbrev pub equality : Enclosure
 equality = record {
   Weighs = λ T w s. s ≡ point (pos w);
@@ -56,7 +56,7 @@ pub record Encloses (T u : ℕ) (x : ℤ) (s : Span) : Type 0 where
   pub from : (s.low *ℤ pos T) ≤ℤ (x *ℤ pos u)
   pub to : (x *ℤ pos u) ≤ℤ (s.high *ℤ pos T)
 
--- ---- a span round it, weights in 10^-12 and values in 10^-9
+-- spans hold the true numbers and bounds are at or above them; weights are in 10^-12 and values in 10^-9
 abbrev pub containment : Enclosure
 containment = record {
   Weighs = λ T w s. Encloses T (10 ^ 12) (pos w) s;
@@ -65,6 +65,7 @@ containment = record {
   unit = λ F. 10 ^ 9;
 }
 
+-- the enclosure that the arithmetic of a mode keeps: equality in exact mode, and else containment
 abbrev pub enclosure : Bool → Enclosure
 enclosure true = equality
 enclosure false = containment

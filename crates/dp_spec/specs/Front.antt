@@ -15,6 +15,7 @@ pub record AgentFront : Type 0 where
   -- for each class its action or none
   pub chosen : List (Option ℕ)
 
+-- a front: its stage, and what is fixed and chosen for each agent
 pub record Front : Type 0 where
   pub stage : ℕ
   pub agents : List AgentFront

@@ -1,6 +1,8 @@
--- Joint numbers: one number for one part per agent, mixed radix with the first agent most significant.
+-- Joint numbers: one number for one part per agent, mixed radix with the first agent most significant (Oliehoek and
+-- Amato, chapter 2).
 use Rattle.std.specs.Prelude.{ℕ, ◌+◌, ◌*◌, ◌/◌, ◌%◌, List, [], ◌∷◌}
 
+-- the product of the numbers, which is how many joint numbers there are
 abbrev pub product : List ℕ → ℕ
 product [] = 1
 product (n ∷ ns) = n * product ns

@@ -50,6 +50,7 @@ pub record AreEquivalent (m : Model) (F : Front) (i c c' : ℕ) : Type 0 where
 abbrev pub renumbered : ℕ → ℕ → ℕ → ℕ
 renumbered first second c = cond (c == second) first (cond (nat_lt second c) (c - 1) c)
 
+-- an agent's part of a front after class second was joined into class first
 abbrev pub merged_agent : ℕ → ℕ → AgentFront → AgentFront
 merged_agent first second d = record {
   fixed = d.fixed;
@@ -57,6 +58,7 @@ merged_agent first second d = record {
   chosen = without second d.chosen;
 }
 
+-- the parts of all agents after class second of agent i was joined into class first
 abbrev pub merged_agents : ℕ → ℕ → ℕ → List AgentFront → List AgentFront
 merged_agents i first second [] = []
 merged_agents zero first second (d ∷ ds) = merged_agent first second d ∷ ds

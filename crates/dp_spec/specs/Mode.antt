@@ -8,7 +8,7 @@ abbrev pub greatest_magnitude : List ℤ → ℕ
 greatest_magnitude [] = 0
 greatest_magnitude (r ∷ rs) = max (unsigned_abs r) (greatest_magnitude rs)
 
--- the mode is exact where no value can pass 2^126
+-- the mode is exact where the bound on every value is at most 2^126
 unfoldable pub is_exact_mode : Model → ℕ → Bool
 is_exact_mode m h =
     nat_le (m.scales.start * step_scale m ^ h * h * max (max (greatest_magnitude m.reward) m.scales.reward) 1) (2 ^ 126)

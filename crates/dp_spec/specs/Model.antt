@@ -17,9 +17,11 @@ pub record Model : Type 0 where
   pub obs : List ℕ
   pub reward : List ℤ
 
+-- how many joint actions there are
 unfoldable pub joint_actions : Model → ℕ
 joint_actions m = product m.actions
 
+-- how many joint observations there are
 unfoldable pub joint_observations : Model → ℕ
 joint_observations m = product m.observations
 
@@ -92,6 +94,7 @@ pub record AreRows (m : Model) : Type 0 where
   pub obs : (a t : ℕ) → a < joint_actions m → t < m.states
       → nat_sum (joint_observations m) (obs_at m a t) ≡ m.scales.obs
 
+-- what holds of every model: of its sizes, its scales, its tables and their rows of chances
 pub record IsModel (m : Model) : Type 0 where
   pub sizes : AreSizes m
   pub scales : AreScales m.scales

@@ -32,8 +32,7 @@ end_form = fixed (codes "end") ∷ []
 -- ---- the lines
 
 -- The actions of a tree after the own histories of length t, in order of the history read as a number with base n,
--- first
--- observation most significant.
+-- first observation most significant.
 abbrev pub row_actions : ℕ → PolicyTree → ℕ → List ℕ
 row_actions n q t = map (λ x. root_action (tree_at n q t x)) (range_with_len 0 (n ^ t))
 

@@ -12,9 +12,11 @@ mutual
     no_trees : PolicyTrees
     more_trees : PolicyTree → PolicyTrees → PolicyTrees
 
+-- the action at the root of a tree, which is done before any observation
 abbrev pub root_action : PolicyTree → ℕ
 root_action (node a ks) = a
 
+-- what remains of a tree after each observation, in their order
 abbrev pub subtrees : PolicyTree → PolicyTrees
 subtrees (node a ks) = ks
 

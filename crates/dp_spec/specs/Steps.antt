@@ -8,6 +8,7 @@ use Rattle.dp_spec.specs.Front.{AgentFront, Front}
 abbrev pub root_agent : AgentFront
 root_agent = record { fixed = []; class_of = 0 ∷ []; chosen = None ∷ [] }
 
+-- the root front: at stage 0, where nothing is fixed and no action is chosen
 unfoldable pub root_front : Model → Front
 root_front m = record { stage = 0; agents = map (λ n. root_agent) m.actions }
 
@@ -23,9 +24,11 @@ with_choice i c a [] = []
 with_choice zero c a (d ∷ ds) = record d { chosen = set d.chosen c (Some a) } ∷ ds
 with_choice (suc i) c a (d ∷ ds) = d ∷ with_choice i c a ds
 
+-- the front after class c of agent i was given action a
 abbrev pub chosen_front : Front → ℕ → ℕ → ℕ → Front
 chosen_front F i c a = record { stage = F.stage; agents = with_choice i c a F.agents }
 
+-- whether every class of an agent has an action
 abbrev pub all_chosen : List (Option ℕ) → Bool
 all_chosen [] = true
 all_chosen (o ∷ os) = is_some o && all_chosen os
@@ -44,11 +47,13 @@ advanced_agent n f d = record {
   chosen = replicate (length d.chosen * n) None;
 }
 
+-- the agents, with ns observations, all go on from stage f
 abbrev pub advanced_agents : List ℕ → ℕ → List AgentFront → List AgentFront
 advanced_agents [] f ds = []
 advanced_agents (n ∷ ns) f [] = []
 advanced_agents (n ∷ ns) f (d ∷ ds) = advanced_agent n f d ∷ advanced_agents ns f ds
 
+-- the front at the next stage: the chosen actions are fixed, and each class goes on with each observation
 abbrev pub advanced_front : Model → Front → Front
 advanced_front m F = record { stage = suc F.stage; agents = advanced_agents m.observations F.stage F.agents }
 

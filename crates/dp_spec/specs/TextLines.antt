@@ -41,8 +41,7 @@ text_of_lines [] = []
 text_of_lines (line ∷ lines) = line_text line.form line.numbers ++ 10 ∷ text_of_lines lines
 
 -- A form allows these numbers: one for each of its items that is a number, plain ones of 32 bits and within their
--- range,
--- signed ones of 128 bits.
+-- range, signed ones of 128 bits.
 abbrev pub Allows : List Item → List ℤ → Type 0
 Allows [] [] = Unit {0}
 Allows (fixed text ∷ form) zs = Allows form zs

@@ -13,10 +13,11 @@ pub record IsAgentFront (b n f : ℕ) (d : AgentFront) : Type 0 where
   -- one class for each own history of the stage
   pub of_histories : length d.class_of ≡ n ^ f
   pub class_below : (x : ℕ) → x < n ^ f → get_or d.class_of x 0 < length d.chosen
-  -- one history for each class
+  -- at least one history for each class
   pub member : (c : ℕ) → c < length d.chosen → (x : ℕ) × (x < n ^ f) × (get_or d.class_of x 0 ≡ c)
   pub chosen_below : (c a : ℕ) → c < length d.chosen → get_or d.chosen c None ≡ Some a → a < b
 
+-- the agents' parts of a front of stage f, by how many actions and how many observations each agent has
 pub data AreAgentFronts (f : ℕ) : List ℕ → List ℕ → List AgentFront → Type 0 where
   no_agents : AreAgentFronts f [] [] []
   and_agent : {b n : ℕ} {bs ns : List ℕ} {d : AgentFront} {ds : List AgentFront} → IsAgentFront b n f d

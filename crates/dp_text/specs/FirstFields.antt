@@ -3,9 +3,11 @@ use Rattle.std.specs.Prelude.{◌≡◌, ℕ, Bool, false, not, ◌+◌, List, [
 use Rattle.dp_meaning.specs.Items.{Piece, is_colon}
 use Rattle.dp_meaning.specs.Fields.{Field, Fields, fields_of}
 
+-- whether a piece is no Colon
 abbrev pub is_no_colon : Piece → Bool
 is_no_colon piece = not (is_colon piece.kind)
 
+-- whether there is a piece, and it is a Colon
 abbrev pub is_colon_of : Option Piece → Bool
 is_colon_of (Some piece) = is_colon piece.kind
 is_colon_of None = false

@@ -38,6 +38,7 @@ pub enum OrderWord {
 pub enum WordFault {
     /// They ask for none.
     Usage,
+    /// Memory ran out.
     Memory,
 }
 
