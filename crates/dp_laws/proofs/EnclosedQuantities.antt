@@ -25,8 +25,8 @@ module _ (m : Model) (A : Arithmetic) (R : Enclosure) (ok : IsSound m A R) where
   earns_same T T' x s e h = subst (λ (t : ℕ). R.Earns t x s) e h
 
   -- equal scales, from above
-  tops_same : (T T' : ℕ) (x v : ℤ) → T ≡ T' → R.Tops T x v → R.Tops T' x v
-  tops_same T T' x v e h = subst (λ (t : ℕ). R.Tops t x v) e h
+  upper_same : (T T' : ℕ) (x v : ℤ) → T ≡ T' → R.IsUpperBound T x v → R.IsUpperBound T' x v
+  upper_same T T' x v e h = subst (λ (t : ℕ). R.IsUpperBound t x v) e h
 
   -- ---- sums
   -- sums over the numbers below n
@@ -42,17 +42,17 @@ module _ (m : Model) (A : Arithmetic) (R : Enclosure) (ok : IsSound m A R) where
   earns_sum F (suc n) x s h = ok.more_gain F _ _ _ _ (earns_sum F n x s (λ i p. h i (omega arith))) (h n (omega arith))
 
   -- of numbers from above
-  pub tops_sum : (F n : ℕ) (x u : ℕ → ℤ) → ((i : ℕ) → i < n → R.Tops F (x i) (u i))
-      → R.Tops F (int_sum n x) (int_sum n u)
-  tops_sum F zero x u h = ok.no_top F
-  tops_sum F (suc n) x u h = ok.more_top F _ _ _ _ (tops_sum F n x u (λ i p. h i (omega arith))) (h n (omega arith))
+  pub upper_sum : (F n : ℕ) (x u : ℕ → ℤ) → ((i : ℕ) → i < n → R.IsUpperBound F (x i) (u i))
+      → R.IsUpperBound F (int_sum n x) (int_sum n u)
+  upper_sum F zero x u h = ok.no_upper F
+  upper_sum F (suc n) x u h = ok.more_upper F _ _ _ _ (upper_sum F n x u (λ i p. h i (omega arith))) (h n (omega arith))
 
   -- the greatest over a list
-  pub tops_greatest : (F : ℕ) (x u : ℕ → ℤ) (xs : List ℕ) → ((a : ℕ) → R.Tops F (x a) (u a))
-      → R.Tops F (greatest x xs) (greatest u xs)
-  tops_greatest F x u [] h = ok.no_top F
-  tops_greatest F x u (a ∷ []) h = h a
-  tops_greatest F x u (a ∷ (b ∷ as')) h = ok.greater F _ _ _ _ (h a) (tops_greatest F x u (b ∷ as') h)
+  pub upper_greatest : (F : ℕ) (x u : ℕ → ℤ) (xs : List ℕ) → ((a : ℕ) → R.IsUpperBound F (x a) (u a))
+      → R.IsUpperBound F (greatest x xs) (greatest u xs)
+  upper_greatest F x u [] h = ok.no_upper F
+  upper_greatest F x u (a ∷ []) h = h a
+  upper_greatest F x u (a ∷ (b ∷ as')) h = ok.greater F _ _ _ _ (h a) (upper_greatest F x u (b ∷ as') h)
 
   -- sums over joint histories
   pub weighs_history_sum : (T n t : ℕ) (w : List ℕ → ℕ) (s : List ℕ → Span)
@@ -98,20 +98,20 @@ module _ (m : Model) (A : Arithmetic) (R : Enclosure) (ok : IsSound m A R) where
 
   -- the table
   pub mdp_table_enclosed : (r s : ℕ)
-      → R.Tops (m.scales.reward * step_scale m ^ r) (mdp_table m r s) (mdp_table_in A m r s)
-  mdp_table_enclosed zero s = ok.no_top _
+      → R.IsUpperBound (m.scales.reward * step_scale m ^ r) (mdp_table m r s) (mdp_table_in A m r s)
+  mdp_table_enclosed zero s = ok.no_upper _
   mdp_table_enclosed (suc r) s =
-      tops_greatest _ _ _ (numbers_below (joint_actions m)) (λ a.
-      ok.more_top _ _ _ _ _
-      (ok.top _ _ _ (earns_sum _ m.states _ _ (λ t q. earns_sum _ (joint_observations m) _ _ (λ o u. table_reward_enclosed r (trans_at m a s t) (obs_at m a t o) (reward_at m a s t o)))))
-      (tops_sum _ m.states _ _ (λ t q. tops_same _ _ _ _ (scale_after_carry m r) (ok.carry _ (trans_at m a s t) _ _ (mdp_table_enclosed r t)))))
+      upper_greatest _ _ _ (numbers_below (joint_actions m)) (λ a.
+      ok.more_upper _ _ _ _ _
+      (ok.upper_end _ _ _ (earns_sum _ m.states _ _ (λ t q. earns_sum _ (joint_observations m) _ _ (λ o u. table_reward_enclosed r (trans_at m a s t) (obs_at m a t o) (reward_at m a s t o)))))
+      (upper_sum _ m.states _ _ (λ t q. upper_same _ _ _ _ (scale_after_carry m r) (ok.carry _ (trans_at m a s t) _ _ (mdp_table_enclosed r t)))))
 
   -- weights against the table
   pub weighted_table_enclosed : (T r : ℕ) (w : ℕ → ℕ) (ws : ℕ → Span)
       → ((s : ℕ) → s < m.states → R.Weighs T (w s) (ws s)) →
-      R.Tops (T * (m.scales.reward * step_scale m ^ r)) (int_sum m.states (λ s. pos (w s) *ℤ mdp_table m r s)) (weighted_table_in A m r ws)
+      R.IsUpperBound (T * (m.scales.reward * step_scale m ^ r)) (int_sum m.states (λ s. pos (w s) *ℤ mdp_table m r s)) (weighted_table_in A m r ws)
   unfolding weighted_table_in
-  weighted_table_enclosed T r w ws h = tops_sum _ m.states _ _ (λ s p. ok.tail _ _ _ _ _ _ (h s p) (mdp_table_enclosed r s))
+  weighted_table_enclosed T r w ws h = upper_sum _ m.states _ _ (λ s p. ok.tail _ _ _ _ _ _ (h s p) (mdp_table_enclosed r s))
 
   -- ---- weights of histories and of classes, and what is earned
   -- the weight of a joint history and a state
@@ -149,32 +149,32 @@ module _ (m : Model) (A : Arithmetic) (R : Enclosure) (ok : IsSound m A R) where
   -- look-ahead
   pub look_ahead_enclosed : IsModel m → (T r k : ℕ) (w : ℕ → ℕ) (ws : ℕ → Span)
       → ((s : ℕ) → s < m.states → R.Weighs T (w s) (ws s))
-      → R.Tops (T * (m.scales.reward * step_scale m ^ r)) (look_ahead m r w k) (look_ahead_in A m r ws k)
-  look_ahead_enclosed is T zero k w ws h = ok.no_top _
+      → R.IsUpperBound (T * (m.scales.reward * step_scale m ^ r)) (look_ahead m r w k) (look_ahead_in A m r ws k)
+  look_ahead_enclosed is T zero k w ws h = ok.no_upper _
   look_ahead_enclosed is T (suc r) zero w ws h = weighted_table_enclosed T (suc r) w ws h
   look_ahead_enclosed is T (suc r) (suc k) w ws h =
       ok.smaller _ _ _ _ _ (look_ahead_le_table m is (suc r) (suc k) w)
-      (tops_greatest _ _ _ (numbers_below (joint_actions m)) (λ a.
-      ok.more_top _ _ _ _ _ (ok.top _ _ _ (weighted_reward_enclosed T r w ws a h))
-      (tops_sum _ (joint_observations m) _ _ (λ o p. tops_same _ _ _ _ (scale_after_tail m T r) (look_ahead_enclosed is (T * step_scale m) r k (weights_after m w a o) (weights_after_in A m ws a o) (λ t q. weights_after_enclosed T w ws a o t h))))))
+      (upper_greatest _ _ _ (numbers_below (joint_actions m)) (λ a.
+      ok.more_upper _ _ _ _ _ (ok.upper_end _ _ _ (weighted_reward_enclosed T r w ws a h))
+      (upper_sum _ (joint_observations m) _ _ (λ o p. upper_same _ _ _ _ (scale_after_tail m T r) (look_ahead_enclosed is (T * step_scale m) r k (weights_after m w a o) (weights_after_in A m ws a o) (λ t q. weights_after_enclosed T w ws a o t h))))))
       (weighted_table_enclosed T (suc r) w ws h)
 
   -- look-ahead of a joint action
   pub action_look_ahead_enclosed : IsModel m → (T r k : ℕ) (w : ℕ → ℕ) (ws : ℕ → Span) (a : ℕ)
       → ((s : ℕ) → s < m.states → R.Weighs T (w s) (ws s))
-      → R.Tops (T * (m.scales.reward * step_scale m ^ suc r)) (action_look_ahead m r w a k) (action_look_ahead_in A m r ws a k)
+      → R.IsUpperBound (T * (m.scales.reward * step_scale m ^ suc r)) (action_look_ahead m r w a k) (action_look_ahead_in A m r ws a k)
   unfolding action_look_ahead action_look_ahead_in
   action_look_ahead_enclosed is T r k w ws a h =
-      ok.more_top _ _ _ _ _ (ok.top _ _ _ (weighted_reward_enclosed T r w ws a h))
-      (tops_sum _ (joint_observations m) _ _ (λ o p. tops_same _ _ _ _ (scale_after_tail m T r) (look_ahead_enclosed is (T * step_scale m) r (k - 1) (weights_after m w a o) (weights_after_in A m ws a o) (λ t q. weights_after_enclosed T w ws a o t h))))
+      ok.more_upper _ _ _ _ _ (ok.upper_end _ _ _ (weighted_reward_enclosed T r w ws a h))
+      (upper_sum _ (joint_observations m) _ _ (λ o p. upper_same _ _ _ _ (scale_after_tail m T r) (look_ahead_enclosed is (T * step_scale m) r (k - 1) (weights_after m w a o) (weights_after_in A m ws a o) (λ t q. weights_after_enclosed T w ws a o t h))))
 
   -- the bound of a front
   pub bound_enclosed : IsModel m → (r : ℕ) (F : Front) (look : ℕ)
-      → R.Tops (value_scale m (F.stage + r)) (bound_of m r F look) (bound_in A m r F look)
-  bound_enclosed is zero F look = ok.top _ _ _ (earned_reward_enclosed (fixed_joint_action m F) (F.stage + 0) F.stage (omega arith))
+      → R.IsUpperBound (value_scale m (F.stage + r)) (bound_of m r F look) (bound_in A m r F look)
+  bound_enclosed is zero F look = ok.upper_end _ _ _ (earned_reward_enclosed (fixed_joint_action m F) (F.stage + 0) F.stage (omega arith))
   bound_enclosed is (suc r) F look =
-      ok.more_top _ _ _ _ _ (ok.top _ _ _ (earned_reward_enclosed (fixed_joint_action m F) (F.stage + suc r) F.stage (omega arith)))
-      (tops_sum _ (product (class_counts F.agents)) _ _ (λ C p.
-      tops_greatest _ _ _ (agreeing_actions m F C) (λ a.
-      tops_same _ _ _ _ (scale_at_stage m F.stage (suc r))
+      ok.more_upper _ _ _ _ _ (ok.upper_end _ _ _ (earned_reward_enclosed (fixed_joint_action m F) (F.stage + suc r) F.stage (omega arith)))
+      (upper_sum _ (product (class_counts F.agents)) _ _ (λ C p.
+      upper_greatest _ _ _ (agreeing_actions m F C) (λ a.
+      upper_same _ _ _ _ (scale_at_stage m F.stage (suc r))
       (action_look_ahead_enclosed is _ r look (class_weight m F C) (class_weight_in A m F C) a (λ s q. class_weight_enclosed F C s)))))

@@ -208,9 +208,9 @@ outward_sound m ok = record {
   more_weight = λ T x y a b p q. record { from = sum_below T (10 ^ 12) (pos x) (pos y) _ _ p.from q.from; to = sum_above T (10 ^ 12) (pos x) (pos y) _ _ p.to q.to };
   no_gain = λ F. record { from = none_below F (10 ^ 9); to = none_above F (10 ^ 9) };
   more_gain = λ F x y a b p q. record { from = sum_below F (10 ^ 9) x y _ _ p.from q.from; to = sum_above F (10 ^ 9) x y _ _ p.to q.to };
-  top = λ F x a h. h.to;
-  no_top = λ F. none_above F (10 ^ 9);
-  more_top = λ F x y a b p q. sum_above F (10 ^ 9) x y _ _ p q;
+  upper_end = λ F x a h. h.to;
+  no_upper = λ F. none_above F (10 ^ 9);
+  more_upper = λ F x y a b p q. sum_above F (10 ^ 9) x y _ _ p q;
   greater = λ F x y a b p q. greater_above F (10 ^ 9) x y a b p q;
   smaller = λ F x y a b h p q. smaller_above F (10 ^ 9) x y a b h p q;
   reads = λ F x u h. h;

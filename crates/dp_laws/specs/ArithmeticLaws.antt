@@ -51,14 +51,14 @@ pub record EnclosesQuantities (m : Model) (A : Arithmetic) (R : Enclosure) : Typ
   pub worths : (h : ℕ) (qs : List PolicyTree)
       → R.Earns (value_scale m h) (policy_value m h qs) (forward_worth_in A m h qs)
   -- the table, look-ahead, look-ahead of a joint action, and the bound of a front
-  pub tables : (r s : ℕ) → R.Tops (m.scales.reward * step_scale m ^ r) (mdp_table m r s) (mdp_table_in A m r s)
+  pub tables : (r s : ℕ) → R.IsUpperBound (m.scales.reward * step_scale m ^ r) (mdp_table m r s) (mdp_table_in A m r s)
   pub look_aheads : (T r k : ℕ) (w : ℕ → ℕ) (spans : ℕ → Span) → WeighEach m R T w spans
-      → R.Tops (T * (m.scales.reward * step_scale m ^ r)) (look_ahead m r w k) (look_ahead_in A m r spans k)
+      → R.IsUpperBound (T * (m.scales.reward * step_scale m ^ r)) (look_ahead m r w k) (look_ahead_in A m r spans k)
   pub action_look_aheads : (T r k : ℕ) (w : ℕ → ℕ) (spans : ℕ → Span) (a : ℕ) → WeighEach m R T w spans
-      → R.Tops (T * (m.scales.reward * step_scale m ^ suc r)) (action_look_ahead m r w a k)
+      → R.IsUpperBound (T * (m.scales.reward * step_scale m ^ suc r)) (action_look_ahead m r w a k)
       (action_look_ahead_in A m r spans a k)
   pub bounds : (r : ℕ) (F : Front) (look : ℕ)
-      → R.Tops (value_scale m (F.stage + r)) (bound_of m r F look) (bound_in A m r F look)
+      → R.IsUpperBound (value_scale m (F.stage + r)) (bound_of m r F look) (bound_in A m r F look)
 
 -- the exact arithmetic gives the number of each exact definition
 abbrev pub ExactArithmeticGivesTheNumbers : Type 0

@@ -12,7 +12,7 @@ pub record Enclosure : Type 1 where
   -- the span encloses the reward over the scale
   pub Earns : ℕ → ℤ → Span → Type 0
   -- the number is at or above the true one over the scale
-  pub Tops : ℕ → ℤ → ℤ → Type 0
+  pub IsUpperBound : ℕ → ℤ → ℤ → Type 0
   -- what values over a scale are counted in
   pub unit : ℕ → ℕ
 
@@ -26,28 +26,32 @@ pub record IsSound (m : Model) (A : Arithmetic) (R : Enclosure) : Type 0 where
   pub gain : (T w rest : ℕ) (r : ℤ) (s : Span) → R.Weighs T w s →
       R.Earns (T * (m.scales.discount * step_scale m ^ rest) * m.scales.reward)
       (pos w *ℤ (r *ℤ pos (m.scales.discount * step_scale m ^ rest))) (A.gain s r rest)
-  pub carry : (F p : ℕ) (x v : ℤ) → R.Tops F x v
-      → R.Tops (F * step_scale m) (pos (p * m.scales.obs * m.scales.gain) *ℤ x) (A.carry v p)
-  pub tail : (T w F : ℕ) (x v : ℤ) (s : Span) → R.Weighs T w s → R.Tops F x v → R.Tops (T * F) (pos w *ℤ x) (A.tail s v)
+  pub carry : (F p : ℕ) (x v : ℤ) → R.IsUpperBound F x v
+      → R.IsUpperBound (F * step_scale m) (pos (p * m.scales.obs * m.scales.gain) *ℤ x) (A.carry v p)
+  pub tail : (T w F : ℕ) (x v : ℤ) (s : Span) → R.Weighs T w s → R.IsUpperBound F x v
+      → R.IsUpperBound (T * F) (pos w *ℤ x) (A.tail s v)
   -- sums, the greater and the smaller of two
   pub no_weight : (T : ℕ) → R.Weighs T 0 (point (pos 0))
   pub more_weight : (T v w : ℕ) (a b : Span) → R.Weighs T v a → R.Weighs T w b → R.Weighs T (v + w) (span_add a b)
   pub no_gain : (F : ℕ) → R.Earns F (pos 0) (point (pos 0))
   pub more_gain : (F : ℕ) (x y : ℤ) (a b : Span) → R.Earns F x a → R.Earns F y b → R.Earns F (x +ℤ y) (span_add a b)
-  pub top : (F : ℕ) (x : ℤ) (a : Span) → R.Earns F x a → R.Tops F x a.high
-  pub no_top : (F : ℕ) → R.Tops F (pos 0) (pos 0)
-  pub more_top : (F : ℕ) (x y u v : ℤ) → R.Tops F x u → R.Tops F y v → R.Tops F (x +ℤ y) (u +ℤ v)
-  pub greater : (F : ℕ) (x y u v : ℤ) → R.Tops F x u → R.Tops F y v → R.Tops F (int_max x y) (int_max u v)
-  pub smaller : (F : ℕ) (x y u v : ℤ) → x ≤ℤ y → R.Tops F x u → R.Tops F y v → R.Tops F x (int_min u v)
+  pub upper_end : (F : ℕ) (x : ℤ) (a : Span) → R.Earns F x a → R.IsUpperBound F x a.high
+  pub no_upper : (F : ℕ) → R.IsUpperBound F (pos 0) (pos 0)
+  pub more_upper : (F : ℕ) (x y u v : ℤ) → R.IsUpperBound F x u → R.IsUpperBound F y v
+      → R.IsUpperBound F (x +ℤ y) (u +ℤ v)
+  pub greater : (F : ℕ) (x y u v : ℤ) → R.IsUpperBound F x u → R.IsUpperBound F y v
+      → R.IsUpperBound F (int_max x y) (int_max u v)
+  pub smaller : (F : ℕ) (x y u v : ℤ) → x ≤ℤ y → R.IsUpperBound F x u → R.IsUpperBound F y v
+      → R.IsUpperBound F x (int_min u v)
   -- what it says of values counted in the unit
-  pub reads : (F : ℕ) (x v : ℤ) → R.Tops F x v → (x *ℤ pos (R.unit F)) ≤ℤ (v *ℤ pos F)
+  pub reads : (F : ℕ) (x v : ℤ) → R.IsUpperBound F x v → (x *ℤ pos (R.unit F)) ≤ℤ (v *ℤ pos F)
 
 -- every computed number is the true number itself
 abbrev pub equality : Enclosure
 equality = record {
   Weighs = λ T w s. s ≡ point (pos w);
   Earns = λ F x s. s ≡ point x;
-  Tops = λ F x v. v ≡ x;
+  IsUpperBound = λ F x v. v ≡ x;
   unit = λ F. F;
 }
 
@@ -61,7 +65,7 @@ abbrev pub containment : Enclosure
 containment = record {
   Weighs = λ T w s. Encloses T (10 ^ 12) (pos w) s;
   Earns = λ F x s. Encloses F (10 ^ 9) x s;
-  Tops = λ F x v. (x *ℤ pos (10 ^ 9)) ≤ℤ (v *ℤ pos F);
+  IsUpperBound = λ F x v. (x *ℤ pos (10 ^ 9)) ≤ℤ (v *ℤ pos F);
   unit = λ F. 10 ^ 9;
 }
 
