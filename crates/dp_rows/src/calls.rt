@@ -1,9 +1,10 @@
 use crate::files::{
-    ONE_STATE, SOLO_CHANCES, SOLO_LISTS, SOLO_REWARDS, TIGER, TINY, solo_with, text_of,
+    ONE_STATE, SOLO_CHANCES, SOLO_LISTS, SOLO_REWARDS, TIGER, TINY, UNEVEN_CHANCES, UNEVEN_START,
+    solo_with, text_of,
 };
 use crate::refusals::{FAULTS, LIMITS};
 use dp_cli::{Status, run};
-use dp_io::{MemShelf, MemSink};
+use dp_io::{FetchFault, MemShelf, MemSink, Shelf};
 use dp_num::Memory;
 use std::alloc::Global;
 use std::test::Fail;
@@ -90,11 +91,16 @@ fn call<'a>(file: &'a [&'a str], horizon: &'a str, status: Status, put: &'a str)
     }
 }
 
-fn is_kept(alloc: Global, row: &Row) -> Result<bool, Memory> {
-    let mut words = Vec::new(alloc);
-    for word in ["plan", "model", "--horizon", row.horizon] {
-        words.push(String::from_str(alloc, word)?)?;
+fn words_of(alloc: Global, words: &[&str]) -> Result<Vec<String>, Memory> {
+    let mut owned = Vec::new(alloc);
+    for word in words {
+        owned.push(String::from_str(alloc, word)?)?;
     }
+    Ok(owned)
+}
+
+fn is_kept(alloc: Global, row: &Row) -> Result<bool, Memory> {
+    let words = words_of(alloc, &["plan", "model", "--horizon", row.horizon])?;
     let file = text_of(alloc, row.file)?;
     let mut shelf = MemShelf::new(alloc)?;
     shelf.hold(alloc, "model", file.as_bytes())?;
@@ -126,13 +132,7 @@ fn plans_over_one_step(rt: HostRuntime) -> Result<(), Fail> {
 
 #[test]
 fn limits_and_parts_that_are_not_built(rt: HostRuntime) -> Result<(), Fail> {
-    let outward = solo_with(
-        "states: 2\nstart: 0.9999999999999999 0.0000000000000001\n",
-        "T: * : uniform\n\
-T: 0 : 0 : 0.9999999999999999 0.0000000000000001\n\
-O: * : uniform\n\
-O: 0 : 0 : 0.9999999999999999\n",
-    );
+    let outward = solo_with(UNEVEN_START, UNEVEN_CHANCES);
     for row in [
         call(&TIGER, "0", Status::Usage, "refused usage\n"),
         call(
@@ -189,21 +189,54 @@ fn limits_on_models(rt: HostRuntime) -> Result<(), Fail> {
     Ok(())
 }
 
+// Words that ask for no job. The shelf fails its first fetch alone, and a fetch after the call
+// fails, so the call made none.
+#[test]
+fn words_that_ask_for_no_job(rt: HostRuntime) -> Result<(), Fail> {
+    let alloc = rt.alloc();
+    for words in [
+        &[][..],
+        &["plan"],
+        &["plan", "model"],
+        &["plan", "model", "--horizon"],
+        &["plan", "model", "--horizon", "01"],
+        &["plan", "model", "--horizon", "-1"],
+        &["plan", "model", "--horizon", "4294967296"],
+        &["plan", "--horizon", "1"],
+    ] {
+        let mut shelf = MemShelf::new(alloc)?;
+        shelf.hold(alloc, "model", text_of(alloc, &TINY)?.as_bytes())?;
+        shelf.fail_at(alloc, 0)?;
+        let mut sink = MemSink::new(alloc, 400)?;
+        let status = run(alloc, &words_of(alloc, words)?, &mut shelf, &mut sink);
+        assert_eq!(rt; status, Status::Usage, "{words:?}");
+        assert!(rt; sink.bytes() == b"refused usage\n".as_slice(), "{words:?}");
+        let fetched = shelf.fetch(alloc, "model", 10_000);
+        assert!(rt; fetched == Err(FetchFault::Failed), "{words:?}");
+    }
+    Ok(())
+}
+
 // Each call over a shelf whose first fetch fails, or over a sink whose put fails after five bytes.
 #[test]
 fn calls_that_the_outside_fails(rt: HostRuntime) -> Result<(), Fail> {
     let alloc = rt.alloc();
-    for (fails_to_fetch, option, status, put) in [
-        (true, "--horizon", Status::ReadFault, "refused read 1\n"),
-        (false, "--horizon", Status::WriteFault, "decpl"),
-        (false, "--horizons", Status::WriteFault, "refus"),
+    let solo = solo_with(ONE_STATE, SOLO_CHANCES);
+    for (file, option, fails_to_fetch, status, put) in [
+        (
+            &TINY[..],
+            "--horizon",
+            true,
+            Status::ReadFault,
+            "refused read 1\n",
+        ),
+        (&TINY, "--horizon", false, Status::WriteFault, "decpl"),
+        (&solo, "--horizon", false, Status::WriteFault, "decpl"),
+        (&TINY, "--horizons", false, Status::WriteFault, "refus"),
     ] {
-        let mut words = Vec::new(alloc);
-        for word in ["plan", "model", option, "1"] {
-            words.push(String::from_str(alloc, word)?)?;
-        }
+        let words = words_of(alloc, &["plan", "model", option, "1"])?;
         let mut shelf = MemShelf::new(alloc)?;
-        shelf.hold(alloc, "model", text_of(alloc, &TINY)?.as_bytes())?;
+        shelf.hold(alloc, "model", text_of(alloc, file)?.as_bytes())?;
         let mut sink = MemSink::new(alloc, 400)?;
         if fails_to_fetch {
             shelf.fail_at(alloc, 0)?;
@@ -220,10 +253,7 @@ fn calls_that_the_outside_fails(rt: HostRuntime) -> Result<(), Fail> {
 #[test]
 fn a_model_that_is_too_long(rt: HostRuntime) -> Result<(), Fail> {
     let alloc = rt.alloc();
-    let mut words = Vec::new(alloc);
-    for word in ["plan", "model", "--horizon", "1"] {
-        words.push(String::from_str(alloc, word)?)?;
-    }
+    let words = words_of(alloc, &["plan", "model", "--horizon", "1"])?;
     let mut shelf = MemShelf::new(alloc)?;
     shelf.hold(alloc, "model", &vec![in alloc; b' '; 67_108_865]?)?;
     let mut sink = MemSink::new(alloc, 400)?;

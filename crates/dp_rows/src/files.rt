@@ -102,6 +102,14 @@ pub const SOLO_CHANCES: &str = "T: * : uniform\nO: * : uniform\n";
 
 pub const SOLO_REWARDS: &str = "R: 0 : * : * : * : 1\nR: 1 : * : * : * : 3\n";
 
+// Two states, and chances of 16 digits. The one-cell row of observations misses 1 by the last digit.
+pub const UNEVEN_START: &str = "states: 2\nstart: 0.9999999999999999 0.0000000000000001\n";
+
+pub const UNEVEN_CHANCES: &str = "T: * : uniform\n\
+O: * : uniform\n\
+T: 0 : 0 : 0.9999999999999999 0.0000000000000001\n\
+O: 0 : 0 : 0.9999999999999999\n";
+
 // The pieces of that file with these states and these chances.
 pub const fn solo_with<'a>(states: &'a str, chances: &'a str) -> [&'a str; 5] {
     [SOLO_HEAD, states, SOLO_LISTS, chances, SOLO_REWARDS]

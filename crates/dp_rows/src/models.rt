@@ -1,4 +1,7 @@
-use crate::files::{ONE_STATE, SOLO_CHANCES, SOLO_LISTS, SOLO_REWARDS, TIGER, solo_with, text_of};
+use crate::files::{
+    ONE_STATE, SOLO_CHANCES, SOLO_LISTS, SOLO_REWARDS, TIGER, UNEVEN_CHANCES, UNEVEN_START,
+    solo_with, text_of,
+};
 use dp_num::{Memory, Scales};
 use dp_reader::{ReadModel, read_model};
 use std::alloc::Global;
@@ -41,8 +44,22 @@ fn the_tiger(rt: HostRuntime) -> Result<(), Fail> {
     assert_eq!(rt; model.obs(0, 0, 2), 1275);
     assert_eq!(rt; model.obs(0, 0, 3), 225);
     assert_eq!(rt; model.obs(1, 0, 0), 2500);
-    assert_eq!(rt; model.reward(8, 0, 1, 3), 20);
-    assert_eq!(rt; model.reward(5, 1, 0, 2), -100);
+    Ok(())
+}
+
+// Rewards that hold for every next state and every joint observation.
+#[test]
+fn rewards_of_the_tiger(rt: HostRuntime) -> Result<(), Fail> {
+    let read = read(rt.alloc(), &TIGER)?;
+    let model = &read.model;
+    assert!(rt; model.states() == 2);
+    assert!(rt; model.joint_actions() == 9);
+    assert!(rt; model.joint_observations() == 4);
+    for cell in 0..8 {
+        let (next, seen) = (cell / 4, cell % 4);
+        assert_eq!(rt; model.reward(8, 0, next, seen), 20, "{next} {seen}");
+        assert_eq!(rt; model.reward(5, 1, next, seen), -100, "{next} {seen}");
+    }
     Ok(())
 }
 
@@ -77,21 +94,21 @@ fn a_row_that_is_repaired(rt: HostRuntime) -> Result<(), Fail> {
     assert_eq!(rt; model.start(0), 334);
     assert_eq!(rt; model.start(1), 333);
     assert_eq!(rt; model.start(2), 333);
-    assert_eq!(rt; model.trans(1, 2, 0), 1);
+    for cell in 0..18 {
+        let (action, state, next) = (cell / 9, cell / 3 % 3, cell % 3);
+        assert_eq!(rt;
+            model.trans(action, state, next),
+            1,
+            "{action} {state} {next}"
+        );
+    }
     Ok(())
 }
 
 // The one-cell row of observations is repaired.
 #[test]
 fn a_row_of_one_cell_that_is_repaired(rt: HostRuntime) -> Result<(), Fail> {
-    let rows = solo_with(
-        "states: 2\nstart: 0.9999999999999999 0.0000000000000001\n",
-        "T: * : uniform\n\
-O: * : uniform\n\
-T: 0 : 0 : 0.9999999999999999 0.0000000000000001\n\
-O: 0 : 0 : 0.9999999999999999\n",
-    );
-    let read = read(rt.alloc(), &rows)?;
+    let read = read(rt.alloc(), &solo_with(UNEVEN_START, UNEVEN_CHANCES))?;
     assert_eq!(rt; read.repaired, 1);
     let scales = read.model.scales();
     assert_eq!(rt; scales.start, 10_000_000_000_000_000);
