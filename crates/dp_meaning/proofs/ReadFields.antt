@@ -16,8 +16,6 @@ use Rattle.dp_meaning.specs.declared.given_list.GivenList.TheVariants.{Counted, 
 use Rattle.dp_meaning.specs.declared.why.Fault.{Fault}
 use Rattle.dp_meaning.specs.declared.why.Why.TheVariants.{Expected}
 use Rattle.dp_meaning.specs.declared.statement.Table.{Table}
-use Rattle.dp_meaning.specs.declared.statement.ItemKind.{ItemKind}
-use Rattle.dp_meaning.specs.declared.statement.ItemKind.TheVariants.{HeaderEntry, StatementOf, NoItem}
 use Rattle.dp_meaning.specs.declared.header.Header.{Header}
 use Rattle.dp_meaning.specs.declared.statement.Part.{Part}
 use Rattle.dp_meaning.specs.declared.statement.Part.TheVariants.{Any, Only}
@@ -29,12 +27,13 @@ use Rattle.dp_meaning.specs.Faults.{◌>>=◌, fault}
 use Rattle.dp_meaning.specs.Items.{Piece, Item, is_star, after_colon, pieces_of, items_of_pieces}
 use Rattle.dp_meaning.specs.Numbers.{number, numbers, ended}
 use Rattle.dp_meaning.specs.NameLists.{size_of, names_in, index, says, if_below, place_in, found_at, find_in}
-use Rattle.dp_meaning.specs.Header.{kind_of, header_of, no_entries}
+use Rattle.dp_meaning.specs.Header.{header_of, no_entries}
 use Rattle.dp_meaning.specs.Fields.{Axis, Field, fields_of, part_of, parts_in, is_one_star, field_parts, all_parts}
-use Rattle.dp_meaning.specs.Statements.{axes_of, axis_size, least_fields, allows_uniform, allows_identity, is_number_of, value_of, unless_too_few, statement, statement_of_kind, statements_of}
+use Rattle.dp_meaning.specs.Statements.{axes_of, axis_size, least_fields, allows_uniform, allows_identity, is_number_of, value_of, unless_too_few, statement, statements_of}
 use Rattle.dp_meaning.specs.Meaning.{pieces_of_tokens, unless_lines, text_of, IsSaid}
 use Rattle.dp_meaning.proofs.FaultSteps.{done, ok_same, err_not_ok, bind_ok}
 use Rattle.dp_meaning.proofs.Each.{Each}
+use Rattle.dp_meaning.proofs.ReadStatements.{each_statement}
 use Rattle.dp_meaning.proofs.ReadValues.{ended_same}
 
 -- ---- fields
@@ -221,23 +220,6 @@ statement_is header table item s e =
           ((fields_of (after_colon item)).rest ++ flat_map pieces_of item.more) value.0 value.1;
     })
 
-statement_of_kind_is : (header : Header) (item : Item) (kind : ItemKind) (s : Statement)
-    → statement_of_kind header item kind ≡ done s
-    → IsStatementOf header s
-statement_of_kind_is header item (HeaderEntry k) s e = absurd (err_not_ok s _ e)
-statement_of_kind_is header item (StatementOf table) s e = statement_is header table item s e
-statement_of_kind_is header item NoItem s e = absurd (err_not_ok s _ e)
-
-statements_are : (header : Header) (items : List Item) (ss : List Statement) → statements_of header items ≡ done ss
-    → Each (IsStatementOf header) ss
-unfolding statements_of
-statements_are header [] ss e = subst (Each (IsStatementOf header)) (ok_same [] ss e) tt
-statements_are header (item ∷ items) ss e =
-    let first = bind_ok (statement_of_kind header item (kind_of item)) _ ss e in
-    let others = bind_ok (statements_of header items) _ ss first.2 in
-    subst (Each (IsStatementOf header)) (ok_same _ ss others.2)
-    (statement_of_kind_is header item (kind_of item) first.0 first.1, statements_are header items others.0 others.1)
-
 -- each statement of a text that some file says is one over the axes of its table
 pub said_statements : (text : Text) → IsSaid text → Each (IsStatementOf text.header) text.statements
 unfolding text_of
@@ -248,4 +230,4 @@ said_statements text said =
     let header = bind_ok (header_of (length bytes) no_entries (items_of_pieces (length bytes) pieces.0).items) _ text none.2 in
     let statements = bind_ok (statements_of header.0.0 header.0.1) _ text header.2 in
     subst (λ t. Each (IsStatementOf t.header) t.statements) (ok_same _ text statements.2)
-    (statements_are header.0.0 header.0.1 statements.0 statements.1)
+    (each_statement header.0.0 (IsStatementOf header.0.0) (statement_is header.0.0) header.0.1 statements.0 statements.1)

@@ -65,19 +65,24 @@ statement_is header table item s e =
     (value_is table (drop (length fields.0) (axes_of header table)) item.next
     ((fields_of (after_colon item)).rest ++ flat_map pieces_of item.more) value.0 value.1)
 
-statement_of_kind_is : (header : Header) (item : Item) (kind : ItemKind) (s : Statement)
-    → statement_of_kind header item kind ≡ done s
-    → IsStatement s
-statement_of_kind_is header item (HeaderEntry k) s e = absurd (err_not_ok s _ e)
-statement_of_kind_is header item (StatementOf table) s e = statement_is header table item s e
-statement_of_kind_is header item NoItem s e = absurd (err_not_ok s _ e)
+-- ---- each statement that is read
+
+-- what holds of each statement of an item holds of each statement of the items
+module _ (header : Header) (P : Statement → Type 0) (holds : (table : Table) (item : Item) (s : Statement) → statement header table item ≡ done s → P s) where
+  of_kind : (item : Item) (kind : ItemKind) (s : Statement) → statement_of_kind header item kind ≡ done s → P s
+  of_kind item (HeaderEntry k) s e = absurd (err_not_ok s _ e)
+  of_kind item (StatementOf table) s e = holds table item s e
+  of_kind item NoItem s e = absurd (err_not_ok s _ e)
+
+  pub each_statement : (items : List Item) (ss : List Statement) → statements_of header items ≡ done ss → Each P ss
+  unfolding statements_of
+  each_statement [] ss e = subst (Each P) (ok_same [] ss e) tt
+  each_statement (item ∷ items) ss e =
+      let first = bind_ok (statement_of_kind header item (kind_of item)) _ ss e in
+      let others = bind_ok (statements_of header items) _ ss first.2 in
+      subst (Each P) (ok_same _ ss others.2)
+      (of_kind item (kind_of item) first.0 first.1, each_statement items others.0 others.1)
 
 pub statements_are : (header : Header) (items : List Item) (ss : List Statement) → statements_of header items ≡ done ss
     → Each IsStatement ss
-unfolding statements_of
-statements_are header [] ss e = subst (Each IsStatement) (ok_same [] ss e) tt
-statements_are header (item ∷ items) ss e =
-    let first = bind_ok (statement_of_kind header item (kind_of item)) _ ss e in
-    let others = bind_ok (statements_of header items) _ ss first.2 in
-    subst (Each IsStatement) (ok_same _ ss others.2)
-    (statement_of_kind_is header item (kind_of item) first.0 first.1, statements_are header items others.0 others.1)
+statements_are header = each_statement header IsStatement (statement_is header)

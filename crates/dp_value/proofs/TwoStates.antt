@@ -97,7 +97,7 @@ unfolding is_exact_mode step_scale
 outward_over_many_steps = refl
 
 -- two points within the sum bound are weights of the start
-pub two_points : (e : Bool) (x y : ℕ) → x + y ≤ weight_limit e two_states 0
+two_points : (e : Bool) (x y : ℕ) → x + y ≤ weight_limit e two_states 0
     → AreWeights e two_states 0 (weights_of (point (pos x) ∷ point (pos y) ∷ []))
 two_points e x y limit = record {
   from = from;
