@@ -8,7 +8,7 @@ use Rattle.dp_meaning.specs.declared.text.Text.{Text}
 use Rattle.dp_meaning.specs.declared.why.Fault.{Fault}
 use Rattle.dp_meaning.specs.Limits.{passed_limit}
 use Rattle.dp_meaning.specs.Meaning as meaning
-use Rattle.dp_meaning.specs.Meaning.{text_of, names_given, model_of, Meaning, meaning, Means, FaultAt, Passes}
+use Rattle.dp_meaning.specs.Meaning.{text_of, names_given, model_of, Place, Meaning, meaning, Means, FaultAt, Passes}
 use Rattle.dp_meaning.specs.Rows as rows
 use Rattle.dp_meaning.specs.Rows.{repair_all, start_row, trans_rows, obs_rows}
 use Rattle.dp_meaning.proofs.ModelLaws.{model_is, names_are}
@@ -115,12 +115,26 @@ told_same bytes meant fault answer e is = subst (λ f. IsMeaning meant (Err f)) 
 
 -- ---- each answer comes exactly where it is meant, unless memory ran out
 
-same_read : (x y : ReadModel) → Means (meant_model x) ≡ Means (meant_model y) → x ≡ y
-same_read x y e = cc
+-- the answer of a model and a count
+abbrev answer_of : meaning.ReadModel → Result ReadModel ModelFault
+answer_of m = Ok (record { model = m.model; repaired = m.repaired })
+
+same_model : (m n : meaning.ReadModel) → Means m ≡ Means n → answer_of m ≡ answer_of n
+same_model m n e = let same : m ≡ n = cc in ap answer_of same
+
+-- the answer of a fault at a place
+abbrev answer_at : Place → Why → Result ReadModel ModelFault
+answer_at place why = Err (faults.At place.line place.column why)
+
+same_fault : (p q : Place) (why why' : Why) → FaultAt p why ≡ FaultAt q why' → answer_at p why ≡ answer_at q why'
+same_fault p q why why' e =
+    let place : p ≡ q = cc in
+    let cause : why ≡ why' = cc in
+    ap (λ (r : Place). answer_at r why) place ∙ ap (answer_at q) cause
 
 pub model_iff : (meant : Meaning) (r : Result ReadModel ModelFault) → IsMeaning meant r → (read : ReadModel) → r ≢ Err faults.Memory
     → (r ≡ Ok read) ↔ (meant ≡ Means (meant_model read))
-model_iff meant (Ok x) is read memory = (λ e. subst (IsMeaning meant) e is, λ e. ap Ok (same_read x read (sym is ∙ e)))
+model_iff meant (Ok x) is read memory = (λ e. subst (IsMeaning meant) e is, λ e. same_model (meant_model x) (meant_model read) (sym is ∙ e))
 model_iff meant (Err (faults.At line column why)) is read memory = (λ e. absurd cc, λ e. absurd cc)
 model_iff meant (Err (faults.TooLarge passed)) is read memory = (λ e. absurd cc, λ e. absurd cc)
 model_iff meant (Err faults.Memory) is read memory = absurd (memory refl)
@@ -128,7 +142,10 @@ model_iff meant (Err faults.Memory) is read memory = absurd (memory refl)
 pub fault_iff : (meant : Meaning) (r : Result ReadModel ModelFault) → IsMeaning meant r → (line column : ℕ) (why : Why) → r ≢ Err faults.Memory
     → (r ≡ Err (faults.At line column why)) ↔ (meant ≡ FaultAt (record { line = line; column = column }) why)
 fault_iff meant (Ok x) is line column why memory = (λ e. absurd cc, λ e. absurd cc)
-fault_iff meant (Err (faults.At line' column' why')) is line column why memory = (λ e. subst (IsMeaning meant) e is, λ e. cc)
+fault_iff meant (Err (faults.At line' column' why')) is line column why memory = (
+  λ e. subst (IsMeaning meant) e is,
+  λ e. same_fault (record { line = line'; column = column' }) (record { line = line; column = column }) why' why (sym is ∙ e),
+)
 fault_iff meant (Err (faults.TooLarge passed)) is line column why memory = (λ e. absurd cc, λ e. absurd cc)
 fault_iff meant (Err faults.Memory) is line column why memory = absurd (memory refl)
 
