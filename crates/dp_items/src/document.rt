@@ -42,7 +42,9 @@ impl<'a> Document<'a> {
     pub fn of(alloc: Global, bytes: &'a [u8], tokens: &[Token]) -> Result<Document<'a>, Memory>
         requires tokens { AreTokensOf bytes.now tokens.now }
         requires limit { length bytes.now ≤ 2 ^ 26 }
-        ensures { let end = length bytes.now in let pieces = map (piece_of bytes.now) tokens.now in IfOk result (λ document. document ≡ with_end end (items_of_pieces end pieces)) }
+        ensures { let end = length bytes.now in
+            let pieces = map (piece_of bytes.now) tokens.now in
+            IfOk result (λ document. document ≡ with_end end (items_of_pieces end pieces)) }
     {
         let end = bytes.len() as u32;
         let kept = without_line_ends(alloc, tokens)?;

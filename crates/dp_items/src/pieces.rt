@@ -1,5 +1,6 @@
 //! Pieces: tokens by their bytes.
-ghost use Rattle.std.specs.Prelude.{◌≡◌, [], ◌∷◌, ◌<◌, ◌≤◌, ◌^◌, MatchOption, drop, length, slice_get, slice_range, take};
+ghost use Rattle.std.specs.Prelude.{◌≡◌, [], ◌∷◌, ◌<◌, ◌≤◌, ◌^◌, MatchOption};
+ghost use Rattle.std.specs.Prelude.{drop, length, slice_get, slice_range, take};
 ghost use Rattle.dp_meaning.specs.Items.{first_at};
 ghost use Rattle.dp_items.specs.Tokens.{ArePiecesOf, IsPiece, pieces_of_text};
 

@@ -1,6 +1,6 @@
 -- What a text means, from its rows.
-use Rattle.std.proofs.Common.{◌≡◌, ℕ, ◌+◌, List, [], ◌∷◌, ◌++◌, length, map, refl, sym, ap, subst, ◌∙◌}
-use Rattle.std.specs.Prelude.{Some, None, Result, Ok, Err, IfOk}
+use Rattle.std.proofs.Common.{◌≡◌, ◌≢◌, ◌↔◌, ℕ, ◌+◌, List, [], ◌∷◌, ◌++◌, length, map, refl, sym, ap, subst, ◌∙◌}
+use Rattle.std.specs.Prelude.{Some, None, Result, Ok, Err}
 use Rattle.dp_spec.specs.Model.{IsModel}
 use Rattle.dp_model.specs.Names.{AreNames}
 use Rattle.dp_model.specs.Tables.{AreNamesOf, NamedModel}
@@ -8,7 +8,7 @@ use Rattle.dp_meaning.specs.declared.text.Text.{Text}
 use Rattle.dp_meaning.specs.declared.why.Fault.{Fault}
 use Rattle.dp_meaning.specs.Limits.{passed_limit}
 use Rattle.dp_meaning.specs.Meaning as meaning
-use Rattle.dp_meaning.specs.Meaning.{text_of, table_model, names_given, model_of, Meaning, meaning, Means, FaultAt, Passes}
+use Rattle.dp_meaning.specs.Meaning.{text_of, names_given, model_of, Place, Meaning, meaning, Means, FaultAt, Passes}
 use Rattle.dp_meaning.specs.Rows as rows
 use Rattle.dp_meaning.specs.Rows.{repair_all, start_row, trans_rows, obs_rows}
 use Rattle.dp_meaning.proofs.ModelLaws.{model_is, names_are}
@@ -22,7 +22,7 @@ use Rattle.dp_reader.specs.declared.fault.ModelFault.{ModelFault}
 use Rattle.dp_reader.specs.declared.fault.ModelFault.TheVariants as faults
 use Rattle.dp_meaning.specs.declared.why.Why.{Why}
 use Rattle.dp_reader.specs.Reading.{meant_model, ReadsModel, IsMeaning, told}
-use Rattle.dp_reader.specs.Repaired.{AreRepaired, ReadsRows, AreAllRows, ReadsAllRows}
+use Rattle.dp_reader.specs.Repaired.{AreRepaired, ReadsRows, AreAllRows, ReadsAllRows, model_of_rows}
 
 -- ---- the first rows that cannot be repaired
 
@@ -53,7 +53,7 @@ obs_stops end text x y Memory g h k = tt
 abbrev pub built : Text → Rows → meaning.ReadModel
 built text rows = record {
   model = record {
-    model = table_model text rows.start.cells.items rows.transitions.cells.items rows.observations.cells.items;
+    model = model_of_rows text rows;
     names = names_given text.header;
   };
   repaired = rows.start.count + rows.transitions.count + rows.observations.count;
@@ -73,9 +73,8 @@ means_built bytes text r says within is = rw says (rw within (rw is refl))
 -- what a model can be built from
 pub record CanBuild (text : Text) (rows : Rows) : Type 0 where
   pub names : AreNames (names_given text.header)
-  pub model : IsModel (table_model text rows.start.cells.items rows.transitions.cells.items rows.observations.cells.items)
-  pub named : AreNamesOf (table_model text rows.start.cells.items rows.transitions.cells.items rows.observations.cells.items)
-      (names_given text.header)
+  pub model : IsModel (model_of_rows text rows)
+  pub named : AreNamesOf (model_of_rows text rows) (names_given text.header)
 
 pub can_build : (bytes : List ℕ) (text : Text) (rows : Rows) → text_of bytes ≡ Ok text → passed_limit text ≡ None
     → AreAllRows (length bytes) text rows → CanBuild text rows
@@ -122,18 +121,48 @@ pub told_same : (bytes : List ℕ) (meant : Meaning) (fault : TextFault) (answer
     → IsMeaning meant (Err (told bytes fault)) → IsMeaning meant (Err answer)
 told_same bytes meant fault answer e is = subst (λ f. IsMeaning meant (Err f)) (sym e) is
 
--- ---- each answer by itself
+-- ---- each answer comes exactly where it is meant, unless memory ran out
 
-pub model_is_meant : (meant : Meaning) (r : Result ReadModel ModelFault) → IsMeaning meant r
-    → IfOk r (λ x. meant ≡ Means (meant_model x))
-model_is_meant meant (Ok x) is = is
-model_is_meant meant (Err f) is = tt
+-- the answer of a model and a count
+abbrev answer_of : meaning.ReadModel → Result ReadModel ModelFault
+answer_of m = Ok (record { model = m.model; repaired = m.repaired })
 
-pub fault_is_meant : (meant : Meaning) (r : Result ReadModel ModelFault) → IsMeaning meant r
-    → (line column : ℕ) (why : Why)
-    → r ≡ Err (faults.At line column why) → meant ≡ FaultAt (record { line = line; column = column }) why
-fault_is_meant meant r is line column why e = subst (IsMeaning meant) e is
+same_model : (m n : meaning.ReadModel) → Means m ≡ Means n → answer_of m ≡ answer_of n
+same_model m n e = let same : m ≡ n = cc in ap answer_of same
 
-pub limit_is_meant : (meant : Meaning) (r : Result ReadModel ModelFault) → IsMeaning meant r → (passed : TooLarge)
-    → r ≡ Err (faults.TooLarge passed) → meant ≡ Passes passed
-limit_is_meant meant r is passed e = subst (IsMeaning meant) e is
+-- the answer of a fault at a place
+abbrev answer_at : Place → Why → Result ReadModel ModelFault
+answer_at place why = Err (faults.At place.line place.column why)
+
+same_fault : (p q : Place) (why why' : Why) → FaultAt p why ≡ FaultAt q why' → answer_at p why ≡ answer_at q why'
+same_fault p q why why' e =
+    let place : p ≡ q = cc in
+    let cause : why ≡ why' = cc in
+    ap (λ (r : Place). answer_at r why) place ∙ ap (answer_at q) cause
+
+pub model_iff : (meant : Meaning) (r : Result ReadModel ModelFault) → IsMeaning meant r → (read : ReadModel)
+    → r ≢ Err faults.Memory
+    → (r ≡ Ok read) ↔ (meant ≡ Means (meant_model read))
+model_iff meant (Ok x) is read memory = (λ e. subst (IsMeaning meant) e is, λ e. same_model (meant_model x) (meant_model read) (sym is ∙ e))
+model_iff meant (Err (faults.At line column why)) is read memory = (λ e. absurd cc, λ e. absurd cc)
+model_iff meant (Err (faults.TooLarge passed)) is read memory = (λ e. absurd cc, λ e. absurd cc)
+model_iff meant (Err faults.Memory) is read memory = absurd (memory refl)
+
+pub fault_iff : (meant : Meaning) (r : Result ReadModel ModelFault) → IsMeaning meant r
+    → (line column : ℕ) (why : Why) → r ≢ Err faults.Memory
+    → (r ≡ Err (faults.At line column why)) ↔ (meant ≡ FaultAt (record { line = line; column = column }) why)
+fault_iff meant (Ok x) is line column why memory = (λ e. absurd cc, λ e. absurd cc)
+fault_iff meant (Err (faults.At line' column' why')) is line column why memory = (
+  λ e. subst (IsMeaning meant) e is,
+  λ e. same_fault (record { line = line'; column = column' }) (record { line = line; column = column }) why' why (sym is ∙ e),
+)
+fault_iff meant (Err (faults.TooLarge passed)) is line column why memory = (λ e. absurd cc, λ e. absurd cc)
+fault_iff meant (Err faults.Memory) is line column why memory = absurd (memory refl)
+
+pub limit_iff : (meant : Meaning) (r : Result ReadModel ModelFault) → IsMeaning meant r → (passed : TooLarge)
+    → r ≢ Err faults.Memory
+    → (r ≡ Err (faults.TooLarge passed)) ↔ (meant ≡ Passes passed)
+limit_iff meant (Ok x) is passed memory = (λ e. absurd cc, λ e. absurd cc)
+limit_iff meant (Err (faults.At line column why)) is passed memory = (λ e. absurd cc, λ e. absurd cc)
+limit_iff meant (Err (faults.TooLarge passed')) is passed memory = (λ e. subst (IsMeaning meant) e is, λ e. cc)
+limit_iff meant (Err faults.Memory) is passed memory = absurd (memory refl)

@@ -3,7 +3,8 @@ use Rattle.std.specs.Prelude.{◌≡◌, ℕ, ◌≤◌, ◌^◌, List, [], ◌�
 use Rattle.dp_meaning.specs.declared.text.Text.{Text}
 use Rattle.dp_meaning.specs.declared.why.Fault.{Fault}
 use Rattle.dp_meaning.specs.Rows as rows
-use Rattle.dp_meaning.specs.Meaning.{model_of}
+use Rattle.dp_meaning.specs.Meaning.{model_of, table_model}
+use Rattle.dp_spec.specs.Model.{Model}
 use Rattle.dp_text.specs.declared.fault.TextFault.{TextFault}
 use Rattle.dp_text.specs.declared.fault.TextFault.TheVariants.{At, Memory}
 use Rattle.dp_reader.specs.declared.repaired.Repaired.{Repaired}
@@ -25,6 +26,10 @@ pub record AreAllRows (end : ℕ) (text : Text) (read : Rows) : Type 0 where
   pub first : AreRepaired (rows.repair_all end (rows.start_row text ∷ [])) read.start
   pub trans : AreRepaired (rows.repair_all end (rows.trans_rows text)) read.transitions
   pub obs : AreRepaired (rows.repair_all end (rows.obs_rows text)) read.observations
+
+-- the model of the text with these rows
+abbrev pub model_of_rows : Text → Rows → Model
+model_of_rows text rows = table_model text rows.start.cells.items rows.transitions.cells.items rows.observations.cells.items
 
 -- all rows are what is meant, or the text's fault is, unless memory ran out
 abbrev pub ReadsAllRows : ℕ → Text → Result Rows TextFault → Type 0

@@ -4,12 +4,12 @@ ghost use Rattle.dp_spec.specs.Model.{IsModel};
 ghost use Rattle.dp_model.specs.Names.{AreNames};
 ghost use Rattle.dp_model.specs.Tables.{AreNamesOf};
 ghost use Rattle.dp_meaning.specs.Limits.{passed_limit};
-ghost use Rattle.dp_meaning.specs.Meaning.{IsSaid, names_given, rewards_of, table_model, text_of};
+ghost use Rattle.dp_meaning.specs.Meaning.{IsSaid, names_given, text_of};
 ghost use Rattle.dp_meaning.specs.Meaning as meaning;
 ghost use Rattle.dp_meaning.specs.NameLists.{size_of};
 ghost use Rattle.dp_meaning.specs.Scales.{scales_of};
 ghost use Rattle.dp_meaning.specs.Text.{states_in};
-ghost use Rattle.dp_reader.specs.Repaired.{ReadsAllRows};
+ghost use Rattle.dp_reader.specs.Repaired.{ReadsAllRows, model_of_rows};
 ghost use Rattle.dp_reader.specs.Reading.{ReadsModel};
 
 use crate::lists::{all_names, names_in, sizes};
@@ -65,7 +65,11 @@ fn all_rows(alloc: Global, text: &Text, scales: Scales, end: u32) -> Result<Rows
 /// How many states there are, and actions and observations of each agent.
 fn sizes_in(alloc: Global, text: &Text) -> Result<Sizes, Memory>
     requires { passed_limit text.now ≡ None }
-    ensures { IfOk result (λ sizes. sizes ≡ record { states = states_in text.now; actions = map size_of text.now.header.actions; observations = map size_of text.now.header.observations }) }
+    ensures { IfOk result (λ sizes. sizes ≡ record {
+      states = states_in text.now;
+      actions = map size_of text.now.header.actions;
+      observations = map size_of text.now.header.observations;
+    }) }
 {
     Ok(Sizes {
         states: states(text),
@@ -92,9 +96,9 @@ fn build(alloc: Global, text: Text, scales: Scales, rows: Rows) -> Result<Model,
     requires within { passed_limit text ≡ None }
     requires scales { scales ≡ scales_of text }
     requires names { AreNames (names_given text.header) }
-    requires model { IsModel (table_model text rows.start.cells.items rows.transitions.cells.items rows.observations.cells.items) }
-    requires named { AreNamesOf (table_model text rows.start.cells.items rows.transitions.cells.items rows.observations.cells.items) (names_given text.header) }
-    ensures { IfOk result (λ model. model ≡ record { model = table_model text rows.start.cells.items rows.transitions.cells.items rows.observations.cells.items; names = names_given text.header }) }
+    requires model { IsModel (model_of_rows text rows) }
+    requires named { AreNamesOf (model_of_rows text rows) (names_given text.header) }
+    ensures { IfOk result (λ model. model ≡ record { model = model_of_rows text rows; names = names_given text.header }) }
 {
     let reward = rewards(alloc, &text, scales.reward)?;
     let sizes = sizes_in(alloc, &text)?;

@@ -1,8 +1,9 @@
 //! Reading of a model file.
-ghost use Rattle.std.specs.Prelude.{◌≡◌, ℕ, ◌≤◌, ◌^◌, Ok, Err, IfOk, length};
+ghost use Rattle.std.specs.Prelude.{◌≡◌, ◌≢◌, ◌↔◌, ℕ, ◌≤◌, ◌^◌, Ok, Err, length};
 ghost use Rattle.dp_model.specs.declared.limit.TooLarge.{TooLarge};
 ghost use Rattle.dp_meaning.specs.declared.why.Why.{Why};
 ghost use Rattle.dp_meaning.specs.Meaning.{FaultAt, Means, Passes, meaning, text_of};
+ghost use Rattle.dp_reader.specs.declared.build.ReadModel.{ReadModel};
 ghost use Rattle.dp_reader.specs.Reading.{IsMeaning, meant_model, told};
 
 use crate::build::model_of;
@@ -53,9 +54,15 @@ fn model_within_limits(alloc: Global, bytes: &[u8], text: Text) -> Result<ReadMo
 pub fn read_model(alloc: Global, bytes: &[u8]) -> Result<ReadModel, ModelFault>
     requires { length bytes.now ≤ 2 ^ 26 }
     ensures is { IsMeaning (meaning bytes.now) result }
-    ensures model { IfOk result (λ r. meaning bytes.now ≡ Means (meant_model r)) }
-    ensures fault { (line column : ℕ) (why : Why) → result ≡ Err (ModelFault.At line column why) → meaning bytes.now ≡ FaultAt (record { line = line; column = column }) why }
-    ensures limit { (passed : TooLarge) → result ≡ Err (ModelFault.TooLarge passed) → meaning bytes.now ≡ Passes passed }
+
+    // Want of memory aside, each answer comes exactly where it is what the file means.
+    ensures model { (read : ReadModel) → result ≢ Err ModelFault.Memory →
+        ((result ≡ Ok read) ↔ (meaning bytes.now ≡ Means (meant_model read))) }
+    ensures fault { (line column : ℕ) (why : Why) → result ≢ Err ModelFault.Memory →
+        ((result ≡ Err (ModelFault.At line column why))
+        ↔ (meaning bytes.now ≡ FaultAt (record { line = line; column = column }) why)) }
+    ensures limit { (passed : TooLarge) → result ≢ Err ModelFault.Memory →
+        ((result ≡ Err (ModelFault.TooLarge passed)) ↔ (meaning bytes.now ≡ Passes passed)) }
 {
     match read_text(alloc, bytes) {
         Ok(text) => model_within_limits(alloc, bytes, text),

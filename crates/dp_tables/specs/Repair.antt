@@ -30,8 +30,8 @@ fault_of_row end None = record { at = end; why = MissingRow }
 -- the rows are repaired so many times, or row i is the first that cannot be
 abbrev pub RepairsRows : ℕ → ℕ → ℕ → List ℕ → List ℕ → Result ℕ ℕ → Type 0
 RepairsRows scale count len given cells (Ok repaired) =
-    (end : ℕ) (rows : List Row) → AreRows scale count len given rows →
-    repair_all end rows ≡ Ok (record { cells = cells; repaired = repaired })
+    (end : ℕ) (rows : List Row) → AreRows scale count len given rows
+    → repair_all end rows ≡ Ok (record { cells = cells; repaired = repaired })
 RepairsRows scale count len given cells (Err i) =
-    (end : ℕ) (rows : List Row) (d : Row) → AreRows scale count len given rows →
-    repair_all end rows ≡ Err (fault_of_row end (get_or rows i d).at)
+    (end : ℕ) (rows : List Row) (d : Row) → AreRows scale count len given rows
+    → repair_all end rows ≡ Err (fault_of_row end (get_or rows i d).at)

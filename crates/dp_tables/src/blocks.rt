@@ -1,6 +1,7 @@
 //! The values of a statement as a block: those of the cells of the axes without a field, the last axis fastest, or one
 //! for all of them.
-ghost use Rattle.std.specs.Prelude.{◌≡◌, ◌<◌, ◌≤◌, ◌*◌, ◌^◌, ◌*ℤ◌, pos, unsigned_abs, [], ◌∷◌, map, All, true, IfOk};
+ghost use Rattle.std.specs.Prelude.{◌≡◌, ◌<◌, ◌≤◌, ◌*◌, ◌^◌, ◌*ℤ◌, pos, unsigned_abs};
+ghost use Rattle.std.specs.Prelude.{[], ◌∷◌, map, All, true, IfOk};
 ghost use Rattle.std.specs.List.{range_with_len};
 ghost use Rattle.dp_meaning.specs.Numbers.{is_chance, is_reward};
 ghost use Rattle.dp_meaning.specs.Cells as spec;

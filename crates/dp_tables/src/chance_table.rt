@@ -1,5 +1,6 @@
 //! The chances of a table, as the statements of a text give them.
-ghost use Rattle.std.specs.Prelude.{◌≡◌, ℕ, ◌*◌, ◌⊎◌, ◌<◌, ◌≤◌, [], ◌∷◌, None, IfOk, OnOk, false, length, drop, map};
+ghost use Rattle.std.specs.Prelude.{◌≡◌, ℕ, ◌*◌, ◌⊎◌, ◌<◌, ◌≤◌, false};
+ghost use Rattle.std.specs.Prelude.{[], ◌∷◌, length, drop, map, None, IfOk, OnOk};
 ghost use Rattle.std.specs.List.{range_with_len};
 ghost use Rattle.dp_spec.specs.JointNumbers.{parts_of, product};
 ghost use Rattle.dp_meaning.specs.Statements.{axes_of, is_reward_table};
@@ -32,7 +33,8 @@ pub fn chances(alloc: Global, text: &Text, table: Table, scale: u64) -> Result<V
         let sizes = joint_actions_in text.now ∷ states_in text.now ∷ len ∷ [] in
         let count = joint_actions_in text.now * states_in text.now * len in
         IfOk result (λ cells. cells.items
-        ≡ map (λ k. chance_of_cell scale (axes_of text.now.header table) statements (parts_of sizes k)) (range_with_len 0 count)) }
+        ≡ map (λ k. chance_of_cell scale (axes_of text.now.header table) statements (parts_of sizes k))
+        (range_with_len 0 count)) }
 {
     let len = row_len(text, table);
     let sizes = list_sizes(alloc, &text.header, table)?;

@@ -111,7 +111,8 @@ fn allow_row(text: &Text, fields: &[Items<Part>], row: RowNumber) -> bool
 fn covers_row(text: &Text, table: Table, fields: &[Items<Part>], row: RowNumber, len: u32) -> bool
     requires said { IsSaid text.now }
     requires within { passed_limit text.now ≡ None }
-    ensures { result ≡ list_any (covers (axes_of text.now.header table) fields.now) (row_cells (row.action ∷ row.state ∷ []) len) }
+    ensures { let cells_of_row = row_cells (row.action ∷ row.state ∷ []) len in
+        result ≡ list_any (covers (axes_of text.now.header table) fields.now) cells_of_row }
 {
     if !allow_row(text, fields, row) {
         return false;
@@ -123,7 +124,9 @@ fn covers_row(text: &Text, table: Table, fields: &[Items<Part>], row: RowNumber,
 pub(crate) fn last_of_row(text: &Text, table: Table, row: RowNumber, len: u32) -> Option<u32>
     requires said { IsSaid text.now }
     requires within { passed_limit text.now ≡ None }
-    ensures { result ≡ statement_at (last_of_row (axes_of text.now.header table) (statements_for table text.now.statements) (row_cells (row.action ∷ row.state ∷ []) len)) }
+    ensures { let statements = statements_for table text.now.statements in
+        let cells_of_row = row_cells (row.action ∷ row.state ∷ []) len in
+        result ≡ statement_at (last_of_row (axes_of text.now.header table) statements cells_of_row) }
 {
     let mut last = None;
     for statement in text.statements.as_slice() {

@@ -1,5 +1,6 @@
 //! Writing the values of a statement into the cells that it covers.
-ghost use Rattle.std.specs.Prelude.{◌≡◌, ◌⊎◌, ℕ, List, ◌*◌, ◌%◌, ◌+◌, ◌<◌, ◌≤◌, length, drop, get_or, nat_le, nat_lt, ◌&&◌};
+ghost use Rattle.std.specs.Prelude.{◌≡◌, ◌⊎◌, ℕ, ◌*◌, ◌%◌, ◌+◌, ◌<◌, ◌≤◌, nat_le, nat_lt, ◌&&◌};
+ghost use Rattle.std.specs.Prelude.{List, length, drop, get_or};
 ghost use Rattle.dp_spec.specs.JointNumbers.{product};
 ghost use Rattle.dp_tables.specs.Writing.{AreWithin, AreWritten, IsWithin, is_covered};
 ghost use Rattle.dp_meaning.specs.Cells.{allows};
