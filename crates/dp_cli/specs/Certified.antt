@@ -1,4 +1,4 @@
--- The headline: what is known of a certificate that a plan puts.
+-- What is known of a certificate that a plan puts.
 use Rattle.std.specs.Prelude.{◌≡◌, ℕ, List, Option, Some, None, Ok}
 use Rattle.dp_spec.specs.Certificate.{Certificate, IsValid}
 use Rattle.dp_spec.specs.CertificateText.{IsCertificateText}

@@ -36,10 +36,8 @@ plan_refusal horizon (Passes passed) = Some (refusals.TooLarge passed)
 plan_refusal horizon (Means read) = horizon_refusal read.model.model horizon
 
 -- The bytes are the text of the certificate of the best constant policy of a model over one step, in exact mode: the
--- policy that
--- always does the least joint action among those of greatest value, whose value is both ends of the interval and the
--- one leaf of
--- the tree.
+-- policy that always does the least joint action among those of greatest value, whose value is both ends of the
+-- interval and the one leaf of the tree.
 pub record IsPlanOf (m : Model) (horizon : ℕ) (bytes : List ℕ) : Type 0 where
   pub is_model : IsModel m
   pub one_step : horizon ≡ 1

@@ -40,9 +40,9 @@ pub fn run<S: Shelf, W: Sink>(alloc: Global, words: &[String], shelf: &mut S, ou
     ensures told { IfSome (S.view shelf.old).told (λ contents. RunsAsTold contents (length (S.view shelf.old).log)
         (job_of (map string_bytes words.now)) (W.view out.old) (W.view out.new) result) }
 
-    // The headline. Done tells that the bytes put are the text of a certificate over the horizon of the
-    // job that is valid for the model of the file's bytes, that the value of its policy lies in its
-    // interval, and that no joint policy is worth more than the upper end.
+    // Done tells that the bytes put are the text of a certificate, over the horizon of the job, that is
+    // valid for the model of the file's bytes, that the value of its policy lies in its interval, and
+    // that no joint policy is worth more than the upper end.
     ensures certified { result ≡ Status.Done → IfSome (S.view shelf.old).told (λ contents. IsCertified contents
         (length (S.view shelf.old).log) (job_of (map string_bytes words.now)) (W.view out.old) (W.view out.new)) }
 

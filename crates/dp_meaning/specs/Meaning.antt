@@ -132,7 +132,7 @@ abbrev pub meaning_within : List ℕ → Text → Option TooLarge → Meaning
 meaning_within bytes text (Some passed) = Passes passed
 meaning_within bytes text None = meaning_of_model bytes (model_of (length bytes) text)
 
--- what a file means that says a text, or in which reading failed
+-- what a file means, by its text or by the fault with which the reading of it ended
 abbrev pub meaning_of_text : List ℕ → Result Text Fault → Meaning
 meaning_of_text bytes (Ok text) = meaning_within bytes text (passed_limit text)
 meaning_of_text bytes (Err e) = FaultAt (place_at bytes e.at) e.why

@@ -10,7 +10,7 @@ pub enum ModelFault {
     #[error("line {line}, column {column}: {why:?}")]
     At { line: u32, column: u32, why: Why },
     /// The first limit that the model passes.
-    #[error("too large: {}", .0.what.word())]
+    #[error("too large: {} {}", .0.what.word(), .0.count)]
     TooLarge(TooLarge),
     /// Memory ran out.
     #[error("memory ran out")]

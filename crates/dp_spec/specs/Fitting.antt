@@ -14,7 +14,7 @@ unfoldable pub front_bound : Arithmetic → Model → ℕ → ℕ → Front → 
 front_bound A m h look F = bound_in A m (h - F.stage) F look
 
 abbrev mutual
-  -- a tree fits a front on whose path the least bound is cap
+  -- a tree fits a front on whose path the least bound is cap; a merge fits in exact arithmetic alone
   pub FitsFront : Arithmetic → Model → ℕ → ℕ → BoundTree → Front → ℤ → Type 0
   FitsFront A m h look (leaf x) F cap = x ≡ cap
   FitsFront A m h look (branch i c ks) F cap =
