@@ -1,8 +1,9 @@
 //! Writing the values of a statement into the cells that it covers.
-ghost use Rattle.std.specs.Prelude.{◌≡◌, ◌⊎◌, ℕ, ◌*◌, ◌%◌, ◌+◌, ◌<◌, ◌≤◌, nat_le, nat_lt, ◌&&◌};
-ghost use Rattle.std.specs.Prelude.{List, length, drop, get_or};
+ghost use Rattle.std.specs.Prelude.{◌≡◌, ◌≢◌, ◌⊎◌, ℕ, ◌*◌, ◌%◌, ◌+◌, ◌<◌, ◌≤◌, nat_le, nat_lt, ◌&&◌};
+ghost use Rattle.std.specs.Prelude.{List, [], ◌∷◌, ◌++◌, length, drop, get_or};
 ghost use Rattle.dp_spec.specs.JointNumbers.{product};
 ghost use Rattle.dp_tables.specs.Writing.{AreWithin, AreWritten, IsWithin, is_covered};
+ghost use Rattle.dp_meaning.specs.declared.statement.Part.{Part};
 ghost use Rattle.dp_meaning.specs.Cells.{allows};
 
 use dp_meaning::Part;
@@ -25,10 +26,11 @@ pub(crate) fn write_block<T: Copy>(cells: &mut [T], sizes: &[u32], parts: &[Part
     }
 }
 
-/// The parts up to the last that names one number.
+/// The parts up to the last that names one number. They allow the same cells.
 fn without_last_any(parts: &[Part]) -> &[Part]
     ensures same { (sizes : List ℕ) (k : ℕ) → is_covered sizes result.now k ≡ is_covered sizes parts.now k }
     ensures within { (sizes : List ℕ) → AreWithin sizes parts.now → AreWithin sizes result.now }
+    ensures last { (front : List Part) → result.now ≢ front ++ Part.Any ∷ [] }
 {
     match parts.split_last() {
         Some((Part::Any, front)) => without_last_any(front),
