@@ -10,8 +10,8 @@ use dp_lexer::Kind;
 use dp_num::Memory;
 use std::alloc::Global;
 
-/// The lines of an item: its first, and those behind it, before `lines_past`. Its pieces end before the piece at
-/// `past`, and the next item begins at the offset `next`.
+/// The lines of an item: its first, and those behind it, before `lines_past`. Its pieces end before
+/// the piece at `past`, and the next item begins at the offset `next`.
 #[derive(Clone, Copy)]
 pub(crate) struct ItemSpan {
     pub line: usize,

@@ -7,7 +7,8 @@ use dp_lexer::{Kind, Token};
 use dp_num::Memory;
 use std::alloc::{AllocError, Global};
 
-/// The pieces from `first` up to `past`, line ends aside, and where the line's end stands, or the text's.
+/// The pieces from `first` up to `past`, line ends aside, and where the line's end stands, or the
+/// text's.
 #[derive(Clone, Copy)]
 pub(crate) struct LineSpan {
     pub first: usize,

@@ -98,7 +98,8 @@ fn build(alloc: Global, text: Text, scales: Scales, rows: Rows) -> Result<Model,
     requires names { AreNames (names_given text.header) }
     requires model { IsModel (model_of_rows text rows) }
     requires named { AreNamesOf (model_of_rows text rows) (names_given text.header) }
-    ensures { IfOk result (λ model. model ≡ record { model = model_of_rows text rows; names = names_given text.header }) }
+    ensures { IfOk result
+        (λ model. model ≡ record { model = model_of_rows text rows; names = names_given text.header }) }
 {
     let reward = rewards(alloc, &text, scales.reward)?;
     let sizes = sizes_in(alloc, &text)?;

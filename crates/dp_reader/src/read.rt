@@ -29,7 +29,8 @@ fn told(bytes: &[u8], fault: TextFault) -> ModelFault
     }
 }
 
-/// The model of the text that the file says, or the first limit that it passes, or else the first fault of its rows.
+/// The model of the text that the file says, or the first limit that it passes, or else the first
+/// fault of its rows.
 fn model_within_limits(alloc: Global, bytes: &[u8], text: Text) -> Result<ReadModel, ModelFault>
     requires short { length bytes.now ≤ 2 ^ 26 }
     requires says { text_of bytes.now ≡ Ok text }
@@ -45,12 +46,13 @@ fn model_within_limits(alloc: Global, bytes: &[u8], text: Text) -> Result<ReadMo
     }
 }
 
-/// The model that a model file of at most 64 MiB means, with its names, and how many of its rows of chances were
-/// repaired to sum to 1.
+/// The model that a model file of at most 64 MiB means, with its names, and how many of its rows of
+/// chances were repaired to sum to 1.
 ///
-/// `At` names what is wrong with the file, and where: the first bad byte, or else the first fault of the text. In a
-/// text without faults, `TooLarge` names the first limit that it passes, and within the limits `At` names the first
-/// row of the start, the transitions or the observations that cannot be repaired. `Memory` says that memory ran out.
+/// `At` names what is wrong with the file, and where: the first bad byte, or else the first fault
+/// of the text. In a text without faults, `TooLarge` names the first limit that it passes, and
+/// within the limits `At` names the first row of the start, the transitions or the observations
+/// that cannot be repaired. `Memory` says that memory ran out.
 pub fn read_model(alloc: Global, bytes: &[u8]) -> Result<ReadModel, ModelFault>
     requires { length bytes.now ≤ 2 ^ 26 }
     ensures is { IsMeaning (meaning bytes.now) result }

@@ -1,5 +1,5 @@
-//! The values of a statement as a block: those of the cells of the axes without a field, the last axis fastest, or one
-//! for all of them.
+//! The values of a statement as a block: those of the cells of the axes without a field, the last
+//! axis fastest, or one for all of them.
 ghost use Rattle.std.specs.Prelude.{◌≡◌, ◌<◌, ◌≤◌, ◌*◌, ◌^◌, ◌*ℤ◌, pos, unsigned_abs};
 ghost use Rattle.std.specs.Prelude.{[], ◌∷◌, map, All, true, IfOk};
 ghost use Rattle.std.specs.List.{range_with_len};
@@ -43,7 +43,8 @@ fn one_value(alloc: Global, value: u64) -> Result<Vec<u64>, Memory>
 fn identity(alloc: Global, scale: u64, len: usize) -> Result<Vec<u64>, Memory>
     requires some { 0 < len }
     requires limit { len ≤ 256 }
-    ensures { IfOk result (λ block. block.items ≡ map (blocks.identity_at scale len) (range_with_len 0 (len * len))) }
+    ensures { IfOk result
+        (λ block. block.items ≡ map (blocks.identity_at scale len) (range_with_len 0 (len * len))) }
 {
     let mut block = Vec::new(alloc);
     for j in 0..len * len {

@@ -22,8 +22,8 @@ use dp_meaning::{Statement, Table, Text};
 use dp_num::Memory;
 use std::alloc::Global;
 
-/// The chances of a table over this scale, as the statements of the text give them: by joint action, by state, and by
-/// next state or joint observation.
+/// The chances of a table over this scale, as the statements of the text give them: by joint
+/// action, by state, and by next state or joint observation.
 pub fn chances(alloc: Global, text: &Text, table: Table, scale: u64) -> Result<Vec<u64>, Memory>
     requires said { IsSaid text.now }
     requires within { passed_limit text.now ≡ None }
@@ -63,7 +63,8 @@ fn write_chances(
     requires some { 0 < product sizes.now }
     requires parts { AreWithin sizes.now (spec.list_parts statement.now.fields) }
     requires block { let block = blocks.chance_block scale len statement.now.value in
-        (length block ≡ 1) ⊎ (length block ≡ product (drop (length (spec.list_parts statement.now.fields)) sizes.now)) }
+        (length block ≡ 1)
+        ⊎ (length block ≡ product (drop (length (spec.list_parts statement.now.fields)) sizes.now)) }
     ensures { let block = blocks.chance_block scale len statement.now.value in
         OnOk result (AreWritten sizes.now (spec.list_parts statement.now.fields) block cells.old cells.new) }
 {

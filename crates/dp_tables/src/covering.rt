@@ -57,7 +57,8 @@ fn allow(lists: &[GivenList], parts: &[Part], number: u32) -> bool
 fn allow_some(lists: &[GivenList], parts: &[Part], count: u32) -> bool
     requires some { 0 < product (map size_of lists.now) }
     requires limit { product (map size_of lists.now) ≤ 256 }
-    ensures { result ≡ list_any (λ n. cells.allow parts.now (parts_of (map size_of lists.now) n)) (range_with_len 0 count) }
+    ensures { result
+        ≡ list_any (λ n. cells.allow parts.now (parts_of (map size_of lists.now) n)) (range_with_len 0 count) }
 {
     for number in 0..count {
         if allow(lists, parts, number) {

@@ -17,8 +17,9 @@ use dp_meaning::{Table, Text};
 use dp_model::{Limit, TooLarge};
 use dp_num::Scales;
 
-/// The scales of a text, or the first limit that it passes, with the count that passes it. The limits on
-/// sizes come first, then those on cells, on reward statements and on scales. It takes no memory.
+/// The scales of a text, or the first limit that it passes, with the count that passes it. The
+/// limits on sizes come first, then those on cells, on reward statements and on scales. It takes no
+/// memory.
 pub fn scales_within_limits(text: &Text) -> Result<Scales, TooLarge>
     requires { IsSaid text.now }
     ensures passed { passed_limit text.now ≡ result_err result }
@@ -68,7 +69,8 @@ fn check_cells(sizes: JointSizes) -> Result<(), TooLarge>
     requires states { sizes.states ≤ 256 }
     requires joint_actions { sizes.joint_actions ≤ 256 }
     requires joint_observations { sizes.joint_observations ≤ 256 }
-    ensures { first_passed (cell_limits sizes.joint_actions sizes.states sizes.joint_observations) ≡ result_err result }
+    ensures { first_passed (cell_limits sizes.joint_actions sizes.states sizes.joint_observations)
+        ≡ result_err result }
 {
     let states = u128::from(sizes.states);
     let joint_observations = u128::from(sizes.joint_observations);
@@ -84,7 +86,8 @@ fn check_cells(sizes: JointSizes) -> Result<(), TooLarge>
 
 /// Tries the limit on the reward statements.
 fn check_reward_lines(text: &Text) -> Result<(), TooLarge>
-    ensures { result_err result ≡ at_most Limit.RewardLines (length (statements_for Table.Reward text.now.statements)) 65536 }
+    ensures { result_err result
+        ≡ at_most Limit.RewardLines (length (statements_for Table.Reward text.now.statements)) 65536 }
 {
     let count = count_of(Table::Reward, text.statements.as_slice());
     check(Limit::RewardLines, count as u128, 65_536)

@@ -9,8 +9,8 @@ use dp_model::Items;
 use dp_num::Memory;
 use std::alloc::Global;
 
-/// The sizes of the lists of a table's axes: the agents' actions, the states, and the next states, the agents'
-/// observations, or both.
+/// The sizes of the lists of a table's axes: the agents' actions, the states, and the next states,
+/// the agents' observations, or both.
 pub(crate) fn list_sizes(alloc: Global, header: &Header, table: Table) -> Result<Vec<u32>, Memory>
     ensures { IfOk result (λ sizes. sizes.items ≡ spec.list_sizes (axes_of header.now table)) }
 {
@@ -23,7 +23,8 @@ pub(crate) fn list_sizes(alloc: Global, header: &Header, table: Table) -> Result
 
 /// Appends the sizes of the lists of the axes behind the joint action and the state.
 fn push_results(sizes: &mut Vec<u32>, header: &Header, table: Table) -> Result<(), Memory>
-    ensures { OnOk result (sizes.new.items ≡ sizes.old.items ++ spec.list_sizes (drop 2 (axes_of header.now table))) }
+    ensures { OnOk result
+        (sizes.new.items ≡ sizes.old.items ++ spec.list_sizes (drop 2 (axes_of header.now table))) }
 {
     match table {
         Table::Trans => sizes.push(header.states.size())?,

@@ -55,8 +55,8 @@ fn move_sum(row: &mut [u64], scale: u64, total: u128)
     row[place] = cell as u64;
 }
 
-// Repairs a row where its sum is not the scale, but nearly. Answers how often that was, or nothing where the sum is
-// too far from the scale.
+// Repairs a row where its sum is not the scale, but nearly. Answers how often that was, or nothing
+// where the sum is too far from the scale.
 fn repair_row(row: &mut [u64], scale: u64) -> Option<u32>
     requires { length row.old ≤ 256 }
     ensures is { RepairsRow scale row.old row.new result }
@@ -73,8 +73,8 @@ fn repair_row(row: &mut [u64], scale: u64) -> Option<u32>
     Some(1)
 }
 
-/// Repairs the rows of `len` cells each, in order, and answers how many were not right before; or else the number of
-/// the first row that cannot be repaired.
+/// Repairs the rows of `len` cells each, in order, and answers how many were not right before; or
+/// else the number of the first row that cannot be repaired.
 pub(crate) fn repair_rows(cells: &mut [u64], rows: u32, len: u32, scale: u64) -> Result<u32, u32>
     requires size { rows * len ≡ length cells.old }
     requires rows { rows ≤ 2 ^ 16 }

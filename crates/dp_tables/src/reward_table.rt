@@ -18,8 +18,8 @@ use dp_meaning::{Statement, Table, Text};
 use dp_num::Memory;
 use std::alloc::Global;
 
-/// The rewards over their scale, as the statements of the text give them: by joint action, state, next state and joint
-/// observation. Costs are negated.
+/// The rewards over their scale, as the statements of the text give them: by joint action, state,
+/// next state and joint observation. Costs are negated.
 pub fn rewards(alloc: Global, text: &Text, scale: u64) -> Result<Vec<i64>, Memory>
     requires said { IsSaid text.now }
     requires within { passed_limit text.now ≡ None }
@@ -71,7 +71,8 @@ fn write_rewards(
 /// How many rewards a model has.
 fn reward_cells(text: &Text) -> usize
     requires { passed_limit text.now ≡ None }
-    ensures { result ≡ joint_actions_in text.now * states_in text.now * states_in text.now * joint_observations_in text.now }
+    ensures { result
+        ≡ joint_actions_in text.now * states_in text.now * states_in text.now * joint_observations_in text.now }
 {
     let states = states(text) as usize;
     joint_actions(text) as usize * states * states * joint_observations(text) as usize

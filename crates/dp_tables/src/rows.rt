@@ -4,7 +4,8 @@ ghost use Rattle.dp_spec.specs.JointNumbers.{parts_of};
 ghost use Rattle.dp_meaning.specs.Cells.{statements_for};
 ghost use Rattle.dp_meaning.specs.Limits.{passed_limit};
 ghost use Rattle.dp_meaning.specs.Meaning.{IsSaid};
-ghost use Rattle.dp_meaning.specs.Rows.{last_of_row, obs_rows, repair_all, row_cells, statement_at, table_rows, trans_rows};
+ghost use Rattle.dp_meaning.specs.Rows.{last_of_row, obs_rows, repair_all, row_cells, statement_at};
+ghost use Rattle.dp_meaning.specs.Rows.{table_rows, trans_rows};
 ghost use Rattle.dp_meaning.specs.Scales.{scales_of};
 ghost use Rattle.dp_meaning.specs.Statements.{axes_of};
 ghost use Rattle.dp_meaning.specs.Text.{joint_actions_in, joint_observations_in, states_in};
@@ -16,8 +17,8 @@ use crate::repair::repair_rows;
 use crate::sizes::{joint_actions, joint_observations, states};
 use dp_meaning::{Fault, Table, Text, Why};
 
-/// What is wrong with a row of this number that cannot be repaired: its sum, at the last statement that covers a cell
-/// of it, or else that it is missing, at the end of the text.
+/// What is wrong with a row of this number that cannot be repaired: its sum, at the last statement
+/// that covers a cell of it, or else that it is missing, at the end of the text.
 fn fault_of_row(text: &Text, table: Table, row: u32, len: u32, end: u32) -> Fault
     requires said { IsSaid text.now }
     requires within { passed_limit text.now ≡ None }
@@ -67,8 +68,9 @@ fn repair_table(
     }
 }
 
-/// Repairs the rows of the transitions that the text gives, in place, and answers how many were not right before; or
-/// else the fault of the first row that cannot be repaired. `end` is the length of the file. It takes no memory.
+/// Repairs the rows of the transitions that the text gives, in place, and answers how many were not
+/// right before; or else the fault of the first row that cannot be repaired. `end` is the length of
+/// the file. It takes no memory.
 pub fn repair_transitions(
     cells: &mut [u64],
     text: &Text,

@@ -44,7 +44,8 @@ pub(crate) struct JointSizes {
 /// The greatest allowed number of joint actions, and of joint observations.
 const MOST: u64 = 256;
 
-/// The first product of the sizes of agents 0, 1 and so on that is more than 256, or the product of all.
+/// The first product of the sizes of agents 0, 1 and so on that is more than 256, or the product of
+/// all.
 pub(crate) fn first_product_past_most(lists: &[GivenList]) -> u64
     ensures { result ≡ product_past 256 1 (map size_of lists.now) }
 {

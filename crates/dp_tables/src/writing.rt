@@ -8,9 +8,10 @@ ghost use Rattle.dp_meaning.specs.Cells.{allows};
 
 use dp_meaning::Part;
 
-/// Writes a block of values to the cells that the parts allow. The number of a cell has one digit for each of `sizes`,
-/// the first most significant, and the parts stand for the first of these; a cell gets the value of the block that the
-/// other digits number. A block of one value is that value for all of them.
+/// Writes a block of values to the cells that the parts allow. The number of a cell has one digit
+/// for each of `sizes`, the first most significant, and the parts stand for the first of these; a
+/// cell gets the value of the block that the other digits number. A block of one value is that
+/// value for all of them.
 pub(crate) fn write_block<T: Copy>(cells: &mut [T], sizes: &[u32], parts: &[Part], block: &[T])
     requires cells { length cells.old ≡ product sizes.now }
     requires some { 0 < product sizes.now }
@@ -78,7 +79,8 @@ fn stretches(part: Part, size: u32) -> (usize, usize)
 /// Writes the values of a block to the cells in order, or its one value to all.
 fn put<T: Copy>(cells: &mut [T], block: &[T])
     requires { (length block.now ≡ 1) ⊎ (length block.now ≡ length cells.old) }
-    ensures { (k : ℕ) (d : T) → k < length cells.old → get_or cells.new k d ≡ get_or block.now (k % length block.now) d }
+    ensures { (k : ℕ) (d : T) → k < length cells.old →
+        get_or cells.new k d ≡ get_or block.now (k % length block.now) d }
 {
     if let [value] = block {
         for cell in cells.iter_mut() {

@@ -18,7 +18,8 @@ use std::alloc::Global;
 /// `Expected` names the first item that is neither an entry nor a statement. `Header` names an
 /// entry that comes twice or too early, or the item before which one is missing.
 pub(crate) fn read_header(alloc: Global, document: &Document) -> Result<(Header, usize), TextFault>
-    ensures { ReadsHeader document.now.items (spec.header_of document.now.end spec.no_entries document.now.items) result }
+    ensures { ReadsHeader document.now.items
+        (spec.header_of document.now.end spec.no_entries document.now.items) result }
 {
     let mut entries = no_entries();
     for place in 0..document.len() {
@@ -53,7 +54,8 @@ fn no_entries() -> Entries
 
 /// The header of all entries, which took so many items.
 fn header_behind(at: u32, entries: Entries, taken: usize) -> Result<(Header, usize), TextFault>
-    ensures { (items : List spec_items.Item) → ReadsHeader items (header_and at entries (drop taken items)) result }
+    ensures { (items : List spec_items.Item) →
+        ReadsHeader items (header_and at entries (drop taken items)) result }
 {
     match header_with(at, entries) {
         Ok(header) => Ok((header, taken)),

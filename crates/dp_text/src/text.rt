@@ -31,8 +31,8 @@ fn read_items(alloc: Global, document: &Document) -> Result<Text, TextFault>
 
 /// What a model file of at most 64 MiB says: its header and its statements.
 ///
-/// `At` names the first fault of the text and its offset: a byte that no token has comes before all else, and then
-/// the text is read from its beginning to its end. Takes memory linear in the bytes.
+/// `At` names the first fault of the text and its offset: a byte that no token has comes before all
+/// else, and then the text is read from its beginning to its end. Takes memory linear in the bytes.
 pub fn read_text(alloc: Global, bytes: &[u8]) -> Result<Text, TextFault>
     requires { length bytes.now ≤ 2 ^ 26 }
     ensures { Reads (text_of bytes.now) result }

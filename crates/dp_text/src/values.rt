@@ -27,7 +27,8 @@ fn range_of(table: Table) -> Range
 
 /// Whether a value is `uniform`, which fills rows of chances, where so many axes have no field.
 fn is_uniform(table: Table, left: usize, first: &Piece) -> bool
-    ensures { result ≡ (not (spec.is_reward_table table) && (nat_lt 0 left && lists.says (codes "uniform") first.now)) }
+    ensures { result
+        ≡ (not (spec.is_reward_table table) && (nat_lt 0 left && lists.says (codes "uniform") first.now)) }
 {
     !matches!(table, Table::Reward) && (left > 0 && says(b"uniform", first))
 }
