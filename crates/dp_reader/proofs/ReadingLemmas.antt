@@ -1,5 +1,5 @@
 -- What a text means, from its rows.
-use Rattle.std.proofs.Common.{◌≡◌, ◌≢◌, ◌↔◌, ℕ, ◌+◌, List, [], ◌∷◌, ◌++◌, length, map, refl, sym, ap, subst, ◌∙◌}
+use Rattle.std.proofs.Common.{◌≡◌, ◌≢◌, ◌↔◌, ℕ, ◌+◌, List, [], ◌∷◌, length, refl, sym, ap, subst, ◌∙◌}
 use Rattle.std.specs.Prelude.{Some, None, Result, Ok, Err}
 use Rattle.dp_spec.specs.Model.{IsModel}
 use Rattle.dp_model.specs.Names.{AreNames}
@@ -22,7 +22,7 @@ use Rattle.dp_reader.specs.declared.fault.ModelFault.{ModelFault}
 use Rattle.dp_reader.specs.declared.fault.ModelFault.TheVariants as faults
 use Rattle.dp_meaning.specs.declared.why.Why.{Why}
 use Rattle.dp_reader.specs.Reading.{meant_model, ReadsModel, IsMeaning, told}
-use Rattle.dp_reader.specs.Repaired.{AreRepaired, ReadsRows, AreAllRows, ReadsAllRows, model_of_rows}
+use Rattle.dp_reader.specs.Repaired.{ReadsRows, AreAllRows, ReadsAllRows, model_of_rows}
 
 -- ---- the first rows that cannot be repaired
 

@@ -69,8 +69,8 @@ fn repair_table(
 }
 
 /// Repairs the rows of the transitions that the text gives, in place, and answers how many were not
-/// right before; or else the fault of the first row that cannot be repaired. `end` is the length of
-/// the file. It takes no memory.
+/// right before; or else the fault of the first row that cannot be repaired, with which the cells
+/// are of no use. `end` is the length of the file. It takes no memory.
 pub fn repair_transitions(
     cells: &mut [u64],
     text: &Text,

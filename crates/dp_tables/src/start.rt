@@ -57,7 +57,7 @@ fn start_at(start: &Start) -> u32
 }
 
 /// Repairs the row of the start in place, and answers how often that was, 0 or 1; or else its
-/// fault. It takes no memory.
+/// fault, with which the cells are of no use. It takes no memory.
 pub fn repair_start(cells: &mut [u64], text: &Text, scale: u64, end: u32) -> Result<u32, Fault>
     requires said { IsSaid text.now }
     requires within { passed_limit text.now ≡ None }

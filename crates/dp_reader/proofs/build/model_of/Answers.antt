@@ -1,4 +1,3 @@
-use Rattle.std.proofs.Common.{◌∙◌}
 use Rattle.dp_reader.proofs.ReadingLemmas.{can_build, rows_built}
 use Rattle.dp_reader.proofs.build.model_of.Goals as goal
 
