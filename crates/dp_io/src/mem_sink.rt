@@ -42,7 +42,8 @@ impl Model for MemSink {
 impl MemSink {
     /// A sink with room for so many bytes, all of which it takes from memory now.
     pub fn new(alloc: Global, room: u64) -> Result<MemSink, Memory>
-        ensures { IfOk result (λ sink. sink ≡ record { bytes = []; room = room; puts = 0; offered = 0; faults = 0; named = None }) }
+        ensures { IfOk result
+            (λ sink. sink ≡ record { bytes = []; room = room; puts = 0; offered = 0; faults = 0; named = None }) }
     {
         Ok(MemSink {
             bytes: Vec::with_capacity(alloc, room as usize)?,
@@ -80,7 +81,8 @@ impl Sink for MemSink {
     fn put(&mut self, bytes: &[u8]) -> Result<(), SinkFailed>
         requires { self.old.puts < 2 ^ 63 }
         ensures puts { Puts (sink_view self.old) (sink_view self.new) bytes.now result }
-        ensures kept { self.new.bytes ≡ self.old.bytes ++ take (kept_of self.old (length bytes.now)) bytes.now }
+        ensures kept { self.new.bytes
+            ≡ self.old.bytes ++ take (kept_of self.old (length bytes.now)) bytes.now }
         ensures room { self.new.room ≡ self.old.room }
         ensures named { self.new.named ≡ self.old.named }
     {

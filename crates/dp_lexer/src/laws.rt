@@ -1,8 +1,8 @@
 //! What the tokens of a text are, proved of their definition.
 ghost use Rattle.dp_lexer.specs.TokenLaws.{TokensAreOfText, FirstBadByteIsNamed};
 
-/// A list is the tokens of a text exactly where each is a token of it, they are in order, and together they
-/// are the text without blanks and comments.
+/// A list is the tokens of a text exactly where each is a token of it, they are in order, and
+/// together they are the text without blanks and comments.
 pub fn tokens_are_of_text()
     ensures { TokensAreOfText }
 {}

@@ -69,8 +69,8 @@ impl<T: Drop> From<AllocFailed<T>> for TokenFault {
 
 /// The tokens of a text of at most 64 MiB, in order.
 ///
-/// Blanks are space, tab and carriage return. A `#` begins a comment, which goes up to the next line feed and
-/// may hold any bytes. Takes time and memory linear in the bytes.
+/// Blanks are space, tab and carriage return. A `#` begins a comment, which goes up to the next
+/// line feed and may hold any bytes. Takes time and memory linear in the bytes.
 ///
 /// `BadByte` names the first byte outside comments that is neither a blank nor one of a token.
 pub fn lex(alloc: Global, bytes: &[u8]) -> Result<Vec<Token>, LexFault>

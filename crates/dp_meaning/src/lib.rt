@@ -1,6 +1,7 @@
 //! What a model file means: a model, or the first fault of its text, or the first limit that it passes.
 //!
-//! The meaning is a definition in `specs/`, and what is proved of it is the clause of a public function.
+//! The meaning is a definition in `specs/`, and what is proved of it is the clause of a public
+//! function.
 #![tactic(auto)]
 
 mod cells;

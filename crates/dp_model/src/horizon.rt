@@ -5,7 +5,7 @@ ghost use Rattle.dp_spec.specs.Mode.{IsWithin, is_exact_mode, own_history_count}
 ghost use Rattle.dp_spec.specs.Model.{AreScales, joint_observations, step_scale, value_scale};
 ghost use Rattle.dp_spec.specs.Sums.{nat_sum};
 ghost use Rattle.dp_model.specs.Horizons.{fit_of, horizon_limits};
-ghost use Rattle.dp_model.specs.Limits.{at_most, first_passed};
+ghost use Rattle.dp_model.specs.Limits.{first_passed};
 
 use crate::{Limit, Model, TooLarge};
 use dp_num::Scales;
@@ -53,25 +53,14 @@ fn within_limits(model: &Model, horizon: u32) -> Result<(), TooLarge>
     requires { 1 ≤ horizon }
     ensures { result_err result ≡ first_passed (horizon_limits model.now.model horizon) }
 {
-    within_limit(Limit::Horizon, u128::from(horizon), MOST_STEPS)?;
+    Limit::Horizon.check(u128::from(horizon), MOST_STEPS)?;
     let own = own_histories(model, horizon);
-    within_limit(Limit::OwnHistories, own, MOST_OWN_HISTORIES)?;
+    Limit::OwnHistories.check(own, MOST_OWN_HISTORIES)?;
     let joint = joint_histories(model, horizon);
     let stage_cells = u128::from(model.states()) * joint;
     let game_cells = u128::from(model.joint_actions()) * joint;
-    within_limit(Limit::StageCells, stage_cells, MOST_STAGE_CELLS)?;
-    within_limit(Limit::GameCells, game_cells, MOST_GAME_CELLS)
-}
-
-// A limit is passed where the count is more than the greatest allowed.
-fn within_limit(what: Limit, count: u128, most: u128) -> Result<(), TooLarge>
-    ensures { result_err result ≡ at_most what count most }
-{
-    if count > most {
-        Err(TooLarge { what, count })
-    } else {
-        Ok(())
-    }
+    Limit::StageCells.check(stage_cells, MOST_STAGE_CELLS)?;
+    Limit::GameCells.check(game_cells, MOST_GAME_CELLS)
 }
 
 // How many own histories shorter than the horizon the agents have together.

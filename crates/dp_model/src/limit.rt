@@ -1,5 +1,6 @@
 ghost use Rattle.std.specs.Prelude.{◌≡◌};
-ghost use Rattle.dp_model.specs.Limits.{limit_word};
+ghost use Rattle.std.specs.Result.{result_err};
+ghost use Rattle.dp_model.specs.Limits.{at_most, limit_word};
 
 /// What is counted, and has a greatest allowed count.
 ///
@@ -72,6 +73,18 @@ impl Limit {
             Limit::ModelBytes => "model-bytes",
             Limit::FileBytes => "file-bytes",
             Limit::TextBytes => "text-bytes",
+        }
+    }
+
+    /// The limit is passed where the count is more than the greatest allowed, `most`: `TooLarge`
+    /// names it with that count.
+    pub fn check(self, count: u128, most: u128) -> Result<(), TooLarge>
+        ensures { result_err result ≡ at_most self count most }
+    {
+        if count > most {
+            Err(TooLarge { what: self, count })
+        } else {
+            Ok(())
         }
     }
 }

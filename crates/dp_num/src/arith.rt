@@ -10,9 +10,9 @@ use dp_spec::Span;
 
 /// An arithmetic for weights, rewards, values and bounds, over the scales of a model.
 ///
-/// It is `Exact` or `Outward`. Each call gives what the operation of its name in `operations` does, and
-/// asks for arguments that `calls` allows. For the scales of a model the operations are sound: each gives
-/// the true number, or numbers on either side of it.
+/// It is `Exact` or `Outward`. Each call gives what the operation of its name in `operations` does,
+/// and asks for arguments that `calls` allows. For the scales of a model the operations are sound:
+/// each gives the true number, or numbers on either side of it.
 pub trait Arith {
     ghost scales_of: { Self → Scales };
 
@@ -54,7 +54,8 @@ pub trait Arith {
         requires allowed { (calls self.now).Tail w v }
         ensures { result ≡ (operations self.now).tail w v };
 
-    // For a model of these scales each operation is sound: its results are the true numbers or enclose them.
+    // For a model of these scales each operation is sound: its results are the true numbers or
+    // enclose them.
     ghost holds: { (a : Self) (m : Model) → IsModel m → scales_of a ≡ m.scales →
         IsSound m (operations a) (enclosure (operations a).is_exact) };
 }

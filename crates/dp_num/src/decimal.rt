@@ -30,9 +30,10 @@ pub enum NumFault {
     Digits(u32),
 }
 
-/// The number that a text writes, as `units / 10^digits` with the least `digits`. It asks for at most `2^26`
-/// bytes. The fault is `Shape` where the text is not of the decimal shape; else `Large` where the
-/// magnitude is at least `10^18`; else `Digits` where the least number of fraction digits is more than 18.
+/// The number that a text writes, as `units / 10^digits` with the least `digits`. It asks for at
+/// most `2^26` bytes. The fault is `Shape` where the text is not of the decimal shape; else `Large`
+/// where the magnitude is at least `10^18`; else `Digits` where the least number of fraction digits
+/// is more than 18.
 pub fn read_decimal(text: &[u8]) -> Result<Decimal, NumFault>
     requires { length text.now ≤ 2 ^ 26 }
     ensures computed { result ≡ decimal_of text.now }

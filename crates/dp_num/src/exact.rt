@@ -9,8 +9,8 @@ use crate::arith::Arith;
 use dp_spec::{Scales, Span};
 use std::marker::Model;
 
-/// For how many numbers of steps left the factors of rewards are kept. Where more are left, a factor of at
-/// most 127 bits is that of fewer steps, since the scale of a step is 1.
+/// For how many numbers of steps left the factors of rewards are kept. Where more are left, a
+/// factor of at most 127 bits is that of fewer steps, since the scale of a step is 1.
 const FACTORS: usize = 127;
 
 /// The arithmetic that rounds nothing: each number is the true one.

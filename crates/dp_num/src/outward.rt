@@ -13,9 +13,9 @@ use std::marker::Model;
 /// The weight 1.
 const ONE: i128 = 1_000_000_000_000;
 
-/// The arithmetic that divides each product at once and rounds it outward: weights in `10^-12`, values in
-/// `10^-9`. The true number lies between the ends of each span, and at or below each number that is
-/// from above.
+/// The arithmetic that divides each product at once and rounds it outward: weights in `10^-12`,
+/// values in `10^-9`. The true number lies between the ends of each span, and at or below each
+/// number that is from above.
 #[derive(Drop)]
 pub struct Outward {
     scales: Scales,

@@ -78,8 +78,9 @@ pub(crate) fn is_exponent(text: &[u8]) -> bool
     }
 }
 
-/// Whether a text is of the decimal shape: an optional sign; digits with at most one point before, among or
-/// after them, and at least one digit; optionally `e` or `E`, an optional sign and one to three digits.
+/// Whether a text is of the decimal shape: an optional sign; digits with at most one point before,
+/// among or after them, and at least one digit; optionally `e` or `E`, an optional sign and one to
+/// three digits.
 pub fn is_decimal(text: &[u8]) -> bool
     ensures computed { result ≡ spec.is_decimal text.now }
     ensures shape { IsTrue result ↔ HasDecimalShape text.now }

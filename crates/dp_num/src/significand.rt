@@ -7,8 +7,9 @@ ghost use Rattle.dp_num.specs.DecimalShape.{digit_count};
 /// The most digits that a number within the limits has: 18 before the point and 18 behind it.
 pub(crate) const MOST_DIGITS: u32 = 36;
 
-/// The digits seen so far: a number that does not end in 0, its length and the zeros behind it. No digit was
-/// seen but 0 where the length is 0. A number of more than [`MOST_DIGITS`] digits is not kept.
+/// The digits seen so far: a number that does not end in 0, its length and the zeros behind it. No
+/// digit was seen but 0 where the length is 0. A number of more than [`MOST_DIGITS`] digits is not
+/// kept.
 #[derive(Clone, Copy)]
 pub(crate) struct Significand {
     pub(crate) number: u128,

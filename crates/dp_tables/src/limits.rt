@@ -37,7 +37,7 @@ fn sizes_within_limits(text: &Text) -> Result<JointSizes, TooLarge>
     ensures sizes { IfOk result (AreSizesOf text.now) }
 {
     let agents = text.header.agents.size();
-    check(Limit::Agents, u128::from(agents), 6)?;
+    Limit::Agents.check(u128::from(agents), 6)?;
     let states = check_size(Limit::States, u64::from(text.header.states.size()))?;
     let joint_actions = check_size(
         Limit::JointActions,
@@ -60,7 +60,7 @@ fn check_size(what: Limit, size: u64) -> Result<u32, TooLarge>
     ensures size { IfOk result (λ n. n ≡ size) }
     ensures limit { IfOk result (λ n. n ≤ 256) }
 {
-    check(what, u128::from(size), 256)?;
+    what.check(u128::from(size), 256)?;
     Ok(size as u32)
 }
 
@@ -75,13 +75,9 @@ fn check_cells(sizes: JointSizes) -> Result<(), TooLarge>
     let states = u128::from(sizes.states);
     let joint_observations = u128::from(sizes.joint_observations);
     let rows = u128::from(sizes.joint_actions) * states;
-    check(Limit::TransCells, rows * states, 1 << 22)?;
-    check(Limit::ObsCells, rows * joint_observations, 1 << 22)?;
-    check(
-        Limit::RewardCells,
-        rows * states * joint_observations,
-        1 << 28,
-    )
+    Limit::TransCells.check(rows * states, 1 << 22)?;
+    Limit::ObsCells.check(rows * joint_observations, 1 << 22)?;
+    Limit::RewardCells.check(rows * states * joint_observations, 1 << 28)
 }
 
 /// Tries the limit on the reward statements.
@@ -90,7 +86,7 @@ fn check_reward_lines(text: &Text) -> Result<(), TooLarge>
         ≡ at_most Limit.RewardLines (length (statements_for Table.Reward text.now.statements)) 65536 }
 {
     let count = count_of(Table::Reward, text.statements.as_slice());
-    check(Limit::RewardLines, count as u128, 65_536)
+    Limit::RewardLines.check(count as u128, 65_536)
 }
 
 /// The scales of a text of these sizes, or the first scale of chances that passes its limit.
@@ -123,17 +119,6 @@ fn check_scale(scale: u128) -> Result<u64, TooLarge>
     ensures passed { result_err result ≡ at_most Limit.Scale scale (2 ^ 62) }
     ensures scale { IfOk result (λ n. n ≡ scale) }
 {
-    check(Limit::Scale, scale, 1 << 62)?;
+    Limit::Scale.check(scale, 1 << 62)?;
     Ok(scale as u64)
-}
-
-/// The limit is passed where the count is more than the greatest allowed.
-fn check(what: Limit, count: u128, most: u128) -> Result<(), TooLarge>
-    ensures { result_err result ≡ at_most what count most }
-{
-    if count > most {
-        Err(TooLarge { what, count })
-    } else {
-        Ok(())
-    }
 }
