@@ -5,7 +5,7 @@ use Rattle.dp_io.specs.declared.shelf.FetchFault.TheVariants as fetch_faults
 use Rattle.dp_model.specs.declared.limit.Limit.{Limit}
 use Rattle.dp_model.specs.declared.limit.Limit.TheVariants.{ModelBytes, FileBytes}
 use Rattle.dp_model.specs.declared.limit.TooLarge.{TooLarge}
-use Rattle.dp_model.specs.Limits.{limit_word}
+use Rattle.dp_model.specs.Limits.{greatest_allowed, limit_word}
 use Rattle.dp_meaning.specs.declared.why.Why.{Why}
 use Rattle.dp_meaning.specs.Faults.{why_word}
 use Rattle.dp_reader.specs.declared.fault.ModelFault.{ModelFault}
@@ -21,15 +21,14 @@ use Rattle.dp_cli.specs.declared.refusal.Refusal.TheVariants as refusals
 use Rattle.dp_cli.specs.declared.status.Status.{Status}
 use Rattle.dp_cli.specs.declared.status.Status.TheVariants as statuses
 
--- the most bytes of a file of each role
-abbrev pub most_bytes : FileRole → ℕ
-most_bytes Model = 2 ^ 26
-most_bytes Second = 2 ^ 28
-
 -- the limit that a file of each role passes where it is longer than it may be
 abbrev pub role_limit : FileRole → Limit
 role_limit Model = ModelBytes
 role_limit Second = FileBytes
+
+-- the most bytes of a file of each role
+abbrev pub most_bytes : FileRole → ℕ
+most_bytes role = greatest_allowed (role_limit role)
 
 -- a file that is longer than it may be, by its number of bytes
 abbrev pub long_file : FileRole → ℕ → Refusal

@@ -8,6 +8,7 @@ use Rattle.dp_meaning.specs.NameLists.{size_of}
 use Rattle.dp_meaning.specs.Text.{states_in, joint_actions_in, joint_observations_in}
 use Rattle.dp_meaning.specs.Scales.{scales_of}
 use Rattle.dp_meaning.specs.Limits.{product_past, tried_limits, passed_limit}
+use Rattle.dp_model.specs.declared.limit.Limit.TheVariants as limits
 use Rattle.dp_model.proofs.LimitLemmas.{none_at, not_passed}
 
 -- a product of which no part from the left passes is the product
@@ -51,18 +52,18 @@ unfolding passed_limit
 small text e =
     let none : (k : ℕ) → get_or (tried_limits text) k None ≡ None = none_at (tried_limits text) e in
     record {
-      agents = not_passed _ _ _ (none 0);
-      states = not_passed _ _ _ (none 1);
-      actions = whole (map size_of text.header.actions) (not_passed _ _ _ (none 2));
-      observations = whole (map size_of text.header.observations) (not_passed _ _ _ (none 3));
-      counted_actions = counted_product 256 (map size_of text.header.actions) (not_passed _ _ _ (none 2));
-      counted_observations = counted_product 256 (map size_of text.header.observations) (not_passed _ _ _ (none 3));
-      trans_cells = not_passed _ _ _ (none 4);
-      obs_cells = not_passed _ _ _ (none 5);
-      reward_cells = not_passed _ _ _ (none 6);
-      start_scale = not_passed _ _ _ (none 8);
-      trans_scale = not_passed _ _ _ (none 9);
-      obs_scale = not_passed _ _ _ (none 10);
+      agents = not_passed limits.Agents _ (none 0);
+      states = not_passed limits.States _ (none 1);
+      actions = whole (map size_of text.header.actions) (not_passed limits.JointActions _ (none 2));
+      observations = whole (map size_of text.header.observations) (not_passed limits.JointObservations _ (none 3));
+      counted_actions = counted_product 256 (map size_of text.header.actions) (not_passed limits.JointActions _ (none 2));
+      counted_observations = counted_product 256 (map size_of text.header.observations) (not_passed limits.JointObservations _ (none 3));
+      trans_cells = not_passed limits.TransCells _ (none 4);
+      obs_cells = not_passed limits.ObsCells _ (none 5);
+      reward_cells = not_passed limits.RewardCells _ (none 6);
+      start_scale = not_passed limits.Scale _ (none 8);
+      trans_scale = not_passed limits.Scale _ (none 9);
+      obs_scale = not_passed limits.Scale _ (none 10);
     }
   where
     whole : (ns : List ℕ) → product_past 256 1 ns ≤ 256 → product ns ≤ 256

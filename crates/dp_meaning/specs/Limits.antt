@@ -2,7 +2,7 @@
 use Rattle.std.specs.Prelude.{ℕ, ◌*◌, ◌^◌, nat_lt, if◌then◌else◌, List, [], ◌∷◌, length, map, Option}
 use Rattle.dp_model.specs.declared.limit.Limit.TheVariants as limits
 use Rattle.dp_model.specs.declared.limit.TooLarge.{TooLarge}
-use Rattle.dp_model.specs.Limits.{at_most, first_passed}
+use Rattle.dp_model.specs.Limits.{first_passed, passed_by}
 use Rattle.dp_meaning.specs.declared.statement.Table.TheVariants.{Reward}
 use Rattle.dp_meaning.specs.declared.text.Text.{Text}
 use Rattle.dp_meaning.specs.NameLists.{size_of}
@@ -23,17 +23,17 @@ tried_limits text =
     let a = joint_actions_in text in
     let o = joint_observations_in text in
     let scales = scales_of text in
-    at_most limits.Agents (size_of header.agents) 6
-    ∷ at_most limits.States s 256
-    ∷ at_most limits.JointActions (product_past 256 1 (map size_of header.actions)) 256
-    ∷ at_most limits.JointObservations (product_past 256 1 (map size_of header.observations)) 256
-    ∷ at_most limits.TransCells (a * s * s) (2 ^ 22)
-    ∷ at_most limits.ObsCells (a * s * o) (2 ^ 22)
-    ∷ at_most limits.RewardCells (a * s * s * o) (2 ^ 28)
-    ∷ at_most limits.RewardLines (length (statements_for Reward text.statements)) 65536
-    ∷ at_most limits.Scale scales.start (2 ^ 62)
-    ∷ at_most limits.Scale scales.trans (2 ^ 62)
-    ∷ at_most limits.Scale scales.obs (2 ^ 62)
+    passed_by limits.Agents (size_of header.agents)
+    ∷ passed_by limits.States s
+    ∷ passed_by limits.JointActions (product_past 256 1 (map size_of header.actions))
+    ∷ passed_by limits.JointObservations (product_past 256 1 (map size_of header.observations))
+    ∷ passed_by limits.TransCells (a * s * s)
+    ∷ passed_by limits.ObsCells (a * s * o)
+    ∷ passed_by limits.RewardCells (a * s * s * o)
+    ∷ passed_by limits.RewardLines (length (statements_for Reward text.statements))
+    ∷ passed_by limits.Scale scales.start
+    ∷ passed_by limits.Scale scales.trans
+    ∷ passed_by limits.Scale scales.obs
     ∷ []
 
 -- the first limit that a text passes, in the order in which they are tried, with its count

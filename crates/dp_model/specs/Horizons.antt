@@ -5,15 +5,15 @@ use Rattle.dp_spec.specs.Model.{Model, joint_actions, joint_observations}
 use Rattle.dp_model.specs.declared.horizon.Fit.{Fit}
 use Rattle.dp_model.specs.declared.limit.Limit.TheVariants as limits
 use Rattle.dp_model.specs.declared.limit.TooLarge.{TooLarge}
-use Rattle.dp_model.specs.Limits.{at_most}
+use Rattle.dp_model.specs.Limits.{passed_by}
 
 -- the limits of a horizon, in order
 abbrev pub horizon_limits : Model → ℕ → List (Option TooLarge)
 horizon_limits m h =
-    at_most limits.Horizon h 16
-    ∷ at_most limits.OwnHistories (own_history_count m.observations h) 2048
-    ∷ at_most limits.StageCells (m.states * joint_observations m ^ (h - 1)) (2 ^ 22)
-    ∷ at_most limits.GameCells (joint_actions m * joint_observations m ^ (h - 1)) (2 ^ 24)
+    passed_by limits.Horizon h
+    ∷ passed_by limits.OwnHistories (own_history_count m.observations h)
+    ∷ passed_by limits.StageCells (m.states * joint_observations m ^ (h - 1))
+    ∷ passed_by limits.GameCells (joint_actions m * joint_observations m ^ (h - 1))
     ∷ []
 
 -- the horizon with its mode and its unit

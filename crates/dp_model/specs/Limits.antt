@@ -1,5 +1,5 @@
 -- The limits, as printed lines name them, and when one is passed.
-use Rattle.std.specs.Prelude.{ℕ, nat_lt, if◌then◌else◌, List, [], ◌∷◌, Option, Some, None, codes}
+use Rattle.std.specs.Prelude.{ℕ, ◌^◌, nat_lt, if◌then◌else◌, List, [], ◌∷◌, Option, Some, None, codes}
 use Rattle.dp_model.specs.declared.limit.Limit.{Limit}
 use Rattle.dp_model.specs.declared.limit.Limit.TheVariants as limits
 use Rattle.dp_model.specs.declared.limit.TooLarge.{TooLarge}
@@ -26,9 +26,31 @@ limit_word limits.ModelBytes = codes "model-bytes"
 limit_word limits.FileBytes = codes "file-bytes"
 limit_word limits.TextBytes = codes "text-bytes"
 
--- a limit is passed where the count is more than the greatest allowed
-abbrev pub at_most : Limit → ℕ → ℕ → Option TooLarge
-at_most what count most = if nat_lt most count then Some (record { what = what; count = count }) else None
+-- the greatest count that a limit allows
+abbrev pub greatest_allowed : Limit → ℕ
+greatest_allowed limits.Agents = 6
+greatest_allowed limits.States = 256
+greatest_allowed limits.JointActions = 256
+greatest_allowed limits.JointObservations = 256
+greatest_allowed limits.TransCells = 2 ^ 22
+greatest_allowed limits.ObsCells = 2 ^ 22
+greatest_allowed limits.RewardCells = 2 ^ 28
+greatest_allowed limits.RewardLines = 65536
+greatest_allowed limits.Scale = 2 ^ 62
+greatest_allowed limits.Horizon = 16
+greatest_allowed limits.OwnHistories = 2048
+greatest_allowed limits.StageCells = 2 ^ 22
+greatest_allowed limits.GameCells = 2 ^ 24
+greatest_allowed limits.Nodes = 1000000
+greatest_allowed limits.TreeNodes = 2 ^ 22
+greatest_allowed limits.Depth = 2048
+greatest_allowed limits.ModelBytes = 2 ^ 26
+greatest_allowed limits.FileBytes = 2 ^ 28
+greatest_allowed limits.TextBytes = 2 ^ 28
+
+-- a limit is passed where the count is more than it allows
+abbrev pub passed_by : Limit → ℕ → Option TooLarge
+passed_by what count = if nat_lt (greatest_allowed what) count then Some (record { what = what; count = count }) else None
 
 -- the first of the limits, in their order, that is passed
 abbrev pub first_passed : List (Option TooLarge) → Option TooLarge

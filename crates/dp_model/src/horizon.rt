@@ -10,14 +10,6 @@ ghost use Rattle.dp_model.specs.Limits.{first_passed};
 use crate::{Limit, Model, TooLarge};
 use dp_num::Scales;
 
-const MOST_STEPS: u128 = 16;
-
-const MOST_OWN_HISTORIES: u128 = 2048;
-
-const MOST_STAGE_CELLS: u128 = 1 << 22;
-
-const MOST_GAME_CELLS: u128 = 1 << 24;
-
 // In exact mode no value is greater.
 const MOST_VALUE: u128 = 1 << 126;
 
@@ -53,14 +45,14 @@ fn within_limits(model: &Model, horizon: u32) -> Result<(), TooLarge>
     requires { 1 ≤ horizon }
     ensures { result_err result ≡ first_passed (horizon_limits model.now.model horizon) }
 {
-    Limit::Horizon.check(u128::from(horizon), MOST_STEPS)?;
+    Limit::Horizon.check(u128::from(horizon))?;
     let own = own_histories(model, horizon);
-    Limit::OwnHistories.check(own, MOST_OWN_HISTORIES)?;
+    Limit::OwnHistories.check(own)?;
     let joint = joint_histories(model, horizon);
     let stage_cells = u128::from(model.states()) * joint;
     let game_cells = u128::from(model.joint_actions()) * joint;
-    Limit::StageCells.check(stage_cells, MOST_STAGE_CELLS)?;
-    Limit::GameCells.check(game_cells, MOST_GAME_CELLS)
+    Limit::StageCells.check(stage_cells)?;
+    Limit::GameCells.check(game_cells)
 }
 
 // How many own histories shorter than the horizon the agents have together.

@@ -1,6 +1,6 @@
 ghost use Rattle.std.specs.Prelude.{◌≡◌};
 ghost use Rattle.std.specs.Result.{result_err};
-ghost use Rattle.dp_model.specs.Limits.{at_most, limit_word};
+ghost use Rattle.dp_model.specs.Limits.{greatest_allowed, limit_word, passed_by};
 
 /// What is counted, and has a greatest allowed count.
 ///
@@ -76,12 +76,31 @@ impl Limit {
         }
     }
 
-    /// The limit is passed where the count is more than the greatest allowed, `most`: `TooLarge`
-    /// names it with that count.
-    pub fn check(self, count: u128, most: u128) -> Result<(), TooLarge>
-        ensures { result_err result ≡ at_most self count most }
+    /// The greatest count that it allows.
+    pub fn greatest_allowed(self) -> u128
+        ensures { result ≡ greatest_allowed self }
     {
-        if count > most {
+        match self {
+            Limit::Agents => 6,
+            Limit::States | Limit::JointActions | Limit::JointObservations => 256,
+            Limit::TransCells | Limit::ObsCells | Limit::StageCells | Limit::TreeNodes => 1 << 22,
+            Limit::RewardCells | Limit::FileBytes | Limit::TextBytes => 1 << 28,
+            Limit::RewardLines => 65_536,
+            Limit::Scale => 1 << 62,
+            Limit::Horizon => 16,
+            Limit::OwnHistories | Limit::Depth => 2048,
+            Limit::GameCells => 1 << 24,
+            Limit::Nodes => 1_000_000,
+            Limit::ModelBytes => 1 << 26,
+        }
+    }
+
+    /// The limit is passed where the count is more than it allows: `TooLarge` names it with that
+    /// count.
+    pub fn check(self, count: u128) -> Result<(), TooLarge>
+        ensures { result_err result ≡ passed_by self count }
+    {
+        if count > self.greatest_allowed() {
             Err(TooLarge { what: self, count })
         } else {
             Ok(())

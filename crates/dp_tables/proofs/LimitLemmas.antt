@@ -8,7 +8,7 @@ use Rattle.dp_meaning.specs.declared.text.Text.{Text}
 use Rattle.dp_meaning.specs.Cells.{statements_for}
 use Rattle.dp_meaning.specs.Text.{states_in, joint_actions_in, joint_observations_in}
 use Rattle.dp_meaning.specs.Scales.{start_scale, table_scale, scales_of}
-use Rattle.dp_model.specs.Limits.{at_most, first_passed}
+use Rattle.dp_model.specs.Limits.{first_passed, passed_by}
 use Rattle.dp_meaning.specs.Limits.{passed_limit}
 use Rattle.dp_tables.specs.declared.sizes.JointSizes.{JointSizes}
 use Rattle.dp_tables.specs.Limits.{size_limits, cell_limits, scale_limits}
@@ -35,7 +35,7 @@ abbrev pub cells_of : JointSizes → List (Option TooLarge)
 cells_of sizes = cell_limits sizes.joint_actions sizes.states sizes.joint_observations
 
 abbrev pub reward_lines_of : Text → Option TooLarge
-reward_lines_of text = at_most limits.RewardLines (length (statements_for Reward text.statements)) 65536
+reward_lines_of text = passed_by limits.RewardLines (length (statements_for Reward text.statements))
 
 abbrev pub scales_with : Text → JointSizes → List (Option TooLarge)
 scales_with text sizes =

@@ -2,7 +2,7 @@
 ghost use Rattle.std.specs.Prelude.{◌≡◌, ◌≤◌, ◌^◌, IfOk, [], ◌∷◌, length};
 ghost use Rattle.std.specs.Result.{result_err};
 ghost use Rattle.dp_meaning.specs.Cells.{statements_for};
-ghost use Rattle.dp_model.specs.Limits.{at_most, first_passed};
+ghost use Rattle.dp_model.specs.Limits.{first_passed, greatest_allowed, passed_by};
 ghost use Rattle.dp_meaning.specs.Limits.{passed_limit};
 ghost use Rattle.dp_meaning.specs.Meaning.{IsSaid};
 ghost use Rattle.dp_meaning.specs.Scales as spec;
@@ -37,7 +37,7 @@ fn sizes_within_limits(text: &Text) -> Result<JointSizes, TooLarge>
     ensures sizes { IfOk result (AreSizesOf text.now) }
 {
     let agents = text.header.agents.size();
-    Limit::Agents.check(u128::from(agents), 6)?;
+    Limit::Agents.check(u128::from(agents))?;
     let states = check_size(Limit::States, u64::from(text.header.states.size()))?;
     let joint_actions = check_size(
         Limit::JointActions,
@@ -56,11 +56,12 @@ fn sizes_within_limits(text: &Text) -> Result<JointSizes, TooLarge>
 
 /// The size, where it is at most 256.
 fn check_size(what: Limit, size: u64) -> Result<u32, TooLarge>
-    ensures passed { result_err result ≡ at_most what size 256 }
+    requires { greatest_allowed what ≡ 256 }
+    ensures passed { result_err result ≡ passed_by what size }
     ensures size { IfOk result (λ n. n ≡ size) }
     ensures limit { IfOk result (λ n. n ≤ 256) }
 {
-    what.check(u128::from(size), 256)?;
+    what.check(u128::from(size))?;
     Ok(size as u32)
 }
 
@@ -75,18 +76,18 @@ fn check_cells(sizes: JointSizes) -> Result<(), TooLarge>
     let states = u128::from(sizes.states);
     let joint_observations = u128::from(sizes.joint_observations);
     let rows = u128::from(sizes.joint_actions) * states;
-    Limit::TransCells.check(rows * states, 1 << 22)?;
-    Limit::ObsCells.check(rows * joint_observations, 1 << 22)?;
-    Limit::RewardCells.check(rows * states * joint_observations, 1 << 28)
+    Limit::TransCells.check(rows * states)?;
+    Limit::ObsCells.check(rows * joint_observations)?;
+    Limit::RewardCells.check(rows * states * joint_observations)
 }
 
 /// Tries the limit on the reward statements.
 fn check_reward_lines(text: &Text) -> Result<(), TooLarge>
     ensures { result_err result
-        ≡ at_most Limit.RewardLines (length (statements_for Table.Reward text.now.statements)) 65536 }
+        ≡ passed_by Limit.RewardLines (length (statements_for Table.Reward text.now.statements)) }
 {
     let count = count_of(Table::Reward, text.statements.as_slice());
-    Limit::RewardLines.check(count as u128, 65_536)
+    Limit::RewardLines.check(count as u128)
 }
 
 /// The scales of a text of these sizes, or the first scale of chances that passes its limit.
@@ -116,9 +117,9 @@ fn check_scales(text: &Text, sizes: JointSizes) -> Result<Scales, TooLarge>
 
 /// The scale, where it is at most 2^62.
 fn check_scale(scale: u128) -> Result<u64, TooLarge>
-    ensures passed { result_err result ≡ at_most Limit.Scale scale (2 ^ 62) }
+    ensures passed { result_err result ≡ passed_by Limit.Scale scale }
     ensures scale { IfOk result (λ n. n ≡ scale) }
 {
-    Limit::Scale.check(scale, 1 << 62)?;
+    Limit::Scale.check(scale)?;
     Ok(scale as u64)
 }
