@@ -2,6 +2,7 @@
 use Rattle.std.proofs.Common.{◌≡◌, ℕ, ◌+◌, ◌*◌, ◌%◌, ◌^◌, ◌<◌, ◌≤◌, Bool, true, List, [], ◌∷◌, ◌++◌, length, get_or, map, take, drop, refl, sym, ap, subst, ◌∙◌, arith, ℤ, pos}
 use Rattle.std.specs.Prelude.{replicate}
 use Rattle.std.proofs.lemmas.List.{drop-map, length-map}
+use Rattle.dp_num.proofs.SignificandLaws.{tens_up}
 use Rattle.dp_spec.specs.JointNumbers.{product, parts_of}
 use Rattle.dp_meaning.specs.declared.statement.Table.TheVariants.{Reward}
 use Rattle.dp_meaning.specs.declared.statement.Value.{Value}
@@ -24,7 +25,6 @@ use Rattle.dp_tables.specs.Writing.{AreWritten, list_sizes, list_parts}
 use Rattle.dp_tables.proofs.CellTables.{AreCells, no_cells, all_cells, one_list, IsStatementFor, IsWritable, cells_taken}
 use Rattle.dp_tables.proofs.ChanceLemmas.{of_numbers}
 use Rattle.dp_tables.proofs.FlatCells.{product_of_lists}
-use Rattle.dp_tables.proofs.ScaleLemmas.{tens_within}
 
 -- ---- the table of a text
 
@@ -44,7 +44,7 @@ rewards_count text = product_of_lists (reward_axes text) ∙ ap product (reward_
 pub reward_scale_limit : (text : Text) (scale : ℕ) → IsSaid text → scale ≡ (scales_of text).reward → scale ≤ 10 ^ 9
 unfolding scales_of
 reward_scale_limit text scale said e =
-    let most = tens_within (digits_of_statements (statements_for Reward text.statements)) 9 (rewards_digits text said) in omega arith
+    let most = tens_up (digits_of_statements (statements_for Reward text.statements)) 9 (rewards_digits text said) in omega arith
 
 -- ---- the statements of the rewards
 
