@@ -5,11 +5,6 @@ use Rattle.dp_lexer.specs.declared.Token.{Token}
 use Rattle.dp_lexer.specs.TokenLaws.{AreTokensOf}
 use Rattle.dp_items.specs.Tokens.{IsPieceOf, ArePiecesOf}
 
--- a list with no first element has none
-pub no_first : {X : Type 0} (xs : List X) → slice_get xs 0 ≡ None → xs ≡ []
-no_first [] e = cc
-no_first (x ∷ xs) e = cc
-
 -- tokens that stand one behind the other from an offset on fit into the text
 fit : (bytes : List ℕ) (low : ℕ) (tokens : List Token) → low ≤ length bytes
     → All (IsPieceOf bytes) tokens → AllPairs (λ a b. a.end ≤ b.start) tokens → All (λ t. low ≤ t.start) tokens
