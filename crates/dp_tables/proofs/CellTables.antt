@@ -96,23 +96,28 @@ writable text table s sizes said is e =
       width = width_of_parts axes s.fields is.over.fields;
     })
 
--- one more statement, which is one of the table's ..
+-- one more statement ..
+with_next : (table : Table) (items : List Statement) (i : ℕ) (s : Statement) → i < length items → s ≡ get_or items i s
+    → statements_for table (take (i + 1) items)
+    ≡ statements_for table (take i items) ++ cond (is_same_table table s.table) (s ∷ []) []
+with_next table items i s h is =
+    ap (statements_for table) (take_more items i s h ∙ ap (λ l. take i items ++ l ∷ []) (sym is))
+    ∙ filter-append (λ l. is_same_table table l.table) (take i items) (s ∷ [])
+
+-- .. which is one of the table's ..
 taken : (table : Table) (items : List Statement) (i : ℕ) (s : Statement) → i < length items → s ≡ get_or items i s
     → is_same_table table s.table ≡ true
     → statements_for table (take (i + 1) items) ≡ statements_for table (take i items) ++ s ∷ []
 taken table items i s h is same =
-    ap (statements_for table) (take_more items i s h ∙ ap (λ l. take i items ++ l ∷ []) (sym is))
-    ∙ filter-append (λ l. is_same_table table l.table) (take i items) (s ∷ [])
-    ∙ ap (λ b. statements_for table (take i items) ++ cond b (s ∷ []) []) same
+    with_next table items i s h is ∙ ap (λ b. statements_for table (take i items) ++ cond b (s ∷ []) []) same
 
 -- .. or is none, and changes nothing
 pub passed_over : (P : List Statement → Type 0) (table : Table) (items : List Statement) (i : ℕ) (s : Statement)
     → i < length items → s ≡ get_or items i s → is_same_table table s.table ≡ false
     → P (statements_for table (take i items)) → P (statements_for table (take (i + 1) items))
 passed_over P table items i s h is other = subst P (sym (
-    ap (statements_for table) (take_more items i s h ∙ ap (λ l. take i items ++ l ∷ []) (sym is))
-    ∙ filter-append (λ l. is_same_table table l.table) (take i items) (s ∷ [])
-    ∙ ap (λ b. statements_for table (take i items) ++ cond b (s ∷ []) []) other ∙ append-nil (statements_for table (take i items))))
+    with_next table items i s h is ∙ ap (λ b. statements_for table (take i items) ++ cond b (s ∷ []) []) other
+    ∙ append-nil (statements_for table (take i items))))
 
 -- ---- the cells
 

@@ -132,10 +132,6 @@ all_written size sizes part parts step first end block before after e long withi
 abbrev pub behind_first : {X : Type 0} → List X → List X
 behind_first xs = take (length xs - 1) (drop 1 xs)
 
-pub empty : {X : Type 0} (xs : List X) → length xs < 1 → xs ≡ []
-empty [] h = refl
-empty (x ∷ xs) h = absurd (omega arith)
-
 -- a part is that of a size
 pub some_size : (sizes : List ℕ) (parts : List Part) → AreWithin sizes parts → 1 ≤ length parts → 1 ≤ length sizes
 some_size sizes [] are h = absurd (omega arith)
