@@ -1,7 +1,7 @@
 -- What is written to the cells of a table.
-use Rattle.std.proofs.Common.{◌≡◌, ◌⊎◌, inl, inr, ℕ, suc, ◌+◌, ◌-◌, ◌*◌, ◌/◌, ◌%◌, ◌<◌, ◌≤◌, Bool, true, false, cond, nat_le, nat_lt, ◌&&◌, List, [], ◌∷◌, ◌++◌, length, get_or, take, drop, refl, sym, ap, subst, ◌∙◌, arith}
+use Rattle.std.proofs.Common.{◌≡◌, ◌⊎◌, inl, inr, ℕ, suc, ◌+◌, ◌-◌, ◌*◌, ◌/◌, ◌%◌, ◌<◌, ◌≤◌, Bool, true, cond, nat_le, nat_lt, ◌&&◌, List, [], ◌∷◌, ◌++◌, length, get_or, take, drop, refl, sym, ap, subst, ◌∙◌, arith}
 use Rattle.std.specs.Int.{◌∣◌}
-use Rattle.std.proofs.lemmas.Bool.{lt-ltb, le-ltb, le-leb, lt-leb, and_left, and_right, cases_order}
+use Rattle.std.proofs.lemmas.Bool.{lt-ltb, le-ltb, le-leb, cases_order}
 use Rattle.std.proofs.Math.Bool.{and-false}
 use Rattle.std.proofs.lemmas.List.{get_or-take, get_or-drop, get_or_append_left, get_or-append_right, length-take-le, length-drop}
 use Rattle.std.proofs.lemmas.Slice.{first_rest}
@@ -46,18 +46,6 @@ put_above a k xs ys j d fits long h =
     ∙ (let e : a + (k + (j - a - k)) ≡ j = omega arith in ap (λ n. get_or xs n d) e)
 
 -- ---- one stretch more
-
--- nothing is written before the first stretch
-pub none_written : {T : Type 0} (step first : ℕ) (sizes : List ℕ) (parts : List Part) (block before : List T)
-    → AreWrittenUpTo step first first sizes parts block before before
-none_written step first sizes parts block before k d h =
-    sym (ap (λ b. cond (b && is_covered sizes parts (k % step)) (get_or block (k % length block) d) (get_or before k d))
-    (by (k / step) (cases_order (k / step) first)))
-  where
-    by : (q : ℕ) → (q ≡ first) ⊎ ((q < first) ⊎ (first < q)) → (nat_le first q && nat_lt q first) ≡ false
-    by q (inl e) = and_right _ _ (le-ltb q first (omega arith))
-    by q (inr (inl h)) = and_left _ _ (lt-leb first q h)
-    by q (inr (inr h)) = and_right _ _ (le-ltb q first (omega arith))
 
 pub one_more : {T : Type 0} (step first i : ℕ) (sizes : List ℕ) (parts : List Part) (block before now new : List T)
     → 0 < step → first ≤ i → length now ≡ length before → i * step + step ≤ length before → length new ≡ step
