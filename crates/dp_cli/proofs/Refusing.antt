@@ -1,7 +1,6 @@
 -- The order of refusals: what the contents of a shelf determine is what a call answers.
-use Rattle.std.proofs.Common.{◌≡◌, ◌≢◌, ◌⊎◌, ℕ, ◌+◌, List, [], ◌∷◌, Bool, Option, Some, None, Result, Ok, Err, IfSome, inl, inr, ⊎_elim, refl, sym, ap, ◌∙◌, subst}
+use Rattle.std.proofs.Common.{◌≡◌, ◌≢◌, ◌⊎◌, ℕ, List, [], ◌∷◌, Bool, Option, Some, None, Result, IfSome, inl, inr, ⊎_elim, sym, ap, ◌∙◌, subst}
 use Rattle.std.proofs.lemmas.Option.{IfSome_then}
-use Rattle.dp_io.specs.FetchLaws.{fetch_answer}
 use Rattle.dp_io.specs.Shelf.{Contents}
 use Rattle.dp_io.specs.Sink.{SinkView}
 use Rattle.dp_io.specs.declared.shelf.FetchFault.{FetchFault}
@@ -19,7 +18,7 @@ use Rattle.dp_cli.specs.Causes.{first_refusal, refusal_of_file, status_by}
 use Rattle.dp_cli.specs.Job.{File, IsReply}
 use Rattle.dp_cli.specs.Planned.{plan_refusal}
 use Rattle.dp_cli.specs.Put.{PutsAnswer, PutsOrMemory}
-use Rattle.dp_cli.specs.Refusal.{fetch_refusal, most_bytes}
+use Rattle.dp_cli.specs.Refusal.{fetch_refusal}
 use Rattle.dp_cli.specs.Run.{IsToldAnswer, RunsAsTold}
 use Rattle.dp_cli.proofs.Causes.{kept_status}
 use Rattle.dp_cli.proofs.Replying.{answer_as, answer_status, status_of}

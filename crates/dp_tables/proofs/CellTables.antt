@@ -171,7 +171,8 @@ pub cells_taken : (T : Type 0) (none : T) (axes : List Axis) (value : List State
     (table : Table) (items : List Statement) (i : ℕ) (s : Statement)
     (block cells new old : List T) (sizes : List ℕ)
     → AreFieldsOf axes s.fields
-    → ((k : ℕ) → k < product (map axis_size axes) → get_or block (k % length block) none ≡ given (parts_of (map axis_size axes) k))
+    → ((k : ℕ) → k < product (map axis_size axes)
+    → get_or block (k % length block) none ≡ given (parts_of (map axis_size axes) k))
     → ((before : List Statement) (cell : Cell) → covers axes s.fields cell ≡ true → value (before ++ s ∷ []) cell ≡ given cell)
     → ((before : List Statement) (cell : Cell) → covers axes s.fields cell ≡ false
     → value (before ++ s ∷ []) cell ≡ value (before ++ []) cell)

@@ -83,7 +83,8 @@ allow_append [] others [] ms e = refl
 allow_append [] others (n ∷ ns) ms e = absurd (omega arith)
 allow_append (part ∷ parts) others [] ms e = absurd (omega arith)
 allow_append (part ∷ parts) others (n ∷ ns) ms e =
-    ap (λ b. allows part n && b) (allow_append parts others ns ms (omega arith)) ∙ sym (and_assoc (allows part n) (allow parts ns) (allow others ms))
+    ap (λ b. allows part n && b) (allow_append parts others ns ms (omega arith))
+    ∙ sym (and_assoc (allows part n) (allow parts ns) (allow others ms))
 
 -- the fields cover the cells that their parts allow
 pub covered_by_lists : (axes : List Axis) (fields : List (List Part)) (k : ℕ) → AreFieldsOf axes fields

@@ -73,7 +73,8 @@ loop-statement-preserved c = elim c.if-is_same.branch [
       c.loop-statement.cells.items w.write_chances.new.cells w.deref.result.now w.deref_mut.result.now
       (table_over_len c.args.text.now c.args.table c.row_len-len.result c.requires.said c.requires.table c.row_len-len.ensures.is)
       (statement_for c.args.text.now c.args.table c.as_slice-statement-items.result.now c.loop-statement.statement-index
-      c.statement-item.result c.requires.said c.as_slice-statement-items.ensures c.loop-statement-test.true c.statement-item.is (sym w.if-is_same.ensures))
+      c.statement-item.result c.requires.said c.as_slice-statement-items.ensures c.loop-statement-test.true
+      c.statement-item.is (sym w.if-is_same.ensures))
       c.loop-statement-test.true c.statement-item.is (sym w.if-is_same.ensures) c.loop-statement.invariant
       (w.deref.ensures.value ∙ c.in_ok-sizes.ensures) w.deref_mut.ensures.value w.write_chances.auto.cells w.in_ok-write_chances.ensures)
   | else-is_same w ↦
