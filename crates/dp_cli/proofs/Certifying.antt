@@ -1,5 +1,6 @@
 -- A call that is done put a certificate whose claims hold.
-use Rattle.std.proofs.Common.{◌≡◌, ◌≢◌, ℕ, List, [], ◌∷◌, Bool, Option, Some, None, Result, Ok, Err, IfSome, ⊎_elim, refl, sym, ap, ◌∙◌, subst}
+use Rattle.std.proofs.Common.{◌≡◌, ℕ, List, [], ◌∷◌, Bool, Option, Some, None, Result, Ok, Err, IfSome, ⊎_elim, sym, ◌∙◌, subst}
+use Rattle.std.proofs.lemmas.Option.{IfSome_then}
 use Rattle.dp_io.specs.FetchLaws.{fetch_answer}
 use Rattle.dp_io.specs.Shelf.{Contents}
 use Rattle.dp_io.specs.Sink.{SinkView, Puts}
@@ -97,5 +98,5 @@ certified contents number (Some (Plan model horizon nodes look merge order)) old
 pub certified_as_told : (told : Option Contents) (number : ℕ) (job : Option Job) (old new : SinkView) (result : Status)
     → IfSome told (λ contents. RunsAsTold contents number job old new result) → result ≡ statuses.Done
     → IfSome told (λ contents. IsCertified contents number job old new)
-certified_as_told None number job old new result h done = tt
-certified_as_told (Some contents) number job old new result h done = certified contents number job old new result h done
+certified_as_told told number job old new result h done =
+    IfSome_then told h (λ contents runs. certified contents number job old new result runs done)

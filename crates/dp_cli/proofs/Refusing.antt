@@ -1,6 +1,6 @@
 -- The order of refusals: what the contents of a shelf determine is what a call answers.
-use Rattle.std.proofs.Common.{◌≡◌, ◌≢◌, ◌⊎◌, ℕ, ◌+◌, List, [], ◌∷◌, Bool, Option, Some, None, Result, Ok, Err, IfSome, inl, inr, ⊎_elim, refl, sym, ap, ◌∙◌, subst}
-use Rattle.dp_io.specs.FetchLaws.{fetch_answer}
+use Rattle.std.proofs.Common.{◌≡◌, ◌≢◌, ◌⊎◌, ℕ, List, [], ◌∷◌, Bool, Option, Some, None, Result, IfSome, inl, inr, ⊎_elim, sym, ap, ◌∙◌, subst}
+use Rattle.std.proofs.lemmas.Option.{IfSome_then}
 use Rattle.dp_io.specs.Shelf.{Contents}
 use Rattle.dp_io.specs.Sink.{SinkView}
 use Rattle.dp_io.specs.declared.shelf.FetchFault.{FetchFault}
@@ -18,7 +18,7 @@ use Rattle.dp_cli.specs.Causes.{first_refusal, refusal_of_file, status_by}
 use Rattle.dp_cli.specs.Job.{File, IsReply}
 use Rattle.dp_cli.specs.Planned.{plan_refusal}
 use Rattle.dp_cli.specs.Put.{PutsAnswer, PutsOrMemory}
-use Rattle.dp_cli.specs.Refusal.{fetch_refusal, most_bytes}
+use Rattle.dp_cli.specs.Refusal.{fetch_refusal}
 use Rattle.dp_cli.specs.Run.{IsToldAnswer, RunsAsTold}
 use Rattle.dp_cli.proofs.Causes.{kept_status}
 use Rattle.dp_cli.proofs.Replying.{answer_as, answer_status, status_of}
@@ -106,11 +106,11 @@ pub cause_as_told : (told : Option Contents) (number : ℕ) (job : Option Job) (
     → IfSome told (λ contents. RunsAsTold contents number job old new result) → result ≢ statuses.WriteFault
     → result ≢ statuses.NoMemory
     → IfSome told (λ contents. result ≡ status_by (first_refusal contents number job))
-cause_as_told None number job old new result h no_fault found = tt
-cause_as_told (Some contents) number job old new result h no_fault found = cause contents number job old new result h no_fault found
+cause_as_told told number job old new result h no_fault found =
+    IfSome_then told h (λ contents runs. cause contents number job old new result runs no_fault found)
 
 pub refused_as_told : (told : Option Contents) (number : ℕ) (job : Option Job) (old new : SinkView) (result : Status)
     → IfSome told (λ contents. RunsAsTold contents number job old new result)
     → IfSome told (λ contents. IfSome (first_refusal contents number job) (λ refusal. PutsOrMemory old new refusal result))
-refused_as_told None number job old new result h = tt
-refused_as_told (Some contents) number job old new result h = refused_line contents number job old new result h
+refused_as_told told number job old new result h =
+    IfSome_then told h (λ contents runs. refused_line contents number job old new result runs)

@@ -1,7 +1,7 @@
 -- What a job asks for, and what it answers. Words that give no job are taken for one that asks for
 -- nothing, and each command adds its cases to the definitions `files_of`, `asks`, `refusal_of` and
 -- `IsWork`.
-use Rattle.std.specs.Prelude.{◌≡◌, ℕ, List, [], ◌∷◌, Option, Some, None}
+use Rattle.std.specs.Prelude.{ℕ, List, [], ◌∷◌, Option, Some, None}
 use Rattle.dp_words.specs.declared.job.Job.{Job}
 use Rattle.dp_words.specs.declared.job.Job.TheVariants.{Plan}
 use Rattle.dp_meaning.specs.Meaning.{meaning}

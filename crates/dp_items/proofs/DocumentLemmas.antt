@@ -1,7 +1,8 @@
 -- What a document holds is what its text means.
 use Rattle.std.proofs.Common.{◌≡◌, ◌≢◌, ℕ, zero, suc, ◌<◌, ◌≤◌, ◌^◌, Bool, true, false, cond, List, [], ◌∷◌, length, get_or, take, map, Some, refl, sym, ap, subst, ◌∙◌, arith}
-use Rattle.std.specs.Prelude.{slice_get, filter, All}
+use Rattle.std.specs.Prelude.{slice_get, filter, All, option_map}
 use Rattle.std.proofs.lemmas.List.{get_or_default}
+use Rattle.std.proofs.lemmas.Option.{slice_get-map, slice_get-get_or}
 use Rattle.std.proofs.lemmas.List.Elements.{All-filter}
 use Rattle.std.proofs.lemmas.List.Kept.{AllPairs-filter}
 use Rattle.dp_lexer.specs.declared.Token.{Token}
@@ -64,12 +65,6 @@ module _ (bytes : List ℕ) (tokens : List Token) (lines : List LineSpan) where
         ∙ ap (λ (l : List Piece). items_of (length bytes) (map (line_of l) lines)) (pieces_of_kept bytes tokens)
         ∙ ap (items_of (length bytes)) lines_are.lines)
 
-pub get_mapped : {X Y : Type 0} (f : X → Y) (xs : List X) (i : ℕ) (d : X) → i < length xs
-    → slice_get (map f xs) i ≡ Some (f (get_or xs i d))
-get_mapped f [] i d h = absurd (omega arith)
-get_mapped f (x ∷ xs) zero d h = refl
-get_mapped f (x ∷ xs) (suc i) d h = get_mapped f xs i d (omega arith)
-
 pub first_line_stands : (end : ℕ) (pieces : List Piece) (lines : List LineSpan) (before : ℕ) (d : LineSpan)
     → before ≢ 0 → before ≤ length lines
     → unless_lines end (map (line_of pieces) (take before lines))
@@ -90,7 +85,8 @@ item_there pieces lines items place span first item inside each span_is first_is
     let in_order = is.in_order in
     let within = is.within in
     let line : get_or lines span.line no_line ≡ first = get_or_default lines span.line no_line first (omega arith) ∙ sym first_is in
-    get_mapped (item_in pieces lines) items place span inside
+    slice_get-map (item_in pieces lines) items place
+    ∙ ap (option_map (item_in pieces lines)) (slice_get-get_or items place span inside)
     ∙ ap (λ (s : ItemSpan). Some (item_in pieces lines s)) (sym span_is)
     ∙ ap (λ (l : LineSpan). Some (item_of pieces l (more_of lines span) span.next)) line
     ∙ ap Some (sym item_is)

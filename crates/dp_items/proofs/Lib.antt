@@ -1,3 +1,4 @@
+pub mod Places
 pub mod ItemLemmas
 pub mod PieceLemmas
 pub mod LineLemmas

@@ -1,5 +1,5 @@
 -- Cutting pieces into lines, one piece after the other.
-use Rattle.std.proofs.Common.{◌≡◌, ℕ, zero, suc, ◌+◌, ◌-◌, ◌<◌, ◌≤◌, ◌^◌, Bool, true, false, cond, List, [], ◌∷◌, ◌++◌, length, take, drop, map, Option, Some, None, refl, sym, ap, subst, ◌∙◌, append_assoc, arith}
+use Rattle.std.proofs.Common.{◌≡◌, ℕ, ◌+◌, ◌-◌, ◌<◌, ◌≤◌, ◌^◌, Bool, true, false, cond, List, [], ◌∷◌, ◌++◌, length, take, drop, map, Option, Some, None, refl, sym, ap, subst, ◌∙◌, append_assoc, arith}
 use Rattle.std.specs.Prelude.{filter, nat_lt, slice_get, slice_range}
 use Rattle.std.proofs.lemmas.List.{append-nil, length-drop, length-take, map-append, drop-drop}
 use Rattle.std.proofs.lemmas.Bool.Decides.{nat_tests}
@@ -8,6 +8,7 @@ use Rattle.dp_lexer.specs.declared.Kind.TheVariants.{Word, Number, Colon, Star, 
 use Rattle.dp_meaning.specs.Items.{Piece, Line, with_piece, lines_of, has_pieces}
 use Rattle.dp_items.specs.declared.line.LineSpan.{LineSpan}
 use Rattle.dp_items.specs.Lines.{is_no_line_end, kept_pieces, line_of, AreOneRun, unless_empty, AreLinesOf}
+use Rattle.dp_items.proofs.Places.{drop_at, drop_none}
 use Rattle.dp_items.proofs.ItemLemmas.{stretches, empty_stretch}
 
 -- these pieces at the front of the first line
@@ -48,18 +49,6 @@ keeps p rest other = ap (λ b. cond b (p ∷ kept_pieces rest) (kept_pieces rest
 
 drops : (p : Piece) (rest : List Piece) → p.kind ≡ LineEnd → kept_pieces (p ∷ rest) ≡ kept_pieces rest
 drops p rest is = ap (λ k. cond (is_no_line_end k) (p ∷ kept_pieces rest) (kept_pieces rest)) is
-
--- the element at a place is the first of the rest
-first_of_rest : {X : Type 0} (xs : List X) (i : ℕ) (x : X) → slice_get xs i ≡ Some x → drop i xs ≡ x ∷ drop (i + 1) xs
-first_of_rest [] i x e = absurd (cc)
-first_of_rest (y ∷ xs) zero x e = cc
-first_of_rest (y ∷ xs) (suc i) x e = let one : suc i + 1 ≡ suc (i + 1) = omega arith in rw one (first_of_rest xs i x e)
-
-none_left : {X : Type 0} (xs : List X) (i : ℕ) → slice_get xs i ≡ None → drop i xs ≡ []
-none_left [] zero e = refl
-none_left [] (suc i) e = refl
-none_left (x ∷ xs) zero e = absurd (cc)
-none_left (x ∷ xs) (suc i) e = none_left xs i e
 
 one_stretch : (b : Bool) (from : ℕ) (span : LineSpan) → nat_lt span.first span.past ≡ b → from ≡ span.first
     → span.first ≤ span.past
@@ -142,7 +131,7 @@ module _ (end : ℕ) (pieces : List Piece) where
       → AreLinesSoFar (spans ++ unless_empty span) span.past span.past (at + 1)
   unfolding lines_of
   ends_line spans span at p so_far here kind ends limit =
-      let cut = first_of_rest pieces at p here in
+      let cut = drop_at pieces at p here in
       let others : List Line = lines_of end (drop (at + 1) pieces) in
       let line : lines_of end (drop at pieces) ≡ record { pieces = []; ends = span.ends } ∷ lines_of end (drop (at + 1) pieces) =
       ap (lines_of end) cut ∙ ap (λ k. with_piece k p others) kind ∙ ap (λ e. record { pieces = []; ends = e } ∷ others) (sym ends) in
@@ -161,7 +150,7 @@ module _ (end : ℕ) (pieces : List Piece) where
       → slice_get pieces at ≡ Some p → (p.kind ≡ LineEnd → ⊥) → AreLinesSoFar spans first (past + 1) (at + 1)
   unfolding lines_of
   goes_on spans first past at p so_far here other =
-      let cut = first_of_rest pieces at p here in
+      let cut = drop_at pieces at p here in
       let others : List Line = lines_of end (drop (at + 1) pieces) in
       let in_order = so_far.in_order in
       let left : drop past kept ≡ p ∷ kept_pieces (drop (at + 1) pieces) = so_far.left ∙ ap kept_pieces cut ∙ keeps p (drop (at + 1) pieces) other in
@@ -185,7 +174,7 @@ module _ (end : ℕ) (pieces : List Piece) where
       → slice_get pieces at ≡ None → span.ends ≡ end → end ≤ 2 ^ 26 → AreLinesOf end pieces (spans ++ unless_empty span)
   unfolding lines_of
   at_end spans span at so_far none ends limit =
-      let cut = none_left pieces at none in
+      let cut = drop_none pieces at none in
       let line : lines_of end (drop at pieces) ≡ record { pieces = []; ends = span.ends } ∷ [] =
       ap (lines_of end) cut ∙ ap (λ e. record { pieces = []; ends = e } ∷ []) (sym ends) in
       let size = ap length (so_far.left ∙ ap kept_pieces cut) in

@@ -1,14 +1,9 @@
 -- Pieces: how many a text can have, and where they stand in a list.
-use Rattle.std.proofs.Common.{◌≡◌, ℕ, suc, ◌+◌, ◌≤◌, ◌^◌, List, [], ◌∷◌, length, None, arith}
-use Rattle.std.specs.Prelude.{All, AllPairs, slice_get}
+use Rattle.std.proofs.Common.{ℕ, suc, ◌+◌, ◌≤◌, ◌^◌, List, [], ◌∷◌, length, arith}
+use Rattle.std.specs.Prelude.{All, AllPairs}
 use Rattle.dp_lexer.specs.declared.Token.{Token}
 use Rattle.dp_lexer.specs.TokenLaws.{AreTokensOf}
 use Rattle.dp_items.specs.Tokens.{IsPieceOf, ArePiecesOf}
-
--- a list with no first element has none
-pub no_first : {X : Type 0} (xs : List X) → slice_get xs 0 ≡ None → xs ≡ []
-no_first [] e = cc
-no_first (x ∷ xs) e = cc
 
 -- tokens that stand one behind the other from an offset on fit into the text
 fit : (bytes : List ℕ) (low : ℕ) (tokens : List Token) → low ≤ length bytes

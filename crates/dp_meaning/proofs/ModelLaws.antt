@@ -27,7 +27,7 @@ use Rattle.dp_meaning.proofs.Meant.{meant}
 use Rattle.dp_meaning.proofs.TextLimits.{IsSmall, small}
 use Rattle.dp_meaning.proofs.BuiltModel.{IsBuilt, built_of, trans_table, obs_table, sum_of_start, length_of_rewards}
 use Rattle.dp_meaning.proofs.RowLaws.{table_model_rows}
-use Rattle.dp_meaning.proofs.Each.{Each, each_at, each_of_range}
+use Rattle.dp_meaning.proofs.Each.{Each, each_at, each_from, each_of_range}
 use Rattle.dp_meaning.proofs.ReadValues.{IsList}
 use Rattle.dp_meaning.proofs.ReadHeader.{AreLists, IsHeader, header_is}
 use Rattle.dp_meaning.proofs.ReadStatements.{IsStatement, statements_are}
@@ -54,10 +54,14 @@ text_is bytes text e =
 
 -- ---- sizes
 
+-- a product of numbers above 0 is above 0
+pub product_above : {X : Type 0} (f : X → ℕ) (xs : List X) → Each (λ x. 1 ≤ f x) xs → 0 < product (map f xs)
+product_above f [] each = omega arith
+product_above f (x ∷ xs) each =
+    let h = mul-le 1 1 (f x) (product (map f xs)) each.0 (product_above f xs each.1) in omega arith
+
 pub some_product : (lists : List GivenList) → Each IsList lists → 0 < product (map size_of lists)
-some_product [] each = omega arith
-some_product (l ∷ lists) each =
-    let h = mul-le 1 1 (size_of l) (product (map size_of lists)) each.0.some (some_product lists each.1) in omega arith
+some_product lists each = product_above size_of lists (each_from IsList (λ l. 1 ≤ size_of l) (λ l is. is.some) lists each)
 
 count_of : (agents : GivenList) (lists : List GivenList) → AreLists agents lists
     → length (map size_of lists) ≡ size_of agents

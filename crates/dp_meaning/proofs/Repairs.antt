@@ -17,28 +17,41 @@ use Rattle.std.proofs.lemmas.Bool.{eqb-true, cases_eq}
 
 -- ---- one row
 
-near_parts : (scale total : ℕ) → is_near scale total ≡ true → ((scale - total) + (total - scale)) * 1000 ≤ scale
+pub near_parts : (scale total : ℕ) → is_near scale total ≡ true → ((scale - total) + (total - scale)) * 1000 ≤ scale
 near_parts scale total e = grind (arith, nat_tests, e)
 
--- a row of fewer than a thousand cells sums to its scale once it is repaired
+-- the first of the largest cells of a row holds what is the largest
+pub at_greatest : (cells : List ℕ) → 0 < length cells → get_or cells (greatest_place cells) 0 ≡ greatest_cell cells
+at_greatest cells some =
+    eqb-true _ _ (passes_at_first (λ n. n == greatest_cell cells) cells 0 (first_greatest cells some))
+
+-- what a near row of fewer than a thousand cells has too much can be taken from the largest of them
+pub enough_in_greatest : (scale : ℕ) (cells : List ℕ) → length cells < 1000 → is_near scale (sum cells) ≡ true
+    → sum cells ≤ greatest_cell cells + scale
+enough_in_greatest scale cells short near =
+    by (length cells) (greatest_cell cells) (sum cells) short
+    (sum_by-le (λ n. n) (greatest_cell cells) cells (below_greatest cells)) (near_parts scale (sum cells) near)
+  where
+    by : (len greatest total : ℕ) → len < 1000 → total ≤ len * greatest
+        → ((scale - total) + (total - scale)) * 1000 ≤ scale → total ≤ greatest + scale
+    by len greatest total short most near =
+        let times : len * greatest ≤ 999 * greatest = mul-le len greatest 999 greatest (omega arith) (omega arith) in omega arith
+
+-- such a row sums to its scale once it is repaired
 pub sum_of_repaired : (scale : ℕ) (cells : List ℕ) → length cells < 1000 → is_near scale (sum cells) ≡ true
     → sum (repaired_cells scale cells) ≡ scale
 unfolding repaired_cells
 sum_of_repaired scale [] short near = let h = near_parts scale 0 near in omega arith
 sum_of_repaired scale (x ∷ xs) short near =
-    let first = first_greatest (x ∷ xs) (omega arith) in
-    let at : get_or (x ∷ xs) (position_or_len (λ n. n == greatest_cell (x ∷ xs)) (x ∷ xs)) 0 ≡ greatest_cell (x ∷ xs) =
-    eqb-true _ _ (passes_at_first (λ n. n == greatest_cell (x ∷ xs)) (x ∷ xs) 0 first) in
-    let written = sum_by-set (λ n. n) (x ∷ xs) (position_or_len (λ n. n == greatest_cell (x ∷ xs)) (x ∷ xs))
-    (greatest_cell (x ∷ xs) + scale - sum (x ∷ xs)) 0 first in
-    let most = sum_by-le (λ n. n) (greatest_cell (x ∷ xs)) (x ∷ xs) (below_greatest (x ∷ xs)) in
-    enough (length (x ∷ xs)) (greatest_cell (x ∷ xs)) scale (sum (x ∷ xs)) _ _ short most (near_parts scale (sum (x ∷ xs)) near) at written
+    let at = at_greatest (x ∷ xs) (omega arith) in
+    let written = sum_by-set (λ n. n) (x ∷ xs) (greatest_place (x ∷ xs)) (greatest_cell (x ∷ xs) + scale - sum (x ∷ xs)) 0
+    (first_greatest (x ∷ xs) (omega arith)) in
+    let enough = enough_in_greatest scale (x ∷ xs) short near in
+    exact (greatest_cell (x ∷ xs)) (sum (x ∷ xs)) _ _ enough at written
   where
-    enough : (len greatest scale total cell new : ℕ) → len < 1000 → total ≤ len * greatest
-        → ((scale - total) + (total - scale)) * 1000 ≤ scale
-        → cell ≡ greatest → new + cell ≡ total + (greatest + scale - total) → new ≡ scale
-    enough len greatest scale total cell new short most near at written =
-        let times : len * greatest ≤ 999 * greatest = mul-le len greatest 999 greatest (omega arith) (omega arith) in omega arith
+    exact : (greatest total cell new : ℕ) → total ≤ greatest + scale → cell ≡ greatest
+        → new + cell ≡ total + (greatest + scale - total) → new ≡ scale
+    exact greatest total cell new enough at written = omega arith
 
 -- a repair of a row leaves a cell of 0 as it is
 pub zero_of_repaired : (scale : ℕ) (cells : List ℕ) (i : ℕ) → i < length cells → is_near scale (sum cells) ≡ true
@@ -47,9 +60,8 @@ pub zero_of_repaired : (scale : ℕ) (cells : List ℕ) (i : ℕ) → i < length
 unfolding repaired_cells
 zero_of_repaired scale cells i h near none = elim (cases_eq i place) [
   | inl e ↦
-      let at = passes_at_first (λ n. n == greatest_cell cells) cells 0 (subst (λ k. k < length cells) e h) in
       let most = sum_by-le (λ n. n) (greatest_cell cells) cells (below_greatest cells) in
-      let greatest : greatest_cell cells ≡ 0 = sym (eqb-true _ _ at) ∙ ap (λ k. get_or cells k 0) (sym e) ∙ none in
+      let greatest : greatest_cell cells ≡ 0 = sym (at_greatest cells (omega arith)) ∙ ap (λ k. get_or cells k 0) (sym e) ∙ none in
       ap (λ k. get_or (set cells place new) k 0) e ∙ get_or-set_same cells place new 0 (subst (λ k. k < length cells) e h)
       ∙ nothing (length cells) (greatest_cell cells) scale (sum cells) greatest most (near_parts scale (sum cells) near)
   | inr ne ↦ get_or-set_other cells place i new 0 ne ∙ none

@@ -5,11 +5,11 @@ use Rattle.std.specs.Prelude.{ℤ, pos, neg_ℤ, ◌-ℤ◌, ◌*ℤ◌, true, u
 use Rattle.std.proofs.lemmas.Int.{fits_signed_from_abs, to_z-of_z, ints}
 use Rattle.dp_spec.proofs.RoundingLaws.{unsigned_abs-neg}
 use Rattle.std.proofs.Math.Nat.{mul-le-mul_right, mul_assoc}
+use Rattle.dp_num.proofs.SignificandLaws.{tens_up}
 use Rattle.dp_num.specs.declared.decimal.Decimal.{Decimal}
 use Rattle.dp_meaning.specs.Numbers.{is_chance, is_reward}
 use Rattle.dp_meaning.specs.Cells.{chance_over}
 use Rattle.dp_meaning.proofs.ReadScales.{chance_parts, reward_parts}
-use Rattle.dp_tables.proofs.ScaleLemmas.{tens_within}
 
 -- a part of the scale is at most the scale
 pub part_of_scale : (units tens scale : ℕ) → units ≤ tens → units * (scale / tens) ≤ scale
@@ -22,7 +22,7 @@ chance_magnitude d n is e =
     let parts = chance_parts d is in
     let few = parts.0 in
     let small = parts.1 in
-    let most = tens_within d.digits 18 few in
+    let most = tens_up d.digits 18 few in
     e ∙ ap unsigned_abs (to_z-of_z w128 d.units (fits_signed_from_abs w128 _ (omega arith)))
 
 -- a chance over its scale, as it is computed
@@ -38,7 +38,7 @@ chance_is_over scale d units tens is e f =
     let parts = chance_parts d is in
     let few = parts.0 in
     let small = parts.1 in
-    let most = tens_within d.digits 18 few in
+    let most = tens_up d.digits 18 few in
     record {
       small = omega arith;
       within = part_of_scale units tens scale (omega arith);
@@ -66,7 +66,7 @@ reward_units d is =
     let parts = reward_parts d is in
     let few = parts.0 in
     let units = parts.1 in
-    let most = tens_within (8 + d.digits) 17 (omega arith) in
+    let most = tens_up (8 + d.digits) 17 (omega arith) in
     to_z-of_z w128 d.units (fits_signed_from_abs w128 _ (omega arith))
 
 -- a reward over its scale, as it is computed

@@ -1,7 +1,8 @@
 -- What a statement gives the chances that it covers.
-use Rattle.std.proofs.Common.{◌≡◌, ◌⊎◌, inl, inr, ℕ, zero, suc, ◌*◌, ◌/◌, ◌%◌, ◌<◌, Bool, true, false, cond, ◌&&◌, List, [], ◌∷◌, length, get_or, map, drop, refl, sym, ap, subst, ◌∙◌, arith}
+use Rattle.std.proofs.Common.{◌≡◌, ◌⊎◌, inl, inr, ℕ, zero, suc, ◌*◌, ◌/◌, ◌%◌, ◌<◌, true, cond, List, [], ◌∷◌, length, get_or, map, drop, refl, sym, ap, subst, ◌∙◌, arith}
 use Rattle.std.specs.Prelude.{◌==◌}
 use Rattle.std.specs.List.{range_with_len}
+use Rattle.std.proofs.lemmas.Bool.{and_parts}
 use Rattle.std.proofs.lemmas.Bool.Decides.{nat_tests}
 use Rattle.std.proofs.lemmas.List.{length-map, drop-map, get_or-map, length-drop}
 use Rattle.std.proofs.lemmas.List.FromFn.{length-map-range_with_len, get_or-map-range_with_len}
@@ -28,15 +29,11 @@ three_axes : (table : Table) (axes : List Axis) (actions states len : ℕ) → I
     → length axes ≡ 3
 three_axes table axes actions states len is = sym (length-map axes axis_size) ∙ ap length is.sizes
 
-both : (a b : Bool) → (a && b) ≡ true → (a ≡ true) × (b ≡ true)
-both true b e = (refl, e)
-both false b e = absurd (cc)
-
 -- `identity` is square, and stands behind one field
 is_square : (table : Table) (axes : List Axis) (actions states len f : ℕ) → IsTableOver table axes actions states len
     → allows_identity table (drop f axes) ≡ true → (states ≡ len) × (f ≡ 1)
 is_square table axes actions states len f is e =
-    let parts = both (is_trans table) (length (drop f axes) == 2) e in (is.square parts.0, one parts.1)
+    let parts = and_parts (is_trans table) (length (drop f axes) == 2) e in (is.square parts.0, one parts.1)
   where
     one : (length (drop f axes) == 2) ≡ true → f ≡ 1
     one t =

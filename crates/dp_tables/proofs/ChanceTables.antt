@@ -1,18 +1,14 @@
 -- The chances of a table as its statements are written one after the other.
-use Rattle.std.proofs.Common.{◌≡◌, ◌⊎◌, ℕ, ◌+◌, ◌*◌, ◌<◌, ◌≤◌, true, false, List, [], ◌∷◌, ◌++◌, length, get_or, map, take, drop, refl, sym, ap, subst, ◌∙◌, arith}
+use Rattle.std.proofs.Common.{◌≡◌, ◌⊎◌, ℕ, ◌+◌, ◌*◌, ◌<◌, ◌≤◌, true, false, List, [], ◌∷◌, length, get_or, map, take, drop, refl, sym, ap, subst, ◌∙◌, arith}
 use Rattle.std.specs.Prelude.{replicate}
 use Rattle.std.specs.List.{range_with_len}
-use Rattle.std.proofs.lemmas.List.{append-nil}
-use Rattle.std.proofs.lemmas.Nat.{mul-le}
 use Rattle.dp_spec.specs.JointNumbers.{product, parts_of}
-use Rattle.dp_meaning.specs.declared.given_list.GivenList.{GivenList}
 use Rattle.dp_meaning.specs.declared.statement.Table.{Table}
 use Rattle.dp_meaning.specs.declared.statement.Table.TheVariants.{Trans, Obs, Reward}
 use Rattle.dp_meaning.specs.declared.statement.Value.{Value}
 use Rattle.dp_meaning.specs.declared.statement.Value.TheVariants.{Uniform, Identity, Numbers}
 use Rattle.dp_meaning.specs.declared.statement.Statement.{Statement}
 use Rattle.dp_meaning.specs.declared.text.Text.{Text}
-use Rattle.dp_meaning.specs.NameLists.{size_of}
 use Rattle.dp_meaning.specs.Fields.{Axis}
 use Rattle.dp_meaning.specs.Statements.{axes_of, axis_size, is_trans, is_reward_table}
 use Rattle.dp_meaning.specs.Cells.{is_same_table, statements_for, given_chance, chance_of_cell}
@@ -20,20 +16,16 @@ use Rattle.dp_meaning.specs.Text.{states_in, joint_actions_in}
 use Rattle.dp_meaning.specs.Meaning.{IsSaid}
 use Rattle.dp_meaning.proofs.CellValues.{chance_uncovered, chance_of_last, chance_of_others}
 use Rattle.dp_meaning.proofs.Each.{all_from_each}
-use Rattle.dp_meaning.proofs.ReadFields.{IsStatementOver, Fills, said_statements}
 use Rattle.dp_meaning.proofs.ReadStatements.{AreNumbersOf}
-use Rattle.dp_meaning.proofs.SaidTexts.{said_is, some_states, some_joint_actions, some_joint_observations}
+use Rattle.dp_meaning.proofs.SaidTexts.{some_states, some_joint_observations}
 use Rattle.dp_tables.specs.Blocks.{chance_block, IsChanceValue}
 use Rattle.dp_tables.specs.Tables.{row_length}
-use Rattle.dp_tables.specs.Writing.{AreWithin, AreWritten, list_sizes, list_parts}
+use Rattle.dp_tables.specs.Writing.{AreWritten, list_sizes, list_parts}
 use Rattle.dp_tables.proofs.ChanceLemmas.{IsTableOver, block_fits, value_at}
-use Rattle.dp_tables.proofs.CellTables.{AreCells, same_table, taken, skipped, no_cells, more_cells, all_cells}
-use Rattle.dp_tables.proofs.FlatCells.{product_of_lists, parts_within, width_of_parts}
+use Rattle.dp_tables.proofs.CellTables.{AreCells, no_cells, all_cells, one_list, some_cells, IsStatementFor, IsWritable, cells_taken}
+use Rattle.dp_tables.proofs.FlatCells.{product_of_lists}
 
 -- ---- the table of a text
-
-one_list : (list : GivenList) → axis_size (list ∷ []) ≡ size_of list
-one_list list = omega arith
 
 pub some_row : (text : Text) (table : Table) → IsSaid text → 1 ≤ row_length text table
 some_row text Trans said = some_states text said
@@ -51,20 +43,13 @@ pub table_over : (text : Text) (table : Table) → IsSaid text → is_reward_tab
 table_over text table said e = record {
   sizes = sizes_are text table e;
   square = square table;
-  some = subst (λ ns. 0 < product ns) (sym (sizes_are text table e))
-      (positive (joint_actions_in text) (states_in text) (row_length text table)
-      (some_joint_actions text said) (some_states text said) (some_row text table said));
+  some = some_cells text table said;
 }
   where
     square : (table : Table) → is_trans table ≡ true → states_in text ≡ row_length text table
     square Trans t = refl
     square Obs t = absurd (cc)
     square Reward t = absurd (cc)
-
-    positive : (a s n : ℕ) → 1 ≤ a → 1 ≤ s → 1 ≤ n → 0 < product (a ∷ s ∷ n ∷ [])
-    positive a s n ha hs hn =
-        let rows = mul-le 1 1 s (n * 1) hs (omega arith) in
-        let all = mul-le 1 1 a (s * (n * 1)) ha (omega arith) in omega arith
 
 -- with the length of its rows as it is computed
 pub table_over_len : (text : Text) (table : Table) (len : ℕ) → IsSaid text → is_reward_table table ≡ false
@@ -75,36 +60,20 @@ table_over_len text table len said e is =
 
 -- ---- the statements of the table
 
--- a statement of this table of chances
-pub record IsChanceStatement (table : Table) (axes : List Axis) (s : Statement) : Type 0 where
-  pub over : IsStatementOver axes s
-  pub fills : Fills table (drop (length s.fields) axes) s.value
-  pub numbers : IsChanceValue s.value
-
-chance_numbers : (table : Table) (v : Value) → is_reward_table table ≡ false → AreNumbersOf table v → IsChanceValue v
+pub chance_numbers : (table : Table) (v : Value) → is_reward_table table ≡ false → AreNumbersOf table v → IsChanceValue v
 chance_numbers table Uniform e are = tt
 chance_numbers table Identity e are = tt
 chance_numbers Trans (Numbers ns) e are = all_from_each _ ns are
 chance_numbers Obs (Numbers ns) e are = all_from_each _ ns are
 chance_numbers Reward (Numbers ns) e are = absurd (cc)
 
-pub chance_statement : (text : Text) (table : Table) (items : List Statement) (i : ℕ) (s : Statement) → IsSaid text
-    → is_reward_table table ≡ false → items ≡ text.statements → i < length items → s ≡ get_or items i s
-    → is_same_table table s.table ≡ true → IsChanceStatement table (axes_of text.header table) s
-chance_statement text table items i s said chances are h is same =
-    let within : i < length text.statements = subst (λ ss. i < length ss) are h in
-    let there : s ≡ get_or text.statements i s = is ∙ ap (λ ss. get_or ss i s) are in
-    let t = same_table table s.table same in
-    let over = subst (λ l. IsStatementOver (axes_of text.header l.table) l) (sym there)
-    (all_from_each _ text.statements (said_statements text said) i s within) in
-    let numbers = subst (λ l. AreNumbersOf l.table l.value) (sym there)
-    (all_from_each _ text.statements (said_is text said).statements i s within) in
-    let here : IsStatementOver (axes_of text.header table) s = subst (λ b. IsStatementOver (axes_of text.header b) s) t over in
-    record {
-      over = here;
-      fills = subst (λ b. Fills b (drop (length s.fields) (axes_of text.header table)) s.value) t here.value;
-      numbers = chance_numbers table s.value chances (subst (λ b. AreNumbersOf b s.value) t numbers);
-    }
+pub chances_fit : (scale actions states len : ℕ) (table : Table) (axes : List Axis) (s : Statement) (sizes : List ℕ)
+    → IsTableOver table axes actions states len → IsStatementFor table axes s → IsWritable axes sizes s
+    → (length (chance_block scale len s.value) ≡ 1)
+    ⊎ (length (chance_block scale len s.value) ≡ product (drop (length (list_parts s.fields)) sizes))
+chances_fit scale actions states len table axes s sizes over is fits =
+    subst (λ n. (length (chance_block scale len s.value) ≡ 1) ⊎ (length (chance_block scale len s.value) ≡ n)) (sym fits.width)
+    (block_fits scale actions states len (length s.fields) table axes s.value over is.fills)
 
 -- ---- the cells
 
@@ -118,64 +87,23 @@ pub no_chances : (scale : ℕ) (axes : List Axis) (cells : List ℕ) (n : ℕ) �
 no_chances scale axes cells n e long =
     no_cells ℕ 0 axes (chance_of_cell scale axes []) cells n e long (λ cell. chance_uncovered scale axes [] cell refl)
 
-more_chances : (scale actions states len : ℕ) (table : Table) (axes : List Axis) (before : List Statement)
-    (s : Statement)
-    (cells new : List ℕ)
-    → IsTableOver table axes actions states len → IsChanceStatement table axes s
-    → AreChancesBy scale axes before cells → length new
-    ≡ length cells
-    → AreWritten (list_sizes axes) (list_parts s.fields) (chance_block scale len s.value) cells new
-    → AreChancesBy scale axes (before ++ s ∷ []) new
-more_chances scale actions states len table axes before s cells new over is so_far long written =
-    more_cells ℕ 0 axes (chance_of_cell scale axes before)
-    (λ cell. given_chance scale (map axis_size axes) (length s.fields) cell s.value) (chance_of_cell scale axes (before ++ s ∷ []))
-    s.fields (chance_block scale len s.value) cells new is.over.fields so_far long written
-    (λ k h. value_at scale actions states len k (length s.fields) table axes s.value over is.fills h)
-    (λ cell e. chance_of_last scale axes before s [] cell e refl)
-    (λ cell e. chance_of_others scale axes before s [] cell e ∙ ap (λ ss. chance_of_cell scale axes ss cell) (append-nil before))
-
--- what is known where a statement of the table is written
-pub record IsWritable (scale len : ℕ) (sizes : List ℕ) (s : Statement) : Type 0 where
-  pub some : 0 < product sizes
-  pub parts : AreWithin sizes (list_parts s.fields)
-  pub block : (length (chance_block scale len s.value) ≡ 1)
-      ⊎ (length (chance_block scale len s.value) ≡ product (drop (length (list_parts s.fields)) sizes))
-
-pub writable : (scale actions states len : ℕ) (table : Table) (axes : List Axis) (s : Statement) (sizes : List ℕ)
-    → IsTableOver table axes actions states len → IsChanceStatement table axes s → sizes ≡ list_sizes axes
-    → IsWritable scale len sizes s
-writable scale actions states len table axes s sizes over is e = subst (λ ns. IsWritable scale len ns s) (sym e) (record {
-  some = subst (λ n. 0 < n) (sym (product_of_lists axes)) over.some;
-  parts = parts_within axes s.fields is.over.fields;
-  block = subst (λ n. (length (chance_block scale len s.value) ≡ 1) ⊎ (length (chance_block scale len s.value) ≡ n))
-      (sym (width_of_parts axes s.fields is.over.fields))
-      (block_fits scale actions states len (length s.fields) table axes s.value over is.fills);
-})
-
--- a statement of the table is written ..
+-- a statement of the table is written
 pub chances_taken : (scale actions states len : ℕ) (table : Table) (axes : List Axis) (items : List Statement) (i : ℕ)
     (s : Statement)
     (cells new sizes old : List ℕ)
-    → IsTableOver table axes actions states len → IsChanceStatement table axes s → i < length items
+    → IsTableOver table axes actions states len → IsStatementFor table axes s → i < length items
     → s ≡ get_or items i s
     → is_same_table table s.table ≡ true → AreChancesBy scale axes (statements_for table (take i items)) cells
     → sizes ≡ list_sizes axes → old ≡ cells → length new ≡ length old
     → AreWritten sizes (list_parts s.fields) (chance_block scale len s.value) old new
     → AreChancesBy scale axes (statements_for table (take (i + 1) items)) new
-chances_taken scale actions states len table axes items i s cells new sizes old over is h at same so_far e f long written =
-    subst (λ ss. AreChancesBy scale axes ss new) (sym (taken table items i s h at same))
-    (more_chances scale actions states len table axes (statements_for table (take i items)) s cells new over is so_far (long ∙ ap length f)
-    (subst (λ ns. AreWritten ns (list_parts s.fields) (chance_block scale len s.value) cells new) e
-    (subst (λ ns. AreWritten sizes (list_parts s.fields) (chance_block scale len s.value) ns new) f written)))
-
--- .. and one of another table is passed over
-pub chances_skipped : (scale : ℕ) (table : Table) (axes : List Axis) (items : List Statement) (i : ℕ) (s : Statement)
-    (cells : List ℕ)
-    → i < length items → s ≡ get_or items i s → is_same_table table s.table ≡ false
-    → AreChancesBy scale axes (statements_for table (take i items)) cells
-    → AreChancesBy scale axes (statements_for table (take (i + 1) items)) cells
-chances_skipped scale table axes items i s cells h at other so_far =
-    subst (λ ss. AreChancesBy scale axes ss cells) (sym (skipped table items i s h at other)) so_far
+chances_taken scale actions states len table axes items i s cells new sizes old over is =
+    cells_taken ℕ 0 axes (chance_of_cell scale axes)
+    (λ cell. given_chance scale (map axis_size axes) (length s.fields) cell s.value)
+    table items i s (chance_block scale len s.value) cells new old sizes is.over.fields
+    (λ k h. value_at scale actions states len k (length s.fields) table axes s.value over is.fills h)
+    (λ before cell e. chance_of_last scale axes before s [] cell e refl)
+    (λ before cell e. chance_of_others scale axes before s [] cell e)
 
 pub cells_count : (table : Table) (axes : List Axis) (actions states len : ℕ)
     → IsTableOver table axes actions states len

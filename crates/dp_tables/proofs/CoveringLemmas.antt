@@ -60,11 +60,6 @@ none_here p i n h e =
     let more : n - i ≡ suc (n - (i + 1)) = omega arith in
     sym (ap (λ k. list_any p (range_with_len i k)) more ∙ ap (λ b. b || list_any p (range_with_len (i + 1) (n - (i + 1)))) e)
 
-pub some_here : (p : ℕ → Bool) (i n : ℕ) → i < n → p i ≡ true → list_any p (range_with_len i (n - i)) ≡ true
-some_here p i n h e =
-    let more : n - i ≡ suc (n - (i + 1)) = omega arith in
-    ap (λ k. list_any p (range_with_len i k)) more ∙ ap (λ b. b || list_any p (range_with_len (i + 1) (n - (i + 1)))) e
-
 -- ---- the axes of a text
 
 -- the joint numbers of the axes are some, and few

@@ -1,6 +1,7 @@
 -- The cells of a table by one digit for each list of its axes.
-use Rattle.std.proofs.Common.{◌≡◌, ℕ, suc, ◌*◌, ◌/◌, ◌%◌, ◌<◌, Bool, true, false, ◌&&◌, List, [], ◌∷◌, ◌++◌, length, map, drop, refl, sym, ap, subst, ◌∙◌, arith}
+use Rattle.std.proofs.Common.{◌≡◌, ℕ, suc, ◌*◌, ◌/◌, ◌%◌, ◌<◌, ◌&&◌, List, [], ◌∷◌, ◌++◌, length, map, drop, refl, sym, ap, subst, ◌∙◌, arith}
 use Rattle.std.proofs.lemmas.Nat.{mod_below}
+use Rattle.std.proofs.Math.Bool.{and_assoc}
 use Rattle.dp_spec.specs.JointNumbers.{product, parts_of}
 use Rattle.dp_spec.proofs.JointNumberLaws.{product-append, positive_right, length-parts_of, parts_of-append}
 use Rattle.dp_meaning.specs.declared.given_list.GivenList.{GivenList}
@@ -75,10 +76,6 @@ width_of_parts axes fields are = ap product (behind_parts axes fields are) ∙ p
 
 -- ---- covered cells
 
-and_in_turn : (a b c : Bool) → (a && (b && c)) ≡ ((a && b) && c)
-and_in_turn true b c = refl
-and_in_turn false b c = refl
-
 -- parts that come one after the other allow their numbers in turn
 allow_append : (parts others : List Part) (ns ms : List ℕ) → length parts ≡ length ns
     → allow (parts ++ others) (ns ++ ms) ≡ (allow parts ns && allow others ms)
@@ -86,8 +83,8 @@ allow_append [] others [] ms e = refl
 allow_append [] others (n ∷ ns) ms e = absurd (omega arith)
 allow_append (part ∷ parts) others [] ms e = absurd (omega arith)
 allow_append (part ∷ parts) others (n ∷ ns) ms e =
-    ap (λ b. allows part n && b) (allow_append parts others ns ms (omega arith)) ∙ and_in_turn (allows part n) (allow parts ns)
-    (allow others ms)
+    ap (λ b. allows part n && b) (allow_append parts others ns ms (omega arith))
+    ∙ sym (and_assoc (allows part n) (allow parts ns) (allow others ms))
 
 -- the fields cover the cells that their parts allow
 pub covered_by_lists : (axes : List Axis) (fields : List (List Part)) (k : ℕ) → AreFieldsOf axes fields

@@ -132,8 +132,9 @@ part len i given cells e =
     let n : i * len + len - i * len ≡ len = omega arith in
     ap (λ m. take m (drop (i * len) cells)) n ∙ ap (take len) e
 
-below_rows : (len i n size : ℕ) → i < n → n * len ≡ size → i * len + len ≤ size
-below_rows len i n size h e =
+-- a row stands within the rows together
+pub row_within : (i len n : ℕ) → i < n → i * len + len ≤ n * len
+row_within i len n h =
     let times : (i + 1) * len ≤ n * len = mul-le (i + 1) len n len (omega arith) (omega arith) in omega arith
 
 pub one_done : (scale count len : ℕ) (given : List ℕ) (i : ℕ) (cells : List ℕ) (repaired : ℕ) (row : List ℕ) (n : ℕ)
@@ -163,7 +164,7 @@ one_done scale count len given i cells repaired row n before h size some same lo
     here rows are = subst (λ n. i < n) (sym are.size) h
 
     fits : i * len + len ≤ length cells
-    fits = below_rows len i count (length cells) h (omega arith)
+    fits = let within = row_within i len count h in omega arith
 
     within : i * len ≤ length cells
     within = let h = fits in omega arith

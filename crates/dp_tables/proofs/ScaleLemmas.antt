@@ -1,11 +1,8 @@
--- Powers of ten, and the least common multiple by the greatest common divisor.
-use Rattle.std.proofs.Common.{◌≡◌, ℕ, ◌*◌, ◌/◌, ◌^◌, ◌<◌, ◌≤◌, ◌∙◌, arith}
+-- The least common multiple by the greatest common divisor.
+use Rattle.std.proofs.Common.{◌≡◌, ℕ, ◌*◌, ◌/◌, ◌<◌, ◌≤◌, ◌∙◌, arith}
 use Rattle.std.specs.Int.{IsGcd}
-use Rattle.std.proofs.Math.Nat.{pos_of_dvd_of_pos, pow-le-pow_right}
+use Rattle.std.proofs.Math.Nat.{pos_of_dvd_of_pos}
 use Rattle.dp_num.specs.Divisors.{gcd_of, lcm_of}
-
-pub tens_within : (digits most : ℕ) → digits ≤ most → 10 ^ digits ≤ 10 ^ most
-tens_within digits most h = pow-le-pow_right {n = 10} (omega arith) {i = digits} {j = most} h
 
 pub gcd_above : (a b g : ℕ) → 1 ≤ a → IsGcd a b g → 0 < g
 gcd_above a b g some h = pos_of_dvd_of_pos h.0 (omega arith)

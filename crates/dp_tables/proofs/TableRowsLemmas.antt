@@ -2,7 +2,7 @@
 use Rattle.std.proofs.Common.{◌≡◌, ℕ, zero, suc, ◌+◌, ◌*◌, ◌/◌, ◌%◌, ◌<◌, ◌≤◌, Bool, true, false, cond, List, [], ◌∷◌, ◌++◌, length, get_or, take, drop, refl, sym, ap, subst, ◌∙◌, arith, length-drop, length-take-le, get_or-take, get_or-drop, ext_get_or}
 use Rattle.std.specs.Prelude.{◌||◌, sum, reverse, Option, Some, None, Result, Ok, Err}
 use Rattle.std.specs.List.{find, list_any}
-use Rattle.std.proofs.lemmas.Nat.{mul-le, div_below, div-add-mod'}
+use Rattle.std.proofs.lemmas.Nat.{div_below, div-add-mod'}
 use Rattle.std.proofs.lemmas.List.Sums.{sum_by-cons}
 use Rattle.std.proofs.lemmas.List.FromFn.{length-map-range_with_len, get_or-map-range_with_len}
 use Rattle.dp_spec.specs.JointNumbers.{joint_number, parts_of}
@@ -27,6 +27,7 @@ use Rattle.dp_spec.proofs.JointNumberLaws.{parts_of-joint_number}
 use Rattle.dp_meaning.proofs.CellNumbers.{parts_of_row}
 use Rattle.dp_tables.specs.Repair.{AreRows, fault_of_row, RepairsRows}
 use Rattle.dp_tables.specs.Rows.{given_cells, Repairs}
+use Rattle.dp_tables.proofs.RowsLemmas.{row_within}
 
 -- ---- cells that no statement covers
 
@@ -113,9 +114,6 @@ cell_of_row actions states len r j h k =
 
 -- ---- all rows
 
-cells_within : (r len rows : ℕ) → r < rows → r * len + len ≤ rows * len
-cells_within r len rows h = let times = mul-le (r + 1) len rows len (omega arith) (omega arith) in omega arith
-
 -- the cells that stand from r * len on are those of row r
 row_of_cells : (text : Text) (table : Table) (scale len r : ℕ) → r < joint_actions_in text * states_in text
     → (table_row scale (axes_of text.header table) (statements_for table text.statements) len
@@ -140,7 +138,7 @@ row_of_cells text table scale len r h = ext_get_or 0 row part (row_len ∙ sym p
     row_len = length_of_table_row scale _ _ len _
 
     fits : r * len + len ≤ rows * len
-    fits = cells_within r len rows h
+    fits = row_within r len rows h
 
     all_len : length (given_cells text table scale len) ≡ rows * len
     all_len = length-map-range_with_len cell 0 (rows * len)

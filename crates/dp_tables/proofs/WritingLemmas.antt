@@ -1,7 +1,8 @@
 -- What is written to the cells of a table.
-use Rattle.std.proofs.Common.{◌≡◌, ◌⊎◌, inl, inr, ℕ, suc, ◌+◌, ◌-◌, ◌*◌, ◌/◌, ◌%◌, ◌<◌, ◌≤◌, Bool, true, false, cond, nat_le, nat_lt, ◌&&◌, List, [], ◌∷◌, ◌++◌, length, get_or, take, drop, refl, sym, ap, subst, ◌∙◌, arith}
+use Rattle.std.proofs.Common.{◌≡◌, ◌⊎◌, inl, inr, ℕ, suc, ◌+◌, ◌-◌, ◌*◌, ◌/◌, ◌%◌, ◌<◌, ◌≤◌, Bool, true, cond, nat_le, nat_lt, ◌&&◌, List, [], ◌∷◌, ◌++◌, length, get_or, take, drop, refl, sym, ap, subst, ◌∙◌, arith}
 use Rattle.std.specs.Int.{◌∣◌}
-use Rattle.std.proofs.lemmas.Bool.Decides.{nat_tests}
+use Rattle.std.proofs.lemmas.Bool.{lt-ltb, le-ltb, le-leb, cases_order}
+use Rattle.std.proofs.Math.Bool.{and-false}
 use Rattle.std.proofs.lemmas.List.{get_or-take, get_or-drop, get_or_append_left, get_or-append_right, length-take-le, length-drop}
 use Rattle.std.proofs.lemmas.Slice.{first_rest}
 use Rattle.std.proofs.lemmas.Nat.{div-mul-add, mod_below}
@@ -46,34 +47,6 @@ put_above a k xs ys j d fits long h =
 
 -- ---- one stretch more
 
-order : (a b : ℕ) → (a < b) ⊎ ((a ≡ b) ⊎ (b < a))
-order a b = grind arith
-
-lt_true : (a b : ℕ) → a < b → nat_lt a b ≡ true
-lt_true a b h = grind (arith, nat_tests)
-
-lt_false : (a b : ℕ) → b ≤ a → nat_lt a b ≡ false
-lt_false a b h = grind (arith, nat_tests)
-
-le_true : (a b : ℕ) → a ≤ b → nat_le a b ≡ true
-le_true a b h = grind (arith, nat_tests)
-
-and_false : (b : Bool) → (b && false) ≡ false
-and_false true = refl
-and_false false = refl
-
--- nothing is written before the first stretch
-pub none_written : {T : Type 0} (step first : ℕ) (sizes : List ℕ) (parts : List Part) (block before : List T)
-    → AreWrittenUpTo step first first sizes parts block before before
-none_written step first sizes parts block before k d h =
-    sym (ap (λ b. cond (b && is_covered sizes parts (k % step)) (get_or block (k % length block) d) (get_or before k d))
-    (by (k / step) (order (k / step) first)))
-  where
-    by : (q : ℕ) → (q < first) ⊎ ((q ≡ first) ⊎ (first < q)) → (nat_le first q && nat_lt q first) ≡ false
-    by q (inl h) = grind (arith, nat_tests)
-    by q (inr h) = let e : nat_lt q first ≡ false = lt_false q first (omega arith) in ap (λ b. nat_le first q && b) e ∙ and_false
-        (nat_le first q)
-
 pub one_more : {T : Type 0} (step first i : ℕ) (sizes : List ℕ) (parts : List Part) (block before now new : List T)
     → 0 < step → first ≤ i → length now ≡ length before → i * step + step ≤ length before → length new ≡ step
     → length block ∣ step
@@ -82,7 +55,7 @@ pub one_more : {T : Type 0} (step first i : ℕ) (sizes : List ℕ) (parts : Lis
     (get_or now (i * step + k) d))
     → AreWrittenUpTo step first (i + 1) sizes parts block before (put_mid (i * step) step now new)
 one_more {T} step first i sizes parts block before now new some from same fits long whole up written k d h =
-    by (order (k / step) i)
+    by (cases_order (k / step) i)
   where
     value : Bool → T
     value b = cond ((nat_le first (k / step) && b) && is_covered sizes parts (k % step)) (get_or block (k % length block) d)
@@ -94,19 +67,14 @@ one_more {T} step first i sizes parts block before now new some from same fits l
     low : k % step < step
     low = mod_below k step some
 
-    by : (k / step < i) ⊎ ((k / step ≡ i) ⊎ (i < k / step))
+    by : (k / step ≡ i) ⊎ ((k / step < i) ⊎ (i < k / step))
         → get_or (put_mid (i * step) step now new) k d ≡ value (nat_lt (k / step) (i + 1))
-    by (inl l) =
-        let times = mul-le-mul_right step l in
-        let at : k < i * step = omega arith in
-        put_below (i * step) step now new k d at (omega arith) ∙ up k d h
-        ∙ ap value (lt_true (k / step) i l ∙ sym (lt_true (k / step) (i + 1) (omega arith)))
-    by (inr (inl e)) =
+    by (inl e) =
         let times = ap (λ q. step * q) e in
         let at : i * step + k % step ≡ k = omega arith in
-        let inner : get_or now k d ≡ get_or before k d = up k d h ∙ ap value (lt_false (k / step) i (omega arith))
+        let inner : get_or now k d ≡ get_or before k d = up k d h ∙ ap value (le-ltb (k / step) i (omega arith))
         ∙ ap (λ b. cond (b && is_covered sizes parts (k % step)) (get_or block (k % length block) d) (get_or before k d))
-        (and_false (nat_le first (k / step))) in
+        (and-false (nat_le first (k / step))) in
         ap (λ n. get_or (put_mid (i * step) step now new) n d) (sym at)
         ∙ put_within (i * step) step now new (k % step) d (omega arith) (omega arith)
         ∙ written (k % step) d low
@@ -117,12 +85,17 @@ one_more {T} step first i sizes parts block before now new some from same fits l
         ∙ ap (λ b. cond (b && is_covered sizes parts (k % step)) (get_or block (k % length block) d) (get_or before k d)) (sym both)
       where
         both : (nat_le first (k / step) && nat_lt (k / step) (i + 1)) ≡ true
-        both = ap (λ b. b && nat_lt (k / step) (i + 1)) (le_true first (k / step) (omega arith)) ∙ lt_true (k / step) (i + 1) (omega arith)
+        both = ap (λ b. b && nat_lt (k / step) (i + 1)) (le-leb first (k / step) (omega arith)) ∙ lt-ltb (k / step) (i + 1) (omega arith)
+    by (inr (inl l)) =
+        let times = mul-le-mul_right step l in
+        let at : k < i * step = omega arith in
+        put_below (i * step) step now new k d at (omega arith) ∙ up k d h
+        ∙ ap value (lt-ltb (k / step) i l ∙ sym (lt-ltb (k / step) (i + 1) (omega arith)))
     by (inr (inr l)) =
         let times = mul-le-mul_right step l in
         let at : i * step + step ≤ k = omega arith in
         put_above (i * step) step now new k d (omega arith) long at ∙ up k d h
-        ∙ ap value (lt_false (k / step) i (omega arith) ∙ sym (lt_false (k / step) (i + 1) (omega arith)))
+        ∙ ap value (le-ltb (k / step) i (omega arith) ∙ sym (le-ltb (k / step) (i + 1) (omega arith)))
 
 -- ---- all stretches
 
@@ -146,10 +119,6 @@ all_written size sizes part parts step first end block before after e long withi
 -- what stands behind the first, as code has it
 abbrev pub behind_first : {X : Type 0} → List X → List X
 behind_first xs = take (length xs - 1) (drop 1 xs)
-
-pub empty : {X : Type 0} (xs : List X) → length xs < 1 → xs ≡ []
-empty [] h = refl
-empty (x ∷ xs) h = absurd (omega arith)
 
 -- a part is that of a size
 pub some_size : (sizes : List ℕ) (parts : List Part) → AreWithin sizes parts → 1 ≤ length parts → 1 ≤ length sizes

@@ -1,6 +1,7 @@
 -- One list for each agent, read line by line.
-use Rattle.std.proofs.Common.{◌≡◌, ℕ, zero, suc, ◌+◌, ◌-◌, ◌<◌, ◌≤◌, List, [], ◌∷◌, ◌++◌, drop, Some, None, Result, Ok, Err, refl, ap, ◌∙◌, sym, subst, add-one, arith}
+use Rattle.std.proofs.Common.{◌≡◌, ℕ, suc, ◌+◌, ◌-◌, ◌<◌, ◌≤◌, List, [], ◌∷◌, ◌++◌, drop, Some, None, Result, Ok, Err, refl, ap, ◌∙◌, sym, subst, arith}
 use Rattle.std.specs.Prelude.{slice_get}
+use Rattle.dp_items.proofs.Places.{drop_at, drop_none}
 use Rattle.dp_meaning.specs.declared.given_list.GivenList.{GivenList}
 use Rattle.dp_meaning.specs.declared.why.Fault.{Fault}
 use Rattle.dp_meaning.specs.declared.why.Why.TheVariants.{Expected}
@@ -12,14 +13,7 @@ use Rattle.dp_text.specs.Reading.{Reads}
 use Rattle.dp_text.specs.declared.fault.TextFault.{TextFault}
 use Rattle.dp_text.specs.declared.fault.TextFault.TheVariants.{At, Memory}
 use Rattle.dp_text.proofs.Continuing.{Continues, behind, continues_one, continues_none}
-use Rattle.dp_text.proofs.NameListLemmas.{drop_at}
 use Rattle.dp_text.proofs.NumberLemmas.{ends, ended_ok, ended_fault}
-
-drop_past : {X : Type 0} (i : ℕ) (xs : List X) → None ≡ slice_get xs i → drop i xs ≡ []
-drop_past zero [] h = refl
-drop_past zero (y ∷ ys) h = cc
-drop_past (suc i) [] h = refl
-drop_past (suc i) (y ∷ ys) h = drop_past i ys h
 
 module _ (next : ℕ) where
   -- what stands for the agents from the i-th on
@@ -41,7 +35,7 @@ module _ (next : ℕ) where
       → from_agent agents i lines
       ≡ (name_list next line >>= λ first. from_agent agents (i + 1) lines >>= λ others. Ok (first ∷ others))
   at_agent agents i lines line some is =
-      rw (left agents i some, drop_at i lines line is, first_line, add-one) refl
+      rw (left agents i some, drop_at lines i line (sym is), first_line) refl
 
   pub line_one : (all : Result (List GivenList) Fault) (lists : List GivenList) (agents i : ℕ)
       (lines : List (List Piece))
@@ -83,7 +77,7 @@ module _ (next : ℕ) where
       → i < agents → None ≡ slice_get lines i → Continues all lists (from_agent agents i lines)
       → all ≡ fault Expected next
   line_missing all lists agents i lines some is h =
-      let steps : from_agent agents i lines ≡ fault Expected next = rw (left agents i some, drop_past i lines is)
+      let steps : from_agent agents i lines ≡ fault Expected next = rw (left agents i some, drop_none lines i (sym is))
       (missing (agents - (i + 1))) in
       h.is ∙ ap (behind lists) steps
 
@@ -102,13 +96,13 @@ module _ (next : ℕ) where
       (lines : List (List Piece))
       → agents ≤ i → None ≡ slice_get lines i → Continues all lists (from_agent agents i lines) → all ≡ Ok lists
   lines_end all lists agents i lines none is h =
-      let steps : from_agent agents i lines ≡ Ok [] = rw (none_left agents i none, drop_past i lines is) all_lines in
+      let steps : from_agent agents i lines ≡ Ok [] = rw (none_left agents i none, drop_none lines i (sym is)) all_lines in
       continues_none all lists (subst (λ (x : Result (List GivenList) Fault). Continues all lists x) steps h)
 
   one_beyond : (agents i : ℕ) (lines : List (List Piece)) (line : List Piece) → agents ≤ i
       → Some line ≡ slice_get lines i
       → from_agent agents i lines ≡ ended [] line
-  one_beyond agents i lines line none is = rw (none_left agents i none, drop_at i lines line is) (too_many line (drop (suc i) lines))
+  one_beyond agents i lines line none is = rw (none_left agents i none, drop_at lines i line (sym is)) (too_many line (drop (i + 1) lines))
 
   pub empty_line : (all : Result (List GivenList) Fault) (lists : List GivenList) (agents i : ℕ)
       (lines : List (List Piece))

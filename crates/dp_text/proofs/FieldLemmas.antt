@@ -12,7 +12,7 @@ use Rattle.dp_text.specs.Reading.{Reads}
 use Rattle.dp_text.specs.declared.fault.TextFault.{TextFault}
 use Rattle.dp_text.specs.declared.fault.TextFault.TheVariants.{At, Memory}
 use Rattle.dp_text.proofs.Continuing.{Continues, starts, continues_one, continues_none}
-use Rattle.dp_text.proofs.Places.{drop_item}
+use Rattle.dp_items.proofs.Places.{drop_item}
 
 abbrev pub all_of : List Axis → List Piece → Result (List (List Part)) Fault
 all_of axes line = all_parts axes (fields_of line).fields

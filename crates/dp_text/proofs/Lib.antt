@@ -1,6 +1,5 @@
 pub mod AgentLines
 pub mod Continuing
-pub mod Places
 pub mod Saturating
 pub mod FirstFields
 pub mod FieldLemmas

@@ -1,6 +1,6 @@
 -- Lists of names, read name by name, and lists of them, read line by line.
-use Rattle.std.proofs.Common.{◌≡◌, ℕ, zero, suc, ◌+◌, ◌≤◌, Bool, true, false, not, List, [], ◌∷◌, ◌++◌, length, drop, Some, Result, Ok, Err, refl, ap, ◌∙◌, sym, length-append}
-use Rattle.std.specs.Prelude.{slice_get, if◌then◌else◌}
+use Rattle.std.proofs.Common.{◌≡◌, ℕ, ◌+◌, ◌≤◌, Bool, true, false, not, List, [], ◌∷◌, ◌++◌, length, drop, Result, Ok, Err, refl, ap, ◌∙◌, sym, length-append}
+use Rattle.std.specs.Prelude.{if◌then◌else◌}
 use Rattle.std.proofs.Math.ListN.{drop_of_length-le}
 use Rattle.dp_num.specs.Names.{is_name}
 use Rattle.dp_model.specs.Names.{has_name}
@@ -13,23 +13,13 @@ use Rattle.dp_text.specs.NameListSteps.{with_new_name}
 use Rattle.dp_text.specs.Reading.{Reads}
 use Rattle.dp_text.specs.declared.fault.TextFault.{TextFault}
 use Rattle.dp_text.specs.declared.fault.TextFault.TheVariants.{At, Memory}
-
--- the element at a place, and those behind it
-pub drop_at : {X : Type 0} (i : ℕ) (xs : List X) (x : X) → Some x ≡ slice_get xs i → drop i xs ≡ x ∷ drop (suc i) xs
-drop_at zero [] x h = cc
-drop_at zero (y ∷ ys) x h = cc
-drop_at (suc i) [] x h = cc
-drop_at (suc i) (y ∷ ys) x h = drop_at i ys x h
+use Rattle.dp_text.proofs.ReadingLemmas.{reads_same}
 
 -- what a first step finds wrong is wrong with the whole
 pub reads_on : {A B : Type 0} (meant : Result A Fault) (more : A → Result B Fault) (wrong : TextFault)
     → Reads meant (Err wrong) → Reads (meant >>= more) (Err wrong)
 reads_on meant more (At e) h = rw h refl
 reads_on meant more Memory h = tt
-
-pub reads_along : {A : Type 0} (all rest : Result A Fault) (answer : Result A TextFault) → all ≡ rest
-    → Reads rest answer → Reads all answer
-reads_along all rest answer is h = rw is h
 
 chosen : {A B : Type 0} (a b : Bool) (e d : Fault) (x : A) (more : A → Result B Fault)
     → (if a then Err e else if b then Err d else more x) ≡ ((if a then Err e else if b then Err d else Ok x) >>= more)
@@ -65,7 +55,7 @@ pub name_wrong : (all : Result (List (List ℕ)) Fault) (names : List (List ℕ)
 name_wrong all names piece pieces rest wrong is one h =
     let first = with_new_name names piece in
     let steps : all ≡ (first >>= λ more. names_after more pieces) = h ∙ (ap (names_after names) is ∙ name_first names piece pieces) in
-    reads_along all (first >>= λ more. names_after more pieces) (Err wrong) steps
+    reads_same (Err wrong) steps
     (reads_on first (λ more. names_after more pieces) wrong one)
 
 pub name_last : (all : Result (List (List ℕ)) Fault) (names : List (List ℕ)) (place : ℕ) (pieces : List Piece)

@@ -11,7 +11,7 @@ use Rattle.dp_meaning.specs.Faults.{◌>>=◌, fault}
 use Rattle.dp_meaning.specs.Items.{Piece}
 use Rattle.dp_meaning.specs.Fields.{Axis, Field, part_of, parts_in}
 use Rattle.dp_text.proofs.Continuing.{Continues, starts, continues_one, continues_none}
-use Rattle.dp_text.proofs.Places.{drop_at, drop_none, drop_item}
+use Rattle.dp_items.proofs.Places.{drop_at, drop_none, drop_item}
 
 -- the parts of the first k lists are read
 pub record PartsRead (axis : Axis) (field : Field) (parts : List Part) (k : ℕ) : Type 0 where

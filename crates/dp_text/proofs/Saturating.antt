@@ -1,16 +1,14 @@
 -- Products of which only the part up to a limit is kept.
 use Rattle.std.proofs.Common.{◌≡◌, ℕ, zero, suc, ◌+◌, ◌*◌, ◌≤◌, List, sym, ap, ◌∙◌, arith, mul_assoc, mul_comm, inl, inr, ◌<◌, length, map, drop, get_or}
-use Rattle.std.specs.Prelude.{min, ◌⊎◌}
+use Rattle.std.specs.Prelude.{min}
+use Rattle.std.proofs.lemmas.Bool.{cases_lt}
 use Rattle.std.proofs.Math.Nat.{mul-le-mul_right}
 use Rattle.dp_spec.specs.JointNumbers.{product}
-use Rattle.dp_text.proofs.Places.{drop_item}
-
-dec_le : (a b : ℕ) → (a ≤ b) ⊎ (b ≤ a)
-dec_le a b = grind arith
+use Rattle.dp_items.proofs.Places.{drop_item}
 
 -- a factor that passes the limit may be cut down to it
 pub min_times : (most a n : ℕ) → min (min a most * n) most ≡ min (a * n) most
-min_times most a n = elim (dec_le a most) [
+min_times most a n = elim (cases_lt a most) [
   | inl h ↦ let e : min a most ≡ a = omega arith in ap (λ k. min (k * n) most) e
   | inr h ↦ let e : min a most ≡ most = omega arith in ap (λ k. min (k * n) most) e ∙ past n h
 ]

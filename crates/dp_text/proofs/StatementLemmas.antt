@@ -20,7 +20,7 @@ use Rattle.dp_text.specs.Reading.{Reads}
 use Rattle.dp_text.specs.declared.fault.TextFault.{TextFault}
 use Rattle.dp_text.specs.declared.fault.TextFault.TheVariants.{At, Memory}
 use Rattle.dp_text.proofs.Continuing.{Continues, starts, continues_one, continues_none}
-use Rattle.dp_text.proofs.Places.{drop_at}
+use Rattle.dp_items.proofs.Places.{drop_at}
 
 module _ (header : Header) (table : Table) (item : Item) where
   -- the fields of its first line

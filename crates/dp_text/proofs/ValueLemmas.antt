@@ -1,6 +1,8 @@
 -- The value of a statement, by its first token.
-use Rattle.std.proofs.Common.{◌≡◌, ℕ, ◌+◌, ◌≤◌, Bool, true, false, cond, List, [], ◌∷◌, length, map, Result, Ok, refl, sym, ap, ◌∙◌, arith, inl, inr}
-use Rattle.std.specs.Prelude.{◌==◌, ◌&&◌, ◌⊎◌, codes, min, nat_lt, not}
+use Rattle.std.proofs.Common.{◌≡◌, ℕ, ◌+◌, Bool, true, false, cond, List, [], ◌∷◌, length, map, Result, Ok, refl, sym, ap, ◌∙◌, arith, inl, inr}
+use Rattle.std.specs.Prelude.{◌==◌, ◌&&◌, codes, min, nat_lt, not}
+use Rattle.std.proofs.lemmas.Bool.{cases_lt}
+use Rattle.std.proofs.Math.Bool.{and_assoc}
 use Rattle.dp_num.specs.declared.decimal.Decimal.{Decimal}
 use Rattle.dp_spec.specs.JointNumbers.{product}
 use Rattle.dp_meaning.specs.declared.why.Fault.{Fault}
@@ -18,13 +20,10 @@ use Rattle.dp_text.proofs.NumberLemmas.{numbers_beyond}
 
 -- ---- more Numbers than there are pieces
 
-dec_le : (a b : ℕ) → (a ≤ b) ⊎ (b ≤ a)
-dec_le a b = grind arith
-
 -- a count may be cut down to one more than there are pieces
 pub count_cut : (f : Decimal → Bool) (next n : ℕ) (pieces : List Piece)
     → numbers f next n pieces ≡ numbers f next (min n (length pieces + 1)) pieces
-count_cut f next n pieces = elim (dec_le n (length pieces + 1)) [
+count_cut f next n pieces = elim (cases_lt n (length pieces + 1)) [
   | inl h ↦ let same : n ≡ min n (length pieces + 1) = omega arith in ap (λ k. numbers f next k pieces) same
   | inr h ↦ numbers_beyond f next n (min n (length pieces + 1)) pieces (omega arith) (omega arith)
 ]
@@ -64,10 +63,6 @@ module _ (table : Table) (rest : List Axis) (next : ℕ) where
         (count_cut (is_number_of table) next wanted all))
 
 -- ---- the tests
-
-and_assoc : (a b c : Bool) → ((a && b) && c) ≡ (a && (b && c))
-and_assoc true b c = refl
-and_assoc false b c = refl
 
 pub uniform_test : (table : Table) (rest : List Axis) (left : ℕ) (says_so b : Bool) → left ≡ length rest
     → b ≡ (not (is_reward_table table) && (nat_lt 0 left && says_so)) → (allows_uniform table rest && says_so) ≡ b

@@ -1,7 +1,6 @@
 use Rattle.std.proofs.Common.{◌^◌, ◌≤◌, ap, ◌∙◌, arith}
-use Rattle.dp_num.proofs.SignificandLaws.{some_tens}
+use Rattle.dp_num.proofs.SignificandLaws.{some_tens, tens_up}
 use Rattle.dp_meaning.proofs.ReadScales.{chance_parts}
-use Rattle.dp_tables.proofs.ScaleLemmas.{tens_within}
 use Rattle.dp_tables.proofs.BlockLemmas.{IsOver, chance_is_over}
 use Rattle.dp_tables.proofs.blocks.chance_over.Goals as goal
 
@@ -9,7 +8,7 @@ pub pow-requires : goal.pow-requires
 pow-requires c =
     let few = (chance_parts c.args.chance c.requires).0 in
     let digits : c.from.result ≤ 18 = omega arith in
-    let most = tens_within c.from.result 18 digits in omega arith
+    let most = tens_up c.from.result 18 digits in omega arith
 
 pub nonzero_div-unit : goal.nonzero_div-unit
 nonzero_div-unit c = let some = some_tens c.from.result in omega arith

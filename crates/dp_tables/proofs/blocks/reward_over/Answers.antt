@@ -1,9 +1,8 @@
 use Rattle.std.proofs.Common.{◌*◌, ◌/◌, ◌^◌, ◌≤◌, sym, ap, subst, ◌∙◌, arith}
 use Rattle.std.specs.Prelude.{neg_ℤ, unsigned_abs}
 use Rattle.dp_meaning.specs.Cells.{reward_over}
-use Rattle.dp_num.proofs.SignificandLaws.{some_tens}
+use Rattle.dp_num.proofs.SignificandLaws.{some_tens, tens_up}
 use Rattle.dp_meaning.proofs.ReadScales.{reward_parts}
-use Rattle.dp_tables.proofs.ScaleLemmas.{tens_within}
 use Rattle.dp_tables.proofs.BlockLemmas.{reward_units, reward_within, reward_is, kept_small, negated}
 use Rattle.dp_tables.proofs.blocks.reward_over.Goals as goal
 
@@ -11,7 +10,7 @@ pub pow-requires : goal.pow-requires
 pow-requires c =
     let few = (reward_parts c.args.reward c.requires.range).0 in
     let digits : c.from.result ≤ 9 = omega arith in
-    let most = tens_within c.from.result 9 digits in omega arith
+    let most = tens_up c.from.result 9 digits in omega arith
 
 pub nonzero_div-unit : goal.nonzero_div-unit
 nonzero_div-unit c = let some = some_tens c.from.result in omega arith

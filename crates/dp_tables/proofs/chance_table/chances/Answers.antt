@@ -4,7 +4,8 @@ use Rattle.dp_meaning.specs.Statements.{axes_of}
 use Rattle.dp_meaning.specs.Cells.{statements_for}
 use Rattle.dp_meaning.specs.Text.{states_in, joint_actions_in}
 use Rattle.dp_tables.specs.Tables.{row_length}
-use Rattle.dp_tables.proofs.ChanceTables.{IsChanceStatement, IsWritable, AreChancesBy, some_row, table_over, table_over_len, chance_statement, writable, no_chances, cells_count, chances_taken, chances_skipped, all_chances}
+use Rattle.dp_tables.proofs.CellTables.{IsStatementFor, IsWritable, statement_for, writable, passed_over}
+use Rattle.dp_tables.proofs.ChanceTables.{AreChancesBy, some_row, table_over, table_over_len, chance_numbers, chances_fit, no_chances, cells_count, chances_taken, all_chances}
 use Rattle.dp_tables.proofs.chance_table.chances.Goals as goal
 use Rattle.dp_tables.proofs.chance_table.chances.Goals.{then-is_same+in_ok-write_chances, else-is_same}
 
@@ -21,21 +22,20 @@ write_chances-requires-clause-some_len c =
 
 -- the statement is one of the table's
 is_statement : (c : goal.After-deref)
-    → IsChanceStatement c.args.table (axes_of c.args.text.now.header c.args.table) c.statement-item.result
-is_statement c = chance_statement c.args.text.now c.args.table c.as_slice-statement-items.result.now c.loop-statement.statement-index
-    c.statement-item.result c.requires.said c.requires.table c.as_slice-statement-items.ensures c.loop-statement-test.true
+    → IsStatementFor c.args.table (axes_of c.args.text.now.header c.args.table) c.statement-item.result
+is_statement c = statement_for c.args.text.now c.args.table c.as_slice-statement-items.result.now c.loop-statement.statement-index
+    c.statement-item.result c.requires.said c.as_slice-statement-items.ensures c.loop-statement-test.true
     c.statement-item.is
     (sym c.if-is_same.ensures)
 
 is_writable : (c : goal.After-deref)
-    → IsWritable c.args.scale c.row_len-len.result c.deref.result.now c.statement-item.result
-is_writable c = writable c.args.scale _ _ c.row_len-len.result c.args.table (axes_of c.args.text.now.header c.args.table)
-    c.statement-item.result
-    c.deref.result.now (table_over_len c.args.text.now c.args.table c.row_len-len.result c.requires.said c.requires.table
-    c.row_len-len.ensures.is) (is_statement c) (c.deref.ensures.value ∙ c.in_ok-sizes.ensures)
+    → IsWritable (axes_of c.args.text.now.header c.args.table) c.deref.result.now c.statement-item.result
+is_writable c = writable c.args.text.now c.args.table c.statement-item.result c.deref.result.now c.requires.said (is_statement c)
+    (c.deref.ensures.value ∙ c.in_ok-sizes.ensures)
 
 pub write_chances-requires-clause-chances : goal.write_chances-requires-clause-chances
-write_chances-requires-clause-chances c = (is_statement c).numbers
+write_chances-requires-clause-chances c =
+    chance_numbers c.args.table c.statement-item.result.value c.requires.table (is_statement c).numbers
 
 pub write_chances-requires-clause-some : goal.write_chances-requires-clause-some
 write_chances-requires-clause-some c = (is_writable c).some
@@ -44,7 +44,10 @@ pub write_chances-requires-clause-parts : goal.write_chances-requires-clause-par
 write_chances-requires-clause-parts c = (is_writable c).parts
 
 pub write_chances-requires-clause-block : goal.write_chances-requires-clause-block
-write_chances-requires-clause-block c = (is_writable c).block
+write_chances-requires-clause-block c =
+    chances_fit c.args.scale _ _ c.row_len-len.result c.args.table (axes_of c.args.text.now.header c.args.table) c.statement-item.result
+    c.deref.result.now (table_over_len c.args.text.now c.args.table c.row_len-len.result c.requires.said c.requires.table
+    c.row_len-len.ensures.is) (is_statement c) (is_writable c)
 
 pub returns : goal.returns
 returns c =
@@ -69,16 +72,16 @@ loop-statement-preserved c = elim c.if-is_same.branch [
       c.as_slice-statement-items.result.now c.loop-statement.statement-index c.statement-item.result
       c.loop-statement.cells.items w.write_chances.new.cells w.deref.result.now w.deref_mut.result.now
       (table_over_len c.args.text.now c.args.table c.row_len-len.result c.requires.said c.requires.table c.row_len-len.ensures.is)
-      (chance_statement c.args.text.now c.args.table c.as_slice-statement-items.result.now c.loop-statement.statement-index
-      c.statement-item.result c.requires.said
-      c.requires.table c.as_slice-statement-items.ensures c.loop-statement-test.true c.statement-item.is (sym w.if-is_same.ensures))
+      (statement_for c.args.text.now c.args.table c.as_slice-statement-items.result.now c.loop-statement.statement-index
+      c.statement-item.result c.requires.said c.as_slice-statement-items.ensures c.loop-statement-test.true
+      c.statement-item.is (sym w.if-is_same.ensures))
       c.loop-statement-test.true c.statement-item.is (sym w.if-is_same.ensures) c.loop-statement.invariant
       (w.deref.ensures.value ∙ c.in_ok-sizes.ensures) w.deref_mut.ensures.value w.write_chances.auto.cells w.in_ok-write_chances.ensures)
   | else-is_same w ↦
       subst (λ v. AreChancesBy c.args.scale (axes_of c.args.text.now.header c.args.table)
       (statements_for c.args.table (take (c.loop-statement.statement-index + 1) c.as_slice-statement-items.result.now)) v.items)
       (sym w.cells-is)
-      (chances_skipped c.args.scale c.args.table (axes_of c.args.text.now.header c.args.table) c.as_slice-statement-items.result.now
-      c.loop-statement.statement-index c.statement-item.result c.loop-statement.cells.items
+      (passed_over (λ ss. AreChancesBy c.args.scale (axes_of c.args.text.now.header c.args.table) ss c.loop-statement.cells.items)
+      c.args.table c.as_slice-statement-items.result.now c.loop-statement.statement-index c.statement-item.result
       c.loop-statement-test.true c.statement-item.is (sym w.if-is_same.ensures) c.loop-statement.invariant)
 ]

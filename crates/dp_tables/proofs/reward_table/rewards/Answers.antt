@@ -2,7 +2,8 @@ use Rattle.std.proofs.Common.{◌+◌, sym, ap, subst, ◌∙◌, take}
 use Rattle.std.proofs.lemmas.List.{take_all, with_items_is}
 use Rattle.dp_meaning.specs.declared.statement.Table.TheVariants.{Reward}
 use Rattle.dp_meaning.specs.Cells.{statements_for}
-use Rattle.dp_tables.proofs.RewardTables.{IsRewardStatement, IsWritable, AreRewardsBy, reward_axes, reward_scale_limit, reward_statement, writable, no_rewards, rewards_taken, rewards_skipped, all_rewards}
+use Rattle.dp_tables.proofs.CellTables.{IsStatementFor, IsWritable, statement_for, writable, passed_over}
+use Rattle.dp_tables.proofs.RewardTables.{AreRewardsBy, reward_axes, reward_scale_limit, reward_numbers, rewards_fit, no_rewards, rewards_taken, all_rewards}
 use Rattle.dp_tables.proofs.reward_table.rewards.Goals as goal
 use Rattle.dp_tables.proofs.reward_table.rewards.Goals.{then-is_same+in_ok-write_rewards, else-is_same}
 
@@ -11,21 +12,21 @@ loop-statement-init c = no_rewards c.args.text.now c.args.scale c.in_ok-cells.ce
     (c.in_ok-cells.ensures.items_if_clones_equal (λ y e. e)) c.reward_cells.ensures
 
 -- the statement is one of the rewards
-is_statement : (c : goal.After-deref) → IsRewardStatement (reward_axes c.args.text.now) c.statement-item.result
-is_statement c = reward_statement c.args.text.now c.as_slice-statement-items.result.now c.loop-statement.statement-index
+is_statement : (c : goal.After-deref) → IsStatementFor Reward (reward_axes c.args.text.now) c.statement-item.result
+is_statement c = statement_for c.args.text.now Reward c.as_slice-statement-items.result.now c.loop-statement.statement-index
     c.statement-item.result c.requires.said c.as_slice-statement-items.ensures c.loop-statement-test.true c.statement-item.is
     (sym c.if-is_same.ensures)
 
 is_writable : (c : goal.After-deref)
-    → IsWritable c.args.text.now.header.cost c.args.scale c.deref.result.now c.statement-item.result
-is_writable c = writable c.args.text.now c.args.scale c.statement-item.result c.deref.result.now c.requires.said (is_statement c)
+    → IsWritable (reward_axes c.args.text.now) c.deref.result.now c.statement-item.result
+is_writable c = writable c.args.text.now Reward c.statement-item.result c.deref.result.now c.requires.said (is_statement c)
     (c.deref.ensures.value ∙ c.in_ok-sizes.ensures)
 
 pub write_rewards-requires-clause-scale : goal.write_rewards-requires-clause-scale
 write_rewards-requires-clause-scale c = reward_scale_limit c.args.text.now c.args.scale c.requires.said c.requires.scale
 
 pub write_rewards-requires-clause-rewards : goal.write_rewards-requires-clause-rewards
-write_rewards-requires-clause-rewards c = (is_statement c).numbers
+write_rewards-requires-clause-rewards c = reward_numbers c.statement-item.result.value (is_statement c).numbers
 
 pub write_rewards-requires-clause-some : goal.write_rewards-requires-clause-some
 write_rewards-requires-clause-some c = (is_writable c).some
@@ -34,7 +35,9 @@ pub write_rewards-requires-clause-parts : goal.write_rewards-requires-clause-par
 write_rewards-requires-clause-parts c = (is_writable c).parts
 
 pub write_rewards-requires-clause-block : goal.write_rewards-requires-clause-block
-write_rewards-requires-clause-block c = (is_writable c).block
+write_rewards-requires-clause-block c =
+    rewards_fit c.args.text.now.header.cost c.args.scale (reward_axes c.args.text.now) c.statement-item.result c.deref.result.now
+    (is_statement c) (is_writable c)
 
 pub returns : goal.returns
 returns c =
@@ -54,7 +57,7 @@ loop-statement-preserved c = elim c.if-is_same.branch [
       (rewards_taken c.args.text.now c.args.scale c.as_slice-statement-items.result.now c.loop-statement.statement-index
       c.statement-item.result
       c.loop-statement.cells.items w.write_rewards.new.cells w.deref.result.now w.deref_mut.result.now
-      (reward_statement c.args.text.now c.as_slice-statement-items.result.now c.loop-statement.statement-index c.statement-item.result
+      (statement_for c.args.text.now Reward c.as_slice-statement-items.result.now c.loop-statement.statement-index c.statement-item.result
       c.requires.said c.as_slice-statement-items.ensures c.loop-statement-test.true c.statement-item.is (sym w.if-is_same.ensures))
       c.loop-statement-test.true c.statement-item.is (sym w.if-is_same.ensures) c.loop-statement.invariant
       (w.deref.ensures.value ∙ c.in_ok-sizes.ensures) w.deref_mut.ensures.value w.write_rewards.auto.cells w.in_ok-write_rewards.ensures)
@@ -62,7 +65,7 @@ loop-statement-preserved c = elim c.if-is_same.branch [
       subst (λ v. AreRewardsBy c.args.text.now c.args.scale
       (statements_for Reward (take (c.loop-statement.statement-index + 1) c.as_slice-statement-items.result.now)) v.items)
       (sym w.cells-is)
-      (rewards_skipped c.args.text.now c.args.scale c.as_slice-statement-items.result.now c.loop-statement.statement-index
-      c.statement-item.result
-      c.loop-statement.cells.items c.loop-statement-test.true c.statement-item.is (sym w.if-is_same.ensures) c.loop-statement.invariant)
+      (passed_over (λ ss. AreRewardsBy c.args.text.now c.args.scale ss c.loop-statement.cells.items) Reward
+      c.as_slice-statement-items.result.now c.loop-statement.statement-index c.statement-item.result
+      c.loop-statement-test.true c.statement-item.is (sym w.if-is_same.ensures) c.loop-statement.invariant)
 ]

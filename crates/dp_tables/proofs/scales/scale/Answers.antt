@@ -1,6 +1,5 @@
 use Rattle.std.proofs.Common.{◌≤◌, arith}
-use Rattle.dp_num.proofs.SignificandLaws.{some_tens}
-use Rattle.dp_tables.proofs.ScaleLemmas.{tens_within}
+use Rattle.dp_num.proofs.SignificandLaws.{some_tens, tens_up}
 use Rattle.dp_tables.proofs.scales.scale.Goals as goal
 
 pub least_common_multiple-requires-clause-some : goal.least_common_multiple-requires-clause-some
@@ -9,4 +8,4 @@ least_common_multiple-requires-clause-some c = let some = some_tens c.from.resul
 pub least_common_multiple-requires-clause-limit : goal.least_common_multiple-requires-clause-limit
 least_common_multiple-requires-clause-limit c =
     let digits : c.from.result ≤ 18 = omega arith in
-    let most = tens_within c.from.result 18 digits in omega arith
+    let most = tens_up c.from.result 18 digits in omega arith

@@ -1,2 +1,0 @@
-use Rattle.dp_cli.proofs.Planning.{planned, refused_model}
-use Rattle.dp_cli.proofs.job.plan.Goals as goal
