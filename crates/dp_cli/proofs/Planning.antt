@@ -1,40 +1,15 @@
--- What a plan answers to the bytes of its model.
-use Rattle.std.proofs.Common.{◌≢◌, ℕ, List, Option, Some, None, Result, Ok, Err, Vec, sym, ap, ◌∙◌}
-use Rattle.std.specs.declared.alloc.Global.{Global}
+-- The status of a plan's answer.
+use Rattle.std.proofs.Common.{◌≢◌, ℕ, List, Option, Some, None, sym, ◌∙◌}
 use Rattle.dp_model.specs.declared.limit.TooLarge.{TooLarge}
 use Rattle.dp_model.specs.Limits.{first_passed}
 use Rattle.dp_model.specs.Horizons.{horizon_limits}
-use Rattle.dp_meaning.specs.Meaning.{Meaning, Means, FaultAt, Passes, meaning}
-use Rattle.dp_reader.specs.declared.build.ReadModel.{ReadModel}
-use Rattle.dp_reader.specs.declared.fault.ModelFault.{ModelFault}
-use Rattle.dp_reader.specs.declared.fault.ModelFault.TheVariants as model_faults
-use Rattle.dp_reader.specs.Reading.{IsMeaning}
+use Rattle.dp_meaning.specs.Meaning.{Meaning, Means, FaultAt, Passes}
 use Rattle.dp_cli.specs.declared.refusal.UnbuiltPart.{UnbuiltPart}
-use Rattle.dp_cli.specs.declared.refusal.Refusal.{Refusal}
 use Rattle.dp_cli.specs.declared.status.Status.{Status}
 use Rattle.dp_cli.specs.declared.status.Status.TheVariants as statuses
 use Rattle.dp_cli.specs.Answer.{Answer, IsAnswerOf}
-use Rattle.dp_cli.specs.ModelText.{model_meant}
-use Rattle.dp_cli.specs.Planned.{plan_refusal, PlansModel, PlansText, refusal_by, unbuilt_part}
-use Rattle.dp_cli.specs.Refusal.{model_refusal}
-use Rattle.dp_cli.proofs.Replying.{gives_as, status_of}
-
--- bytes that mean no model are refused
-pub refused_model : (horizon : ℕ) (bytes : List ℕ) (fault : ModelFault) → IsMeaning (meaning bytes) (Err fault)
-    → PlansText horizon bytes (Err (model_refusal fault))
-refused_model horizon bytes (model_faults.At line column why) is = ap (plan_refusal horizon) is
-refused_model horizon bytes (model_faults.TooLarge passed) is = ap (plan_refusal horizon) is
-refused_model horizon bytes model_faults.Memory is = tt
-
--- what is answered to the model that the bytes mean
-pub planned : (horizon : ℕ) (bytes : List ℕ) (read : ReadModel) (result : Result (Vec ℕ Global) Refusal)
-    → IsMeaning (meaning bytes) (Ok read)
-    → PlansModel horizon read.model.model result → PlansText horizon bytes result
-planned horizon bytes read result is h =
-    gives_as result (sym (ap (plan_refusal horizon) is))
-    (λ text plan. record { model = read.model.model; meant = ap model_meant is; plan = plan }) h
-
--- ---- the status of a plan's answer
+use Rattle.dp_cli.specs.Planned.{plan_refusal, refusal_by, unbuilt_part}
+use Rattle.dp_cli.proofs.Replying.{status_of}
 
 -- a status that no answer of a plan has, but for want of memory
 pub record IsNoPlanStatus (status : Status) : Type 0 where

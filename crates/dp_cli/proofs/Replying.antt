@@ -12,18 +12,6 @@ use Rattle.dp_cli.specs.Steps.{answer_of}
 pub status_of : {answer other : Answer} → answer ≡ other → answer.status ≡ other.status
 status_of e = ap (λ (a : Answer). a.status) e
 
--- what code gives says so of an equal refusal, and of every kind of text that follows
-pub gives_as : {old new : Option Refusal} {Old New : List ℕ → Type 0} (result : Result (Vec ℕ Global) Refusal)
-    → old ≡ new
-    → ((text : List ℕ) → Old text → New text) → GivesText old Old result → GivesText new New result
-gives_as (Ok text) same to h = (sym same ∙ h.0, to text.items h.1)
-gives_as (Err refusals.Usage) same to h = sym same ∙ h
-gives_as (Err (refusals.BadModel line column why)) same to h = sym same ∙ h
-gives_as (Err (refusals.Read role)) same to h = sym same ∙ h
-gives_as (Err (refusals.TooLarge passed)) same to h = sym same ∙ h
-gives_as (Err (refusals.Unbuilt part)) same to h = sym same ∙ h
-gives_as (Err refusals.Memory) same to h = tt
-
 refused_so : (refusal : Option Refusal) (IsText : List ℕ → Type 0) (other : Refusal) → refusal ≡ Some other
     → IsAnswerOf refusal IsText (refused other)
 refused_so refusal IsText other h = subst (λ (r : Option Refusal). IsAnswerOf r IsText (refused other)) (sym h) refl

@@ -7,6 +7,7 @@ use Rattle.std.proofs.lemmas.List.{map-append, length-map, length_push}
 use Rattle.std.proofs.lemmas.List.Elements.{All-push}
 use Rattle.std.proofs.lemmas.List.Quantifiers.{all_pairs_push}
 use Rattle.std.proofs.lemmas.Slice.Eq.{bytes_eq-Decides}
+use Rattle.std.proofs.Math.Bool.{or-true}
 use Rattle.dp_num.specs.Names.{is_name}
 use Rattle.dp_model.specs.Names.{IsNameList, has_name, names_of, place_of, with_name}
 
@@ -55,16 +56,12 @@ none_is (x ∷ xs) i within none = absurd (some_at (x ∷ xs) i (within (omega a
 
 -- ---- what lists of names keep
 
-or_true : (b : Bool) → (b || true) ≡ true
-or_true true = refl
-or_true false = refl
-
 -- a list has each of its items
 has_name-at : (names : List (List ℕ)) (name : List ℕ) (k : ℕ) (d : List ℕ) → k < length names
     → get_or names k d ≡ name → has_name names name ≡ true
 has_name-at [] name k d lt e = absurd (omega arith)
 has_name-at (x ∷ xs) name zero d lt e = ap (λ b. b || has_name xs name) ((bytes_eq-Decides name x).1 (sym e))
-has_name-at (x ∷ xs) name (suc k) d lt e = ap (λ b. bytes_eq name x || b) (has_name-at xs name k d (omega arith) e) ∙ or_true (bytes_eq name x)
+has_name-at (x ∷ xs) name (suc k) d lt e = ap (λ b. bytes_eq name x || b) (has_name-at xs name k d (omega arith) e) ∙ or-true (bytes_eq name x)
 
 pub with_name-kept : (names : List (List ℕ)) (name : List ℕ) → IsNameList names → IsTrue (is_name name)
     → length names < 2 ^ 26 → IsNameList (with_name names name)

@@ -8,18 +8,15 @@ use Rattle.dp_spec.specs.Mode.{is_exact_mode, unit_of}
 use Rattle.dp_spec.specs.Model.{IsModel, Model, value_scale}
 use Rattle.dp_plan.specs.BestConstant.{IsBestConstant}
 use Rattle.dp_plan.specs.ConstantCertificate.{constant_certificate}
+use Rattle.dp_plan.proofs.ConstantTexts.{exact_unit}
 use Rattle.dp_plan.proofs.Rooms.{constant_value_fits, unit_has_room, unit_is}
 
--- in exact mode the unit is the value scale
-unit_at_one : (m : Model) → is_exact_mode m 1 ≡ true → unit_of m 1 ≡ value_scale m 1
-unfolding unit_of
-unit_at_one m e = rw e refl
-
+-- in exact mode the unit is of 128 bits
 unit_fits : (m : Model) → IsModel m → is_exact_mode m 1 ≡ true → FitsSigned w128 (pos (unit_of m 1))
 unit_fits m ok e =
     let room = (unit_has_room m ok e).whole in
     let is = unit_is m in
-    let at_one = unit_at_one m e in
+    let at_one = exact_unit m e in
     let limit : unit_of m 1 ≤ 2 ^ 126 = omega arith in
     record { sfits = omega arith }
 

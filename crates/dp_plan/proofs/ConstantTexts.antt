@@ -75,7 +75,7 @@ after_head m a ok value =
     ∙ ap (λ (l : List ℕ). l ++ tree_text value) (agents_text_is 0 m.actions m.observations (parts_of m.actions a) ok.sizes.alike (length-parts_of m.actions a))
 
 -- the unit of exact mode
-exact_unit : (m : Model) → is_exact_mode m 1 ≡ true → unit_of m 1 ≡ value_scale m 1
+pub exact_unit : (m : Model) → is_exact_mode m 1 ≡ true → unit_of m 1 ≡ value_scale m 1
 unfolding unit_of
 exact_unit m e = rw e refl
 

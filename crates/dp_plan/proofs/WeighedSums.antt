@@ -1,7 +1,7 @@
 -- How far weighed sums reach.
 use Rattle.std.proofs.Common.{◌≡◌, ℕ, zero, suc, ◌+◌, ◌*◌, ◌^◌, ◌<◌, ◌≤◌, ℤ, pos, ◌+ℤ◌, ◌*ℤ◌, unsigned_abs, FitsSigned, to_z, of_z, refl, add-one, arith}
 use Rattle.std.proofs.lemmas.Int.{fits_signed_from_abs, unsigned_abs-mul, to_z-of_z}
-use Rattle.std.proofs.Math.Nat.{mul-le-mul_left}
+use Rattle.std.proofs.Math.Nat.{mul-le-mul_left, mul-le-mul_right}
 use Rattle.std.specs.Int.{w128}
 use Rattle.dp_spec.specs.Sums.{int_sum, nat_sum}
 use Rattle.dp_spec.proofs.NaturalSumLaws.{nat_sum_at, nat_sum_part}
@@ -29,15 +29,12 @@ weighed_abs (suc n) most w x h =
     let here = abs_weighed (w n) most (x n) (h n (omega arith)) in
     omega (arith, abs_add (int_sum n (λ i. pos (w i) *ℤ x i)) (pos (w n) *ℤ x n), more_terms _ _ most (nat_sum n w) (w n) rest here)
 
-fewer_times : (a b most : ℕ) → a ≤ b → a * most ≤ b * most
-fewer_times a b most h = omega (arith, mul-le-mul_left most h)
-
 -- the first terms of a sum that has room fit
 pub sum_fits : (n most i : ℕ) (w : ℕ → ℕ) (x : ℕ → ℤ) → HasRoom n most w x → i ≤ n
     → FitsSigned w128 (int_sum i (λ k. pos (w k) *ℤ x k))
 sum_fits n most i w x h le =
     let each = weighed_abs i most w x (λ k p. h.small k (omega arith)) in
-    let part = fewer_times (nat_sum i w) (nat_sum n w) most (nat_sum_part i n w le) in
+    let part = mul-le-mul_right most (nat_sum_part i n w le) in
     let room = h.room in
     fits_signed_from_abs w128 _ (omega arith)
 
@@ -45,7 +42,7 @@ sum_fits n most i w x h le =
 pub term_fits : (n most i : ℕ) (w : ℕ → ℕ) (x : ℕ → ℤ) → HasRoom n most w x → i < n → FitsSigned w128 (pos (w i) *ℤ x i)
 term_fits n most i w x h lt =
     let here = abs_weighed (w i) most (x i) (h.small i lt) in
-    let part = fewer_times (w i) (nat_sum n w) most (nat_sum_at n w i lt) in
+    let part = mul-le-mul_right most (nat_sum_at n w i lt) in
     let room = h.room in
     fits_signed_from_abs w128 _ (omega arith)
 

@@ -83,7 +83,8 @@ statement_for text table items i s said are h is same =
 pub record IsWritable (axes : List Axis) (sizes : List ℕ) (s : Statement) : Type 0 where
   pub some : 0 < product sizes
   pub parts : AreWithin sizes (list_parts s.fields)
-  pub width : product (drop (length (list_parts s.fields)) sizes) ≡ product (map axis_size (drop (length s.fields) axes))
+  pub width : product (drop (length (list_parts s.fields)) sizes)
+      ≡ product (map axis_size (drop (length s.fields) axes))
 
 pub writable : (text : Text) (table : Table) (s : Statement) (sizes : List ℕ) → IsSaid text
     → IsStatementFor table (axes_of text.header table) s → sizes ≡ list_sizes (axes_of text.header table)

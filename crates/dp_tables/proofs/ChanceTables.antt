@@ -60,7 +60,8 @@ table_over_len text table len said e is =
 
 -- ---- the statements of the table
 
-pub chance_numbers : (table : Table) (v : Value) → is_reward_table table ≡ false → AreNumbersOf table v → IsChanceValue v
+pub chance_numbers : (table : Table) (v : Value) → is_reward_table table ≡ false → AreNumbersOf table v
+    → IsChanceValue v
 chance_numbers table Uniform e are = tt
 chance_numbers table Identity e are = tt
 chance_numbers Trans (Numbers ns) e are = all_from_each _ ns are
