@@ -1,5 +1,5 @@
 -- The refusals, with the status and the line of each.
-use Rattle.std.specs.Prelude.{ℕ, ◌^◌, List, ◌++◌, codes, decimal}
+use Rattle.std.specs.Prelude.{ℕ, List, ◌++◌, codes, decimal}
 use Rattle.dp_io.specs.declared.shelf.FetchFault.{FetchFault}
 use Rattle.dp_io.specs.declared.shelf.FetchFault.TheVariants as fetch_faults
 use Rattle.dp_model.specs.declared.limit.Limit.{Limit}

@@ -1,5 +1,5 @@
 -- The limits that a model file may pass, in the order in which they are tried.
-use Rattle.std.specs.Prelude.{ℕ, ◌*◌, ◌^◌, nat_lt, if◌then◌else◌, List, [], ◌∷◌, length, map, Option}
+use Rattle.std.specs.Prelude.{ℕ, ◌*◌, nat_lt, if◌then◌else◌, List, [], ◌∷◌, length, map, Option}
 use Rattle.dp_model.specs.declared.limit.Limit.TheVariants as limits
 use Rattle.dp_model.specs.declared.limit.TooLarge.{TooLarge}
 use Rattle.dp_model.specs.Limits.{first_passed, passed_by}

@@ -1,11 +1,11 @@
 -- The certificate of the best constant policy has a text: its numbers are of 128 bits.
-use Rattle.std.proofs.Common.{◌≡◌, true, ℕ, ◌^◌, ◌≤◌, pos, FitsSigned, refl, arith}
+use Rattle.std.proofs.Common.{◌≡◌, true, ℕ, ◌^◌, ◌≤◌, pos, FitsSigned, arith}
 use Rattle.std.specs.Int.{w128}
 use Rattle.dp_laws.proofs.CertificateTexts.{certificate_has_text}
 use Rattle.dp_laws.proofs.ConstantPolicies.{constant_policy_fits}
 use Rattle.dp_spec.specs.CertificateText.{certificate_text, HasTextNumbers, IsCertificateText}
 use Rattle.dp_spec.specs.Mode.{is_exact_mode, unit_of}
-use Rattle.dp_spec.specs.Model.{IsModel, Model, value_scale}
+use Rattle.dp_spec.specs.Model.{IsModel, Model}
 use Rattle.dp_plan.specs.BestConstant.{IsBestConstant}
 use Rattle.dp_plan.specs.ConstantCertificate.{constant_certificate}
 use Rattle.dp_plan.proofs.ConstantTexts.{exact_unit}

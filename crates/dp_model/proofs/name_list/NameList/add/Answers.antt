@@ -1,6 +1,6 @@
-use Rattle.std.proofs.Common.{◌≡◌, ◌∙◌, ap, map, not, string_bytes, sym, subst}
+use Rattle.std.proofs.Common.{◌∙◌, ap, map, not, string_bytes, sym, subst}
 use Rattle.dp_model.proofs.NameLemmas.{has_name-texts, with_name-kept, with_name-texts}
-use Rattle.dp_model.specs.Names.{IsNameList, with_name}
+use Rattle.dp_model.specs.Names.{IsNameList}
 use Rattle.dp_model.proofs.name_list.NameList.add.Goals as goal
 
 pub returns-clause-is_new : goal.returns-clause-is_new

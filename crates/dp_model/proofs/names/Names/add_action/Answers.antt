@@ -1,6 +1,5 @@
-use Rattle.std.proofs.Common.{◌≡◌, ◌<◌, ◌^◌, [], length, sym, subst, ◌∙◌}
-use Rattle.std.proofs.lemmas.List.{get_or_read, length-set}
-use Rattle.dp_model.specs.Names.{IsNameList, names_of}
+use Rattle.std.proofs.Common.{sym, ◌∙◌}
+use Rattle.std.proofs.lemmas.List.{length-set}
 use Rattle.dp_model.proofs.NameLemmas.{slice_set-kept}
 use Rattle.dp_model.proofs.names.Names.add_action.Goals as goal
 

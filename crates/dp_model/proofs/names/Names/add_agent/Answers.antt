@@ -1,4 +1,3 @@
-use Rattle.std.proofs.Common.{◌<◌, ◌^◌, ap, length}
 use Rattle.dp_model.proofs.names.Names.add_agent.Goals as goal
 
 pub invariant_of-self : goal.invariant_of-self
