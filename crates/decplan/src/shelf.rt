@@ -1,13 +1,14 @@
 // A shelf over real files.
 ghost use Rattle.std.specs.Prelude.{◌≡◌, ◌≤◌, [], None, IfOk, IfSome, take, vec_len};
 
-use dp_io::{Ending, FetchFault, Log, Shelf};
+use dp_io::{Ending, FetchFault, Log, Shelf, Texts};
 use std::alloc::Global;
 use std::fs::File;
 use std::io::Read;
 use std::rt::Files;
 
-/// The files of the system, by their paths. It keeps the log, and tells nothing of contents.
+/// The files of the system, by their paths. It keeps the log, and in contracts the bytes that it
+/// gave; it tells nothing of contents.
 ///
 /// It reads at most one byte more than was asked for, so a file that is longer is told as one byte
 /// too long. Each error of the system is a fault, and a read that gives nothing is the end.
@@ -15,16 +16,19 @@ use std::rt::Files;
 pub struct HostShelf<'a, R: Files> {
     files: &'a R,
     log: Log,
+    given: Texts,
 }
 
 impl<'a, R: Files> HostShelf<'a, R> {
     /// The files that the runtime reaches, none of which was fetched so far.
     pub fn new(alloc: Global, files: &'a R) -> HostShelf<'a, R>
-        ensures { result.log ≡ [] }
+        ensures log { result.log ≡ [] }
+        ensures given { result.given.items ≡ [] }
     {
         HostShelf {
             files,
             log: Log::new(alloc),
+            given: Texts::new(),
         }
     }
 }
@@ -73,12 +77,12 @@ impl<'a, R: Files> Shelf for HostShelf<'a, R> {
     ghost use Rattle.dp_io.specs.declared.shelf.FetchFault.TheVariants as faults;
     ghost use Rattle.dp_io.specs.Shelf.{Fetches};
 
-    ghost view = { λ s. record { log = s.log; told = None } };
+    ghost view = { λ s. record { log = s.log; given = s.given.items; told = None } };
 
     fn fetch(&mut self, alloc: Global, name: &str, most: u64) -> Result<Vec<u8>, FetchFault>
         requires { most < 2 ^ 63 }
-        ensures fetches { Fetches (record { log = self.old.log; told = None })
-            (record { log = self.new.log; told = None }) name.now most result }
+        ensures fetches { Fetches (record { log = self.old.log; given = self.old.given.items; told = None })
+            (record { log = self.new.log; given = self.new.given.items; told = None }) name.now most result }
         ensures long { (k : ℕ) → result ≡ Err (faults.TooLong k) → k ≡ most + 1 }
     {
         match read_file(alloc, self.files, name, most + 1) {
@@ -89,6 +93,7 @@ impl<'a, R: Files> Shelf for HostShelf<'a, R> {
                     return Err(FetchFault::TooLong(count));
                 }
                 self.log.append(alloc, name, Ending::Given)?;
+                self.given.take(&bytes);
                 Ok(bytes)
             }
             Err(FetchFault::Memory) => Err(FetchFault::Memory),

@@ -1,12 +1,13 @@
 // A sink over a writer.
-ghost use Rattle.std.specs.Prelude.{◌≡◌, ◌≤◌, ◌*◌, ◌^◌, List, ℕ, OnOk, OnErr};
+ghost use Rattle.std.specs.Prelude.{◌≡◌, ◌≤◌, ◌*◌, ◌^◌, [], List, ℕ, OnOk, OnErr};
 ghost use Rattle.std.specs.Io.KnownBytes.{Appends};
 ghost use Rattle.decplan.specs.Sink.{untold, WritesAllBut};
 
-use dp_io::{Sink, SinkFailed};
+use dp_io::{Sink, SinkFailed, Texts};
 use std::io::Write;
 
-/// A writer, as standard output. It keeps the counts, and tells nothing of its output.
+/// A writer, as standard output. It keeps the counts, and in contracts the texts that were put; it
+/// tells nothing of its output.
 ///
 /// Each error of the system is a fault, one of the flush too, and so is a write that takes nothing.
 #[derive(Drop)]
@@ -15,6 +16,7 @@ pub struct HostSink<W: Write> {
     puts: u64,
     offered: u128,
     faults: u64,
+    texts: Texts,
     ghost few_faults: { faults ≤ puts },
     ghost few_bytes: { offered ≤ puts * 2 ^ 64 },
 }
@@ -22,13 +24,15 @@ pub struct HostSink<W: Write> {
 impl<W: Write> HostSink<W> {
     /// The writer, to which nothing was put so far.
     pub fn new(out: W) -> HostSink<W>
-        ensures { result.puts ≡ 0 }
+        ensures puts { result.puts ≡ 0 }
+        ensures texts { result.texts.items ≡ [] }
     {
         HostSink {
             out,
             puts: 0,
             offered: 0,
             faults: 0,
+            texts: Texts::new(),
         }
     }
 }
@@ -56,12 +60,12 @@ impl<W: Write> Sink for HostSink<W> {
     ghost use Rattle.std.specs.Prelude.{◌<◌};
     ghost use Rattle.dp_io.specs.Sink.{Puts};
 
-    ghost view = { λ s. untold s.puts s.offered s.faults };
+    ghost view = { λ s. untold s.puts s.offered s.faults s.texts.items };
 
     fn put(&mut self, bytes: &[u8]) -> Result<(), SinkFailed>
         requires { self.old.puts < 2 ^ 63 }
-        ensures puts { Puts (untold self.old.puts self.old.offered self.old.faults)
-            (untold self.new.puts self.new.offered self.new.faults) bytes.now result }
+        ensures puts { Puts (untold self.old.puts self.old.offered self.old.faults self.old.texts.items)
+            (untold self.new.puts self.new.offered self.new.faults self.new.texts.items) bytes.now result }
 
         // What is written, where it is known what the writer holds.
         ensures ok { OnOk result (Appends (W.contents self.old.out) (W.contents self.new.out) bytes.now) }
@@ -69,6 +73,7 @@ impl<W: Write> Sink for HostSink<W> {
             ((rest : List ℕ) × WritesAllBut (W.contents self.old.out) (W.contents self.new.out) bytes.now rest) }
     {
         self.puts += 1;
+        self.texts.take(bytes);
         self.offered += bytes.len() as u128;
         let written = write_whole(&mut self.out, bytes);
         if written.is_err() {

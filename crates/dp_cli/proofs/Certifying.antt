@@ -1,56 +1,97 @@
--- A call that is done put a certificate whose claims hold.
-use Rattle.std.proofs.Common.{◌≡◌, ℕ, List, [], ◌∷◌, Bool, Option, Some, None, Result, Ok, Err, IfSome, ⊎_elim, sym, ◌∙◌, subst}
-use Rattle.std.proofs.lemmas.Option.{IfSome_then}
-use Rattle.dp_io.specs.FetchLaws.{fetch_answer}
-use Rattle.dp_io.specs.Shelf.{Contents}
+-- A call that is done was given all its files, and what its command claims is so.
+use Rattle.std.proofs.Common.{◌≡◌, ◌≢◌, ℕ, ◌+◌, List, [], ◌∷◌, ◌++◌, length, map, Option, Some, None, Result, Ok, Err, Vec, IfSome, ⊎_elim, refl, sym, ap, ◌∙◌, subst, length-append, append_assoc, append-nil}
+use Rattle.std.specs.declared.alloc.Global.{Global}
+use Rattle.dp_io.specs.declared.shelf.FetchFault.{FetchFault}
+use Rattle.dp_io.specs.declared.shelf.FetchFault.TheVariants as faults
+use Rattle.dp_io.specs.Shelf.{Contents, ShelfView, Fetches}
 use Rattle.dp_io.specs.Sink.{SinkView, Puts}
 use Rattle.dp_io.specs.declared.sink.SinkFailed.{SinkFailed}
-use Rattle.dp_plan.proofs.BestConstants.{best_constant_claims_hold, best_constant_is_valid}
-use Rattle.dp_plan.proofs.CertificateTexts.{best_constant_has_text}
-use Rattle.dp_plan.specs.ConstantCertificate.{constant_certificate}
+use Rattle.dp_io.proofs.FetchLemmas.{told_fetch}
 use Rattle.dp_words.specs.declared.job.Job.{Job}
-use Rattle.dp_words.specs.declared.job.Job.TheVariants.{Plan}
-use Rattle.dp_words.specs.declared.job.OrderWord.{OrderWord}
-use Rattle.dp_cli.specs.declared.refusal.FileRole.TheVariants.{Model}
+use Rattle.dp_cli.specs.declared.refusal.FileRole.{FileRole}
 use Rattle.dp_cli.specs.declared.status.Status.{Status}
 use Rattle.dp_cli.specs.declared.status.Status.TheVariants as statuses
 use Rattle.dp_cli.specs.Answer.{Answer}
-use Rattle.dp_cli.specs.Certified.{CertifiesFor, IsCertified, PutsCertificateOf}
-use Rattle.dp_cli.specs.Job.{File, IsReply}
-use Rattle.dp_meaning.specs.Meaning.{meaning}
-use Rattle.dp_cli.proofs.Refusing.{after_file, usage_answered}
-use Rattle.dp_cli.proofs.Replying.{done_work, not_done, status_of}
-use Rattle.dp_cli.specs.Planned.{IsPlanOf, IsPlanOfText, plan_refusal}
+use Rattle.dp_cli.specs.Causes.{AreGiven, given_entry, Hold, IsCertified}
+use Rattle.dp_cli.specs.Command.{Command, File}
 use Rattle.dp_cli.specs.Put.{status_after}
-use Rattle.dp_cli.specs.Refusal.{fetch_refusal, most_bytes}
-use Rattle.dp_cli.specs.Run.{IsToldAnswer, RunsAsTold}
-use Rattle.dp_spec.specs.CertificateText.{IsCertificateText}
-use Rattle.dp_spec.specs.Model as models
+use Rattle.dp_cli.specs.Refusal.{most_bytes}
+use Rattle.dp_cli.specs.Run.{IsAnswerToFault, Answers, Runs}
+use Rattle.dp_cli.proofs.Causes.{after_entry}
+use Rattle.dp_cli.proofs.Commands.{claims_hold}
+use Rattle.dp_cli.proofs.Statuses.{fault_apart}
 
-module _ (contents : Contents) (model : List ℕ) (horizon nodes look : ℕ) (merge : Bool) (order : OrderWord) where
-  -- A plan that is done was given the file of its model, and answered it.
-  done_plan : {number : ℕ} {answer : Answer}
-      → IsToldAnswer contents (Some (Plan model horizon nodes look merge order)) number [] answer
-      → answer.status ≡ statuses.Done
-      → (text : List ℕ) × (fetch_answer contents number model (most_bytes Model) ≡ Ok text) × (IsReply (Some (Plan model horizon nodes look merge order)) (text ∷ []) answer)
-  done_plan (IsToldAnswer.replies asked reply) e = cc
-  done_plan (IsToldAnswer.refuses file fault asked told) e = absurd (not_done (fetch_refusal file.role fault) e)
-  done_plan {number} {answer} (IsToldAnswer.goes_on file text asked told rest) e =
-      let wanted : File = record { name = model; role = Model } in
-      let same : file ≡ wanted = cc in
-      (text, rw same at told, after_file contents model horizon nodes look merge order rest)
+-- no file is held, wherever the contents are told
+hold_none : (told : Option Contents) (number : ℕ) → IfSome told (λ contents. Hold contents number [] [])
+hold_none None number = tt
+hold_none (Some contents) number = tt
 
--- the text of the best constant policy's certificate certifies for its model
-plan_certifies : (m : models.Model) (horizon : ℕ) (bytes : List ℕ) → IsPlanOf m horizon bytes
-    → CertifiesFor m horizon bytes
-plan_certifies m horizon bytes h = record {
-  certificate = constant_certificate m h.text.action;
-  over = sym h.one_step;
-  spelled = subst (λ (text : List ℕ). IsCertificateText m text (constant_certificate m h.text.action)) (sym h.text.spelled)
-      (best_constant_has_text m h.text.action h.is_model h.exact_mode h.text.best);
-  valid = best_constant_is_valid m h.text.action h.is_model h.exact_mode h.text.best;
-  claims = best_constant_claims_hold m h.text.action h.is_model h.exact_mode h.text.best;
+pub none_given : (shelf : ShelfView) → AreGiven [] [] shelf shelf
+none_given shelf = record {
+  logged = sym (append-nil shelf.log);
+  given = sym (append-nil shelf.given);
+  held = hold_none shelf.told (length shelf.log);
 }
+
+-- one more file is held
+hold_more : {old between : ShelfView} (files : List File) (texts : List (List ℕ)) (told : Option Contents) (file : File)
+    (text : Vec ℕ Global) → old.told ≡ told
+    → Fetches old between file.name (most_bytes file.role) (Ok text)
+    → IfSome told (λ contents. Hold contents (length old.log + 1) files texts)
+    → IfSome told (λ contents. Hold contents (length old.log) (file ∷ files) (text.items ∷ texts))
+hold_more files texts None file text e fetched h = tt
+hold_more {old} {between} files texts (Some contents) file text e fetched h =
+    ⊎_elim
+    (λ memory. cc)
+    (λ told. (sym told, h))
+    (told_fetch old between contents file.name (most_bytes file.role) (Ok text) e fetched)
+
+pub more_given : {old between new : ShelfView} {files : List File} {texts : List (List ℕ)} (file : File)
+    (text : Vec ℕ Global) → Fetches old between file.name (most_bytes file.role) (Ok text)
+    → AreGiven files texts between new → AreGiven (file ∷ files) (text.items ∷ texts) old new
+more_given {old} {between} {new} {files} {texts} file text fetched h =
+    let next : length between.log ≡ length old.log + 1 = ap length fetched.logged ∙ simp length-append refl in
+    let later = subst (λ (n : ℕ). IfSome between.told (λ contents. Hold contents n files texts)) next h.held in
+    let here = subst (λ (told : Option Contents). IfSome told (λ contents. Hold contents (length old.log + 1) files texts)) fetched.unchanged later in
+    record {
+      logged = after_entry old.log between.log new.log (map given_entry files) (given_entry file) h.logged fetched.logged;
+      given = h.given ∙ ap (λ (given : List (List ℕ)). given ++ texts) fetched.given ∙ append_assoc old.given (text.items ∷ []) texts;
+      held = hold_more files texts old.told file text refl fetched here;
+    }
+
+-- What a command that is done was given, after these texts, and the text that it puts.
+record IsWorked (command : Command) (files : List File) (texts : List (List ℕ)) (old new : ShelfView) (answer : Answer) : Type 0 where
+  more : List (List ℕ)
+  given : AreGiven files more old new
+  fine : command.fault (texts ++ more) ≡ None
+  is_text : command.IsText (texts ++ more) answer.text
+
+fault_not_done : (role : FileRole) (fault : FetchFault) (answer : Answer) → IsAnswerToFault role fault answer
+    → answer.status ≢ statuses.Done
+fault_not_done role faults.Failed answer why = λ e. cc
+fault_not_done role (faults.TooLong count) answer why = λ e. ⊎_elim (λ is. cc) (λ is. cc) why
+fault_not_done role faults.Memory answer why = λ e. cc
+
+worked : {command : Command} {files : List File} {texts : List (List ℕ)} {old new : ShelfView} {answer : Answer}
+    → Answers command files texts old new answer
+    → answer.status ≡ statuses.Done → IsWorked command files texts old new answer
+worked {command} {files} {texts} {old} (Answers.works {text = text} fine is) e = record {
+  more = [];
+  given = none_given old;
+  fine = ap command.fault (append-nil texts) ∙ fine;
+  is_text = subst (λ (ts : List (List ℕ)). command.IsText ts text) (sym (append-nil texts)) is;
+}
+worked (Answers.faults fault found) e = absurd ((fault_apart fault).done e)
+worked (Answers.lacks file fault fine fetched why) e = absurd (fault_not_done file.role fault _ why e)
+worked {command} {files} {texts} {old} {new} {answer} (Answers.goes_on file text fine fetched rest) e =
+    let h = worked rest e in
+    record {
+      more = text.items ∷ h.more;
+      given = more_given file text fetched h.given;
+      fine = subst (λ (ts : List (List ℕ)). command.fault ts ≡ None) (append_assoc texts (text.items ∷ []) h.more) h.fine;
+      is_text = subst (λ (ts : List (List ℕ)). command.IsText ts answer.text) (append_assoc texts (text.items ∷ []) h.more) h.is_text;
+    }
+worked Answers.wants_memory e = cc
 
 -- a call that is done did not fail to put its answer
 done_puts : (old new : SinkView) (answer : Answer) (reply : Result (Unit {0}) SinkFailed) (result : Status)
@@ -59,44 +100,21 @@ done_puts : (old new : SinkView) (answer : Answer) (reply : Result (Unit {0}) Si
 done_puts old new answer (Ok done) result put ended e = (sym ended ∙ e, put)
 done_puts old new answer (Err fault) result put ended e = cc
 
--- what is put of a plan of the model that the file means
-puts_plan : (contents : Contents) (number : ℕ) (name file : List ℕ) (horizon : ℕ) (old new : SinkView) (bytes : List ℕ)
-    → fetch_answer contents number name (most_bytes Model) ≡ Ok file → IsPlanOfText file horizon bytes
-    → Puts {T = Unit {0}} {E = SinkFailed} old new bytes (Ok tt)
-    → PutsCertificateOf contents number name horizon old new
-puts_plan contents number name file horizon old new bytes given h put = record {
-  file = file;
-  given = given;
-  model = h.model;
-  meant = h.meant;
-  is_model = h.plan.is_model;
-  bytes = bytes;
-  put = put;
-  certified = plan_certifies h.model horizon bytes h.plan;
-}
-
--- A job that is done put a certificate whose claims hold.
-certified : (contents : Contents) (number : ℕ) (job : Option Job) (old new : SinkView) (result : Status)
-    → RunsAsTold contents number job old new result → result ≡ statuses.Done
-    → IsCertified contents number job old new
-certified contents number None old new result h done =
-    let puts = done_puts old new h.answer h.puts.reply result h.puts.put h.puts.ended done in
-    ⊎_elim
-    (λ told. absurd (let status = sym puts.0 ∙ status_of (usage_answered told) in cc))
-    (λ memory. absurd (let status = sym puts.0 ∙ status_of memory in cc))
-    h.determined
-certified contents number (Some (Plan model horizon nodes look merge order)) old new result h done =
-    let puts = done_puts old new h.answer h.puts.reply result h.puts.put h.puts.ended done in
-    ⊎_elim
-    (λ told.
-    let given = done_plan contents model horizon nodes look merge order told puts.0 in
-    puts_plan contents number model given.0 horizon old new h.answer.text given.1 (done_work (plan_refusal horizon (meaning given.0)) _ h.answer given.2 puts.0) puts.1)
-    (λ memory. absurd (let status = sym puts.0 ∙ status_of memory in cc))
-    h.determined
-
--- the same over a shelf that may tell its contents
-pub certified_as_told : (told : Option Contents) (number : ℕ) (job : Option Job) (old new : SinkView) (result : Status)
-    → IfSome told (λ contents. RunsAsTold contents number job old new result) → result ≡ statuses.Done
-    → IfSome told (λ contents. IsCertified contents number job old new)
-certified_as_told told number job old new result h done =
-    IfSome_then told h (λ contents runs. certified contents number job old new result runs done)
+-- A job that is done was given its files, and what its command claims is so.
+pub certified : (job : Option Job) (shelf shelf' : ShelfView) (sink sink' : SinkView) (result : Status)
+    → Runs job shelf shelf' sink sink' result → result ≡ statuses.Done
+    → IsCertified job shelf shelf' sink sink'
+certified None shelf shelf' sink sink' result h done =
+    let puts = done_puts sink sink' h.answer h.puts.reply result h.puts.put h.puts.ended done in
+    let status = puts.0 in
+    ⊎_elim (λ is. absurd cc) (λ is. absurd cc) h.replies.1
+certified (Some job) shelf shelf' sink sink' result h done =
+    let puts = done_puts sink sink' h.answer h.puts.reply result h.puts.put h.puts.ended done in
+    let work = worked h.replies puts.0 in
+    record {
+      texts = work.more;
+      given = work.given;
+      text = h.answer.text;
+      put = puts.1;
+      claims = claims_hold job work.more h.answer.text work.fine work.is_text;
+    }

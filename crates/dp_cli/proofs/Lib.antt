@@ -1,7 +1,8 @@
-mod Answering
 mod Causes
 mod Certifying
-mod Planning
-mod Refusing
-mod Replying
-mod Told
+mod Commands
+mod Doing
+mod Finding
+mod PlanClaims
+mod Statuses
+mod Telling

@@ -1,8 +1,10 @@
 pub mod Answer
 pub mod Causes
 pub mod Certified
-pub mod Job
+pub mod Command
+pub mod Commands
 pub mod ModelText
+pub mod PlanCommand
 pub mod Planned
 pub mod Put
 pub mod Refusal

@@ -10,8 +10,9 @@ use Rattle.dp_meaning.specs.Meaning.{Meaning, Means, FaultAt, Passes, meaning}
 use Rattle.dp_plan.specs.ConstantCertificate.{IsBestConstantText}
 use Rattle.dp_cli.specs.declared.refusal.UnbuiltPart.{UnbuiltPart}
 use Rattle.dp_cli.specs.declared.refusal.UnbuiltPart.TheVariants.{Horizon, Outward}
+use Rattle.dp_cli.specs.declared.refusal.JobFault.{JobFault}
+use Rattle.dp_cli.specs.declared.refusal.JobFault.TheVariants as job_faults
 use Rattle.dp_cli.specs.declared.refusal.Refusal.{Refusal}
-use Rattle.dp_cli.specs.declared.refusal.Refusal.TheVariants as refusals
 use Rattle.dp_cli.specs.Answer.{GivesText}
 use Rattle.dp_cli.specs.ModelText.{model_of_text}
 
@@ -20,20 +21,20 @@ abbrev pub unbuilt_part : Model → ℕ → Option UnbuiltPart
 unbuilt_part m horizon = if nat_lt 1 horizon then Some Horizon else if is_exact_mode m horizon then None else Some Outward
 
 -- a limit that is passed comes before what is not built yet
-abbrev pub refusal_by : Option TooLarge → Option UnbuiltPart → Option Refusal
-refusal_by (Some passed) part = Some (refusals.TooLarge passed)
-refusal_by None (Some part) = Some (refusals.Unbuilt part)
-refusal_by None None = None
+abbrev pub fault_by : Option TooLarge → Option UnbuiltPart → Option JobFault
+fault_by (Some passed) part = Some (job_faults.TooLarge passed)
+fault_by None (Some part) = Some (job_faults.Unbuilt part)
+fault_by None None = None
 
 -- why a model is not planned over so many steps
-abbrev pub horizon_refusal : Model → ℕ → Option Refusal
-horizon_refusal m horizon = refusal_by (first_passed (horizon_limits m horizon)) (unbuilt_part m horizon)
+abbrev pub horizon_fault : Model → ℕ → Option JobFault
+horizon_fault m horizon = fault_by (first_passed (horizon_limits m horizon)) (unbuilt_part m horizon)
 
 -- why a file that means that is not planned over so many steps
-abbrev pub plan_refusal : ℕ → Meaning → Option Refusal
-plan_refusal horizon (FaultAt place why) = Some (refusals.BadModel place.line place.column why)
-plan_refusal horizon (Passes passed) = Some (refusals.TooLarge passed)
-plan_refusal horizon (Means read) = horizon_refusal read.model.model horizon
+abbrev pub plan_fault : ℕ → Meaning → Option JobFault
+plan_fault horizon (FaultAt place why) = Some (job_faults.BadModel place.line place.column why)
+plan_fault horizon (Passes passed) = Some (job_faults.TooLarge passed)
+plan_fault horizon (Means read) = horizon_fault read.model.model horizon
 
 -- The bytes are the text of the certificate of the best constant policy of a model over one step, in exact mode: the
 -- policy that always does the least joint action among those of greatest value, whose value is both ends of the
@@ -52,8 +53,8 @@ pub record IsPlanOfText (file : List ℕ) (horizon : ℕ) (bytes : List ℕ) : T
 
 -- the text of a plan for a model, or why there is none
 abbrev pub PlansModel : ℕ → Model → Result (Vec ℕ Global) Refusal → Type 0
-PlansModel horizon m result = GivesText (horizon_refusal m horizon) (λ bytes. IsPlanOf m horizon bytes) result
+PlansModel horizon m result = GivesText (horizon_fault m horizon) (λ bytes. IsPlanOf m horizon bytes) result
 
 -- the text of a plan for the model of a file, or why there is none
 abbrev pub PlansText : ℕ → List ℕ → Result (Vec ℕ Global) Refusal → Type 0
-PlansText horizon file result = GivesText (plan_refusal horizon (meaning file)) (λ bytes. IsPlanOfText file horizon bytes) result
+PlansText horizon file result = GivesText (plan_fault horizon (meaning file)) (λ bytes. IsPlanOfText file horizon bytes) result

@@ -14,6 +14,8 @@ use Rattle.dp_words.specs.declared.job.WordFault.{WordFault}
 use Rattle.dp_words.specs.declared.job.WordFault.TheVariants as word_faults
 use Rattle.dp_cli.specs.declared.refusal.FileRole.{FileRole}
 use Rattle.dp_cli.specs.declared.refusal.FileRole.TheVariants.{Model, Second}
+use Rattle.dp_cli.specs.declared.refusal.JobFault.{JobFault}
+use Rattle.dp_cli.specs.declared.refusal.JobFault.TheVariants as job_faults
 use Rattle.dp_cli.specs.declared.refusal.UnbuiltPart.{UnbuiltPart}
 use Rattle.dp_cli.specs.declared.refusal.UnbuiltPart.TheVariants.{Horizon, Outward}
 use Rattle.dp_cli.specs.declared.refusal.Refusal.{Refusal}
@@ -32,7 +34,7 @@ most_bytes role = greatest_allowed (role_limit role)
 
 -- a file that is longer than it may be, by its number of bytes
 abbrev pub long_file : FileRole → ℕ → Refusal
-long_file role count = refusals.TooLarge (record { what = role_limit role; count = count })
+long_file role count = refusals.Fault (job_faults.TooLarge (record { what = role_limit role; count = count }))
 
 -- a file that was not given
 abbrev pub fetch_refusal : FileRole → FetchFault → Refusal
@@ -47,17 +49,21 @@ word_refusal word_faults.Memory = refusals.Memory
 
 -- bytes that mean no model
 abbrev pub model_refusal : ModelFault → Refusal
-model_refusal (model_faults.At line column why) = refusals.BadModel line column why
-model_refusal (model_faults.TooLarge passed) = refusals.TooLarge passed
+model_refusal (model_faults.At line column why) = refusals.Fault (job_faults.BadModel line column why)
+model_refusal (model_faults.TooLarge passed) = refusals.Fault (job_faults.TooLarge passed)
 model_refusal model_faults.Memory = refusals.Memory
+
+-- the exit status of what is wrong with the texts of a job
+abbrev pub fault_status : JobFault → Status
+fault_status (job_faults.BadModel line column why) = statuses.BadModel
+fault_status (job_faults.TooLarge passed) = statuses.TooLarge
+fault_status (job_faults.Unbuilt part) = statuses.Unbuilt
 
 -- the exit status of each refusal
 abbrev pub refusal_status : Refusal → Status
 refusal_status refusals.Usage = statuses.Usage
-refusal_status (refusals.BadModel line column why) = statuses.BadModel
 refusal_status (refusals.Read role) = statuses.ReadFault
-refusal_status (refusals.TooLarge passed) = statuses.TooLarge
-refusal_status (refusals.Unbuilt part) = statuses.Unbuilt
+refusal_status (refusals.Fault fault) = fault_status fault
 refusal_status refusals.Memory = statuses.NoMemory
 
 -- the word of a limit that was passed, and the count that passed it
@@ -80,11 +86,15 @@ abbrev pub unbuilt_line : UnbuiltPart → List ℕ
 unbuilt_line Horizon = codes "refused unbuilt horizon\n"
 unbuilt_line Outward = codes "refused unbuilt outward\n"
 
+-- the line that tells what is wrong with the texts of a job
+abbrev pub fault_line : JobFault → List ℕ
+fault_line (job_faults.BadModel line column why) = model_line line column why
+fault_line (job_faults.TooLarge passed) = large_line passed
+fault_line (job_faults.Unbuilt part) = unbuilt_line part
+
 -- the line that a refusal prints
 abbrev pub refusal_line : Refusal → List ℕ
 refusal_line refusals.Usage = codes "refused usage\n"
-refusal_line (refusals.BadModel line column why) = model_line line column why
 refusal_line (refusals.Read role) = read_line role
-refusal_line (refusals.TooLarge passed) = large_line passed
-refusal_line (refusals.Unbuilt part) = unbuilt_line part
+refusal_line (refusals.Fault fault) = fault_line fault
 refusal_line refusals.Memory = codes "refused memory\n"

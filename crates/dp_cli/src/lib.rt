@@ -4,13 +4,13 @@
 
 ghost use Rattle.std.specs.Prelude.{◌≡◌, ◌≢◌, ◌+◌, ◌<◌, ◌^◌, ◌↔◌, None, length, map, string_bytes, IfSome};
 ghost use Rattle.dp_words.specs.Words.{job_of};
-ghost use Rattle.dp_cli.specs.Causes.{first_refusal, LogsFirstOf, LastFailed, status_by};
-ghost use Rattle.dp_cli.specs.Certified.{IsCertified};
-ghost use Rattle.dp_cli.specs.Job.{files_of};
+ghost use Rattle.dp_cli.specs.Causes.{files_of, first_refusal, IsCertified, LogsFirstOf, LastFailed, status_by};
 ghost use Rattle.dp_cli.specs.Put.{PutsOrMemory};
-ghost use Rattle.dp_cli.specs.Run.{Runs, RunsAsTold};
+ghost use Rattle.dp_cli.specs.Run.{IsFound, Runs, RunsAsTold};
 
+mod fetch;
 mod job;
+mod plan;
 mod put;
 mod refusal;
 mod status;
@@ -18,7 +18,7 @@ mod status;
 use dp_io::{Shelf, Sink};
 use job::do_words;
 use put::put_outcome;
-pub use refusal::{FileRole, Refusal, UnbuiltPart};
+pub use refusal::{FileRole, JobFault, Refusal, UnbuiltPart};
 pub use status::Status;
 use std::alloc::Global;
 
@@ -40,13 +40,20 @@ pub fn run<S: Shelf, W: Sink>(alloc: Global, words: &[String], shelf: &mut S, ou
     ensures told { IfSome (S.view shelf.old).told (λ contents. RunsAsTold contents (length (S.view shelf.old).log)
         (job_of (map string_bytes words.now)) (W.view out.old) (W.view out.new) result) }
 
-    // Done tells that the bytes put are the text of a certificate, over the horizon of the job, that is
-    // valid for the model of the file's bytes, that the value of its policy lies in its interval, and
-    // that no joint policy is worth more than the upper end.
-    ensures certified { result ≡ Status.Done → IfSome (S.view shelf.old).told (λ contents. IsCertified contents
-        (length (S.view shelf.old).log) (job_of (map string_bytes words.now)) (W.view out.old) (W.view out.new)) }
+    // Over every shelf and sink: Done tells that all the files of the job were given, that one text was
+    // put, and that what the job's command claims of the bytes given and of this text is so. Of `plan`:
+    // the text is that of a certificate, over the horizon of the job, that is valid for the model of the
+    // file's bytes, the value of its policy lies in its interval, and no joint policy is worth more than
+    // the upper end.
+    ensures certified { result ≡ Status.Done → IsCertified (job_of (map string_bytes words.now))
+        (S.view shelf.old) (S.view shelf.new) (W.view out.old) (W.view out.new) }
 
-    // The exact cause of every status, and the line of every refusal, over such a shelf.
+    // The cause of every status and line, over every shelf: the last file that was fetched failed or was
+    // too long, or else what is wrong with the bytes that were given, or nothing.
+    ensures found { result ≢ Status.WriteFault → result ≢ Status.NoMemory →
+        IsFound (job_of (map string_bytes words.now)) (S.view shelf.old) (S.view shelf.new) (W.view out.old) (W.view out.new) result }
+
+    // The exact cause of every status, and the line of every refusal, over a shelf that tells its contents.
     ensures cause { result ≢ Status.WriteFault → result ≢ Status.NoMemory →
         IfSome (S.view shelf.old).told (λ contents. result ≡ status_by
         (first_refusal contents (length (S.view shelf.old).log) (job_of (map string_bytes words.now)))) }

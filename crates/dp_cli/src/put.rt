@@ -1,11 +1,11 @@
 // The one put of a call.
 ghost use Rattle.std.specs.Prelude.{◌≡◌, ◌<◌, ◌^◌, string_bytes, IfErr, IfOk};
-ghost use Rattle.dp_cli.specs.Refusal.{large_line, model_line};
+ghost use Rattle.dp_cli.specs.Refusal.{fault_line, large_line, model_line};
 ghost use Rattle.dp_cli.specs.Answer.{refused};
 ghost use Rattle.dp_cli.specs.Put.{PutsAnswer};
 ghost use Rattle.dp_cli.specs.Steps.{PutsOutcome, PutsRefusal};
 
-use crate::{Refusal, Status};
+use crate::{JobFault, Refusal, Status};
 use dp_io::Sink;
 use dp_meaning::Why;
 use dp_model::TooLarge;
@@ -30,16 +30,11 @@ fn put_refusal<W: Sink>(alloc: Global, out: &mut W, refusal: Refusal) -> Status
 {
     match refusal {
         Refusal::Usage => put(out, Status::Usage, b"refused usage\n"),
-        Refusal::BadModel { line, column, why } => {
-            let text = line_of_model(alloc, line, column, why);
-            put_line(out, Status::BadModel, text)
-        }
         Refusal::Read(role) => put(out, Status::ReadFault, role.read_line().as_bytes()),
-        Refusal::TooLarge(passed) => {
-            let text = line_of_limit(alloc, passed);
-            put_line(out, Status::TooLarge, text)
+        Refusal::Fault(fault) => {
+            let line = line_of_fault(alloc, fault);
+            put_line(out, fault.status(), line)
         }
-        Refusal::Unbuilt(part) => put(out, Status::Unbuilt, part.line().as_bytes()),
         Refusal::Memory => put(out, Status::NoMemory, b"refused memory\n"),
     }
 }
@@ -56,6 +51,17 @@ fn put_line<W: Sink>(out: &mut W, status: Status, line: Result<String, Memory>) 
     match line {
         Ok(line) => put(out, status, line.as_bytes()),
         Err(Memory) => put(out, Status::NoMemory, b"refused memory\n"),
+    }
+}
+
+// The line that tells what is wrong with the texts of a job.
+fn line_of_fault(alloc: Global, fault: JobFault) -> Result<String, Memory>
+    ensures { IfOk result (λ line. string_bytes line ≡ fault_line fault) }
+{
+    match fault {
+        JobFault::BadModel { line, column, why } => line_of_model(alloc, line, column, why),
+        JobFault::TooLarge(passed) => line_of_limit(alloc, passed),
+        JobFault::Unbuilt(part) => Ok(String::from_str(alloc, part.line())?),
     }
 }
 

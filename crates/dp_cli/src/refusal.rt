@@ -1,6 +1,7 @@
 ghost use Rattle.std.specs.Prelude.{◌≡◌};
 ghost use Rattle.dp_cli.specs.Refusal.{word_refusal, fetch_refusal};
 
+use crate::Status;
 use dp_io::FetchFault;
 use dp_meaning::Why;
 use dp_model::{Limit, TooLarge};
@@ -26,19 +27,26 @@ pub enum UnbuiltPart {
     Outward,
 }
 
+/// What is wrong with the texts that a job was given.
+#[derive(Clone, Copy, Debug, PartialEq, Eq)]
+pub enum JobFault {
+    /// The first file is no model: what is wrong, and where. Lines and columns count from 1.
+    BadModel { line: u32, column: u32, why: Why },
+    /// A limit is passed.
+    TooLarge(TooLarge),
+    /// The job needs what is not built yet.
+    Unbuilt(UnbuiltPart),
+}
+
 /// Why a command gave no text. Each is told by one line.
 #[derive(Clone, Copy, Debug, PartialEq, Eq)]
 pub enum Refusal {
     /// The words ask for no job.
     Usage,
-    /// The first file is no model: what is wrong, and where. Lines and columns count from 1.
-    BadModel { line: u32, column: u32, why: Why },
     /// The fetch of the file failed.
     Read(FileRole),
-    /// A limit is passed.
-    TooLarge(TooLarge),
-    /// The job needs what is not built yet.
-    Unbuilt(UnbuiltPart),
+    /// Something is wrong with the texts, or a file is too long.
+    Fault(JobFault),
     /// Memory ran out.
     Memory,
 }
@@ -71,20 +79,48 @@ impl From<ModelFault> for Refusal {
 
     fn from(fault: ModelFault) -> Refusal {
         match fault {
-            ModelFault::At { line, column, why } => Refusal::BadModel { line, column, why },
-            ModelFault::TooLarge(passed) => Refusal::TooLarge(passed),
+            ModelFault::At { line, column, why } => {
+                Refusal::Fault(JobFault::BadModel { line, column, why })
+            }
+            ModelFault::TooLarge(passed) => Refusal::Fault(JobFault::TooLarge(passed)),
             ModelFault::Memory => Refusal::Memory,
         }
     }
 }
 
-impl From<TooLarge> for Refusal {
+impl From<JobFault> for Refusal {
     ghost use Rattle.dp_cli.specs.declared.refusal.Refusal.TheVariants as refusals;
 
-    ghost from_gives = { λ passed refusal. refusal ≡ refusals.TooLarge passed };
+    ghost from_gives = { λ fault refusal. refusal ≡ refusals.Fault fault };
+
+    fn from(fault: JobFault) -> Refusal {
+        Refusal::Fault(fault)
+    }
+}
+
+impl From<TooLarge> for Refusal {
+    ghost use Rattle.dp_cli.specs.declared.refusal.JobFault.TheVariants as job_faults;
+    ghost use Rattle.dp_cli.specs.declared.refusal.Refusal.TheVariants as refusals;
+
+    ghost from_gives = { λ passed refusal. refusal ≡ refusals.Fault (job_faults.TooLarge passed) };
 
     fn from(passed: TooLarge) -> Refusal {
-        Refusal::TooLarge(passed)
+        Refusal::Fault(JobFault::TooLarge(passed))
+    }
+}
+
+impl JobFault {
+    ghost use Rattle.dp_cli.specs.Refusal.{fault_status};
+
+    /// The exit status of a call that tells it.
+    pub(crate) fn status(self) -> Status
+        ensures { result ≡ fault_status self }
+    {
+        match self {
+            JobFault::BadModel { .. } => Status::BadModel,
+            JobFault::TooLarge(_) => Status::TooLarge,
+            JobFault::Unbuilt(_) => Status::Unbuilt,
+        }
     }
 }
 
@@ -95,10 +131,10 @@ impl Refusal {
     {
         match fault {
             FetchFault::Failed => Refusal::Read(role),
-            FetchFault::TooLong(count) => Refusal::TooLarge(TooLarge {
+            FetchFault::TooLong(count) => Refusal::Fault(JobFault::TooLarge(TooLarge {
                 what: role.limit(),
                 count: count as u128,
-            }),
+            })),
             FetchFault::Memory => Refusal::Memory,
         }
     }

@@ -9,6 +9,8 @@ use Rattle.dp_io.specs.Shelf.{Entry, Contents, ShelfView}
 pub record MemShelfView : Type 0 where
   -- the fetches so far, the first of them first
   pub log : List Entry
+  -- the bytes of each fetch that was given, the first of them first
+  pub given : List (List ℕ)
   -- each name that was made to hold something, with its bytes, the latest first
   pub held : List (List ℕ × List ℕ)
   -- the numbers of the fetches that are to fail
@@ -27,7 +29,7 @@ contents_of shelf = record {
 
 -- A shelf in memory tells its contents.
 abbrev pub shelf_view : MemShelfView → ShelfView
-shelf_view shelf = record { log = shelf.log; told = Some (contents_of shelf) }
+shelf_view shelf = record { log = shelf.log; given = shelf.given; told = Some (contents_of shelf) }
 
 -- what is held once this name was made to hold these bytes, be they none
 pub record HoldsLatest (held : List (List ℕ × List ℕ)) (name bytes : List ℕ) : Type 0 where

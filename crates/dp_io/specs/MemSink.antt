@@ -15,6 +15,8 @@ pub record MemSinkView : Type 0 where
   pub offered : ℕ
   -- how many of them failed
   pub faults : ℕ
+  -- their texts, the first of them first
+  pub texts : List (List ℕ)
   -- the number of the put that is to fail, and the most bytes of it that are kept
   pub named : Option (ℕ × ℕ)
 
@@ -32,6 +34,7 @@ sink_view sink = record {
   puts = sink.puts;
   offered = sink.offered;
   faults = sink.faults;
+  texts = sink.texts;
   told = Some (record { bytes = sink.bytes; fails = λ count. is_named sink || nat_lt (room_left sink) count });
 }
 

@@ -22,6 +22,8 @@ pub record Contents : Type 0 where
 pub record ShelfView : Type 0 where
   -- the fetches so far, the first of them first
   pub log : List Entry
+  -- the bytes of each fetch that was given, the first of them first
+  pub given : List (List ℕ)
   -- the contents, and None where the shelf does not tell them
   pub told : Option Contents
 
@@ -39,6 +41,11 @@ entries_of name (Ok bytes) = record { name = name; ending = Given } ∷ []
 entries_of name (Err faults.Failed) = record { name = name; ending = Failed } ∷ []
 entries_of name (Err (faults.TooLong k)) = record { name = name; ending = Long k } ∷ []
 entries_of name (Err faults.Memory) = []
+
+-- the texts that a fetch gives: its bytes, or none
+abbrev pub texts_of : Result (Vec ℕ Global) FetchFault → List (List ℕ)
+texts_of (Ok bytes) = bytes.items ∷ []
+texts_of (Err fault) = []
 
 -- No more bytes are given than were asked for, and only what has more is too long.
 abbrev pub IsWithin : ℕ → Result (Vec ℕ Global) FetchFault → Type 0
@@ -60,6 +67,8 @@ IsAsTold contents number name (Err faults.Memory) = Unit {0}
 pub record Fetches (old new : ShelfView) (name : List ℕ) (most : ℕ) (result : Result (Vec ℕ Global) FetchFault) : Type 0 where
   -- it appends its entry to the log
   pub logged : new.log ≡ old.log ++ entries_of name result
+  -- what it gives is kept, for every shelf
+  pub given : new.given ≡ old.given ++ texts_of result
   -- it gives at most so many bytes
   pub within : IsWithin most result
   -- where the contents are told, it answers by them; its number is the length of the log

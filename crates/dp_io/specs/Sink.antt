@@ -1,5 +1,5 @@
 -- What a sink means, and what a put does.
-use Rattle.std.specs.Prelude.{◌≡◌, ℕ, ◌+◌, ◌<◌, ◌≤◌, Bool, true, false, List, ◌++◌, length, take, Option, Some, None, Result, Ok, Err, MatchResult}
+use Rattle.std.specs.Prelude.{◌≡◌, ℕ, ◌+◌, ◌<◌, ◌≤◌, Bool, true, false, List, [], ◌∷◌, ◌++◌, length, take, Option, Some, None, Result, Ok, Err, MatchResult}
 
 -- what a sink has that tells it
 pub record Output : Type 0 where
@@ -16,6 +16,8 @@ pub record SinkView : Type 0 where
   pub offered : ℕ
   -- the count of faults: how many of them failed
   pub faults : ℕ
+  -- their texts, the first of them first, whether or not they were taken
+  pub texts : List (List ℕ)
   -- the output, and None where the sink does not tell it
   pub told : Option Output
 
@@ -41,6 +43,8 @@ pub record Puts {T E : Type 0} (old new : SinkView) (bytes : List ℕ) (result :
   pub puts : new.puts ≡ old.puts + 1
   -- its bytes are counted, whether or not they were taken
   pub offered : new.offered ≡ old.offered + length bytes
+  -- its text is kept, for every sink
+  pub texts : new.texts ≡ old.texts ++ bytes ∷ []
   -- the count of faults rises exactly where the put failed, and never falls
   pub cause : MatchResult result (λ _. new.faults ≡ old.faults) (λ _. old.faults < new.faults)
   -- there are never more faults than puts

@@ -8,6 +8,7 @@ mod mem_shelf;
 mod mem_sink;
 mod shelf;
 mod sink;
+mod texts;
 
 pub use laws::{
     a_fetch_fails_where_the_faults_rise, a_name_holds_what_it_was_given_last,
@@ -18,6 +19,7 @@ pub use mem_shelf::MemShelf;
 pub use mem_sink::MemSink;
 pub use shelf::{Ending, FetchFault, Shelf};
 pub use sink::{Sink, SinkFailed};
+pub use texts::Texts;
 
 #[cfg(test)]
 mod tests;

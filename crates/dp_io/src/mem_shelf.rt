@@ -4,7 +4,7 @@ ghost use Rattle.std.specs.Prelude.{find, string_bytes};
 ghost use Rattle.std.specs.Option.{option_copied};
 ghost use Rattle.std.specs.Str.{bytes_eq};
 
-use crate::{Ending, FetchFault, Log, Shelf};
+use crate::{Ending, FetchFault, Log, Shelf, Texts};
 use dp_num::Memory;
 use std::alloc::Global;
 use std::marker::Model;
@@ -17,6 +17,7 @@ pub struct MemShelf {
     held: Vec<Held>,
     failing: Vec<u64>,
     log: Log,
+    given: Texts,
 }
 
 // A name, and what it was made to hold.
@@ -34,18 +35,24 @@ impl Model for MemShelf {
 
     ghost use Rattle.dp_io.specs.Held.{pair_of};
 
-    ghost view = { λ s. record { log = s.log; held = map pair_of (reverse s.held.items); failing = s.failing.items } };
+    ghost view = { λ s. record {
+      log = s.log;
+      given = s.given.items;
+      held = map pair_of (reverse s.held.items);
+      failing = s.failing.items;
+    } };
 }
 
 impl MemShelf {
     /// A shelf that holds nothing, with no fetch in its log and none listed to fail.
     pub fn new(alloc: Global) -> Result<MemShelf, Memory>
-        ensures { IfOk result (λ shelf. shelf ≡ record { log = []; held = []; failing = [] }) }
+        ensures { IfOk result (λ shelf. shelf ≡ record { log = []; given = []; held = []; failing = [] }) }
     {
         Ok(MemShelf {
             held: Vec::new(alloc),
             failing: Vec::new(alloc),
             log: Log::new(alloc),
+            given: Texts::new(),
         })
     }
 
@@ -75,7 +82,7 @@ impl MemShelf {
 
 ghost use Rattle.dp_io.specs.Held.{pair_of};
 ghost use Rattle.dp_io.specs.MemShelf.{held_by, shelf_view};
-ghost use Rattle.dp_io.specs.Shelf.{Fetches, entries_of};
+ghost use Rattle.dp_io.specs.Shelf.{Fetches, entries_of, texts_of};
 
 // What the name was made to hold last.
 fn find_held<'a>(held: &'a [Held], name: &str) -> Option<&'a Held>
@@ -101,7 +108,10 @@ impl Shelf for MemShelf {
     fn fetch(&mut self, alloc: Global, name: &str, most: u64) -> Result<Vec<u8>, FetchFault>
         requires { most < 2 ^ 63 }
         ensures fetches { Fetches (shelf_view self.old) (shelf_view self.new) name.now most result }
-        ensures rest { self.new ≡ record self.old { log = self.old.log ++ entries_of name.now result } }
+        ensures rest { self.new ≡ record self.old {
+          log = self.old.log ++ entries_of name.now result;
+          given = self.old.given ++ texts_of result;
+        } }
     {
         let number = self.log.len() as u64;
         let is_listed = self.failing.contains(&number);
@@ -114,6 +124,7 @@ impl Shelf for MemShelf {
                 }
                 let bytes = bytes.to_vec(alloc)?;
                 self.log.append(alloc, name, Ending::Given)?;
+                self.given.take(&bytes);
                 Ok(bytes)
             }
             _ => {

@@ -1,7 +1,7 @@
 // A sink in memory.
 ghost use Rattle.std.specs.Prelude.{◌≡◌, ◌<◌, ◌+◌, ◌++◌, ◌^◌, [], length, take, Some, None, IfOk};
 
-use crate::{Sink, SinkFailed};
+use crate::{Sink, SinkFailed, Texts};
 use dp_num::Memory;
 use std::alloc::Global;
 use std::marker::Model;
@@ -18,6 +18,7 @@ pub struct MemSink {
     offered: u128,
     faults: u64,
     named: Option<(u64, u64)>,
+    texts: Texts,
 }
 
 impl Model for MemSink {
@@ -32,6 +33,7 @@ impl Model for MemSink {
       puts = s.puts;
       offered = s.offered;
       faults = s.faults;
+      texts = s.texts.items;
       named = s.named;
     } };
 
@@ -43,7 +45,7 @@ impl MemSink {
     /// A sink with room for so many bytes, all of which it takes from memory now.
     pub fn new(alloc: Global, room: u64) -> Result<MemSink, Memory>
         ensures { IfOk result
-            (λ sink. sink ≡ record { bytes = []; room = room; puts = 0; offered = 0; faults = 0; named = None }) }
+            (λ sink. sink ≡ record { bytes = []; room = room; puts = 0; offered = 0; faults = 0; texts = []; named = None }) }
     {
         Ok(MemSink {
             bytes: Vec::with_capacity(alloc, room as usize)?,
@@ -52,6 +54,7 @@ impl MemSink {
             offered: 0,
             faults: 0,
             named: None,
+            texts: Texts::new(),
         })
     }
 
@@ -92,6 +95,7 @@ impl Sink for MemSink {
             _ => None,
         };
         self.puts += 1;
+        self.texts.take(bytes);
         self.offered += bytes.len() as u128;
         let fits = bytes.len().min(left);
         let kept = match named {

@@ -48,13 +48,14 @@ pub enum Ending {
 pub trait Shelf {
     ghost use Rattle.dp_io.specs.Shelf.{ShelfView, Fetches};
 
-    /// The log of the fetches so far and, where the shelf tells that, what each name holds and
-    /// which fetches fail.
+    /// The log of the fetches so far, the bytes of those that were given and, where the shelf tells
+    /// that, what each name holds and which fetches fail.
     ghost view: { Self → ShelfView };
 
     /// All that the name holds, where that is at most `most` bytes.
     ///
-    /// The fetch appends its one entry to the log and changes nothing else. It answers `Failed`
+    /// The fetch appends its one entry to the log, the bytes that it gives to those that were given,
+    /// and changes nothing else. It answers `Failed`
     /// exactly where the count of faults, the failed entries of the log, rose; where the contents
     /// are told, exactly where the fetch of this number and name is to fail. It answers `TooLong`
     /// only with a number above `most`; where the contents are told, exactly where it is not to

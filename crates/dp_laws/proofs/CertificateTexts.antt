@@ -1,14 +1,20 @@
 -- One spelling of certificates: a text is that of one certificate.
-use Rattle.std.proofs.Common.{◌≡◌, ℕ, ◌-◌, ◌^◌, ◌<◌, Bool, true, false, List, [], ◌∷◌, ◌++◌, get_or, drop, refl, sym, ap, ◌∙◌, append_assoc, arith}
+use Rattle.std.proofs.Common.{◌≡◌, inl, inr, ℕ, ◌-◌, ◌^◌, ◌<◌, Bool, true, false, List, [], ◌∷◌, ◌++◌, get_or, drop, refl, sym, ap, subst, ◌∙◌, append_assoc, arith}
 use Rattle.std.specs.Prelude.{ℤ, pos, unsigned_abs, map, codes}
 use Rattle.dp_spec.specs.Model.{Model, IsModel}
-use Rattle.dp_spec.specs.PolicyTree.{IsPolicyOf}
-use Rattle.dp_spec.specs.BoundTree.{BoundTree, BoundTrees, leaf, branch, merge, no_bound_trees, more_bound_trees}
-use Rattle.dp_spec.specs.Certificate.{Certificate}
+use Rattle.dp_spec.specs.SharedPolicy.{unfolded}
+use Rattle.dp_spec.specs.SharedRows.{shared_policy_rows}
+use Rattle.dp_spec.specs.PlainForm.{plain_form}
+use Rattle.std.specs.Fmt.{decimal}
+use Rattle.dp_spec.specs.BoundTree.{BoundTree, BoundTrees, child_count, leaf, branch, merge, no_bound_trees, more_bound_trees}
+use Rattle.dp_spec.specs.Certificate.{Certificate, HasPolicyOfVersion}
 use Rattle.dp_spec.specs.TextLines.{Item, fixed, plain, Line, fixed_line, line_text, Allows, AllAllowed}
-use Rattle.dp_spec.specs.PolicyText.{end_form, policy_rows, agent_lines}
-use Rattle.dp_spec.specs.CertificateText.{mode_form, signed_form, leaf_form, branch_form, merge_form, child_count, node_lines, children_lines, certificate_lines, certificate_text, HasTextNumbers, IsCertificateText}
-use Rattle.dp_laws.proofs.LineTexts.{HasItems, AreLines, bytes_of, first_of_list, rest_of_list, line_text_injective, text_of_lines_injective}
+use Rattle.dp_spec.specs.PolicyText.{title_form, end_form, policy_rows, agent_lines}
+use Rattle.dp_spec.specs.CertificateText.{certificate_rows, mode_form, signed_form, leaf_form, branch_form, merge_form, node_lines, children_lines, certificate_lines, certificate_text, HasTextNumbers, IsCertificateText}
+use Rattle.dp_laws.proofs.LineTexts.{HasItems, AreLines, bytes_of, decimal_injective_wide, decimal_item, joined_injective, first_of_list, rest_of_list, line_text_injective, text_of_lines_injective}
+use Rattle.dp_laws.proofs.PlainForms.{plain_is_form}
+use Rattle.dp_laws.proofs.SharedTexts.{shared_are_lines, shared_lines_injective}
+use Rattle.dp_laws.proofs.SharedTrees.{unfolded_is_policy}
 use Rattle.dp_laws.proofs.WholeTexts.{AreLines-append, AllAllowed-parts, agents_are_lines, actions_small, horizon_line_injective, all_agent_lines_injective, allowed_of, AllAllowed-append}
 
 -- ---- nodes
@@ -118,8 +124,70 @@ nodes_allowed : (m : Model) (bytes : List ℕ) (c : Certificate) → IsCertifica
     → AllAllowed (node_lines c.tree)
 nodes_allowed m bytes c text =
     let behind_head = text.allowed.1.1.1.1.1.1.1.1.1 in
-    let behind_policy = AllAllowed-parts (agent_lines 0 (policy_rows m.actions m.observations c.horizon c.policy)) (tree_lines c.tree) behind_head in
+    let behind_policy = AllAllowed-parts (agent_lines 0 (certificate_rows m.actions m.observations c)) (tree_lines c.tree) behind_head in
     (AllAllowed-parts (node_lines c.tree) (fixed_line end_form ∷ []) behind_policy.1.1).0
+
+-- a version is a small number
+small_version : (m : Model) (c : Certificate) → HasPolicyOfVersion m c → c.version < 10 ^ 64
+small_version m c policy = elim policy.version [ inl e ↦ omega arith | inr e ↦ omega arith ]
+
+-- the first line determines the version
+title_line_injective : (v w : ℕ) → v < 10 ^ 64 → w < 10 ^ 64
+    → line_text (title_form (codes "certificate") v) [] ≡ line_text (title_form (codes "certificate") w) [] → v ≡ w
+title_line_injective v w p q e =
+    let items = joined_injective (codes "decplan") (codes "decplan") (codes "certificate" ∷ decimal v ∷ []) (codes "certificate" ∷ decimal w ∷ [])
+    (assumption, (assumption, (decimal_item v p, tt))) (assumption, (assumption, (decimal_item w q, tt))) e in
+    decimal_injective_wide v w p q (ap (λ (l : List (List ℕ)). get_or l 2 []) items)
+
+-- the rows of each version
+pub rows_of_first : (m : Model) (c : Certificate) → c.version ≡ 1
+    → certificate_rows m.actions m.observations c ≡ policy_rows m.actions m.observations c.horizon (unfolded c.policy)
+unfolding certificate_rows
+rows_of_first m c e = rw e refl
+
+pub rows_of_second : (m : Model) (c : Certificate) → c.version ≡ 2
+    → certificate_rows m.actions m.observations c ≡ shared_policy_rows m.actions m.observations c.policy
+unfolding certificate_rows
+rows_of_second m c e = rw e refl
+
+-- the lines of the rows are lines
+certificate_rows_are_lines : (m : Model) → IsModel m → (c : Certificate) → HasPolicyOfVersion m c
+    → AreLines (agent_lines 0 (certificate_rows m.actions m.observations c))
+certificate_rows_are_lines m is c policy =
+    let agents = is.sizes.agents_limit in
+    elim policy.version [
+      | inl first ↦
+          subst (λ (rows : List (List Line)). AreLines (agent_lines 0 rows)) (sym (rows_of_first m c first))
+          (agents_are_lines c.horizon m.actions m.observations (unfolded c.policy) (actions_small m is) (unfolded_is_policy m c.horizon c.policy policy.shared) 0 (omega (arith, agents)))
+      | inr second ↦
+          subst (λ (rows : List (List Line)). AreLines (agent_lines 0 rows)) (sym (rows_of_second m c second)) (shared_are_lines m is c.horizon c.policy policy.shared)
+    ]
+
+-- and determine the policy, and what follows them
+certificate_rows_injective : (m : Model) → IsModel m → (c d : Certificate) → c.version ≡ d.version
+    → c.horizon ≡ d.horizon → 0 < c.horizon → HasPolicyOfVersion m c → HasPolicyOfVersion m d → (more others : List Line)
+    → map bytes_of (agent_lines 0 (certificate_rows m.actions m.observations c) ++ more)
+    ≡ map bytes_of (agent_lines 0 (certificate_rows m.actions m.observations d) ++ others)
+    → (c.policy ≡ d.policy) × (map bytes_of more ≡ map bytes_of others)
+certificate_rows_injective m is c d version horizon some mine yours more others e =
+    let lines = λ (rows : List (List Line)) (behind : List Line). map bytes_of (agent_lines 0 rows ++ behind) in
+    elim mine.version [
+      | inl first ↦
+          let also : d.version ≡ 1 = sym version ∙ first in
+          let trees = all_agent_lines_injective m is c.horizon d.horizon (unfolded c.policy) (unfolded d.policy) horizon some
+          (unfolded_is_policy m c.horizon c.policy mine.shared) (unfolded_is_policy m d.horizon d.policy yours.shared) more others
+          (ap (λ (rows : List (List Line)). lines rows more) (sym (rows_of_first m c first)) ∙ e ∙ ap (λ (rows : List (List Line)). lines rows others) (rows_of_first m d also)) in (
+            plain_is_form m c.horizon c.policy mine.shared (mine.plain first)
+                ∙ ap (λ (h : ℕ). plain_form m h (unfolded c.policy)) horizon
+                ∙ ap (plain_form m d.horizon) trees.0
+                ∙ sym (plain_is_form m d.horizon d.policy yours.shared (yours.plain also)),
+            trees.1,
+          )
+      | inr second ↦
+          let also : d.version ≡ 2 = sym version ∙ second in
+          shared_lines_injective m is c.horizon d.horizon c.policy d.policy horizon mine.shared yours.shared more others
+          (ap (λ (rows : List (List Line)). lines rows more) (sym (rows_of_second m c second)) ∙ e ∙ ap (λ (rows : List (List Line)). lines rows others) (rows_of_second m d also))
+    ]
 
 -- the lines of the text of a certificate are lines
 certificate_are_lines : (m : Model) → IsModel m → (bytes : List ℕ) (c : Certificate) → IsCertificateText m bytes c
@@ -127,7 +195,7 @@ certificate_are_lines : (m : Model) → IsModel m → (bytes : List ℕ) (c : Ce
 certificate_are_lines m is bytes c text =
     let agents = is.sizes.agents_limit in
     let a = text.allowed in (
-      (assumption, tt),
+      ((assumption, (assumption, (decimal_item c.version (small_version m c text.policy), tt))), tt),
       (
         (assumption, a.1.0),
         (
@@ -144,8 +212,8 @@ certificate_are_lines m is bytes c text =
                     (assumption, a.1.1.1.1.1.1.1.0),
                     (
                       (assumption, tt),
-                      AreLines-append (agent_lines 0 (policy_rows m.actions m.observations c.horizon c.policy)) (tree_lines c.tree)
-                          (agents_are_lines c.horizon m.actions m.observations c.policy (actions_small m is) text.policy 0 (omega (arith, agents)))
+                      AreLines-append (agent_lines 0 (certificate_rows m.actions m.observations c)) (tree_lines c.tree)
+                          (certificate_rows_are_lines m is c text.policy)
                           (tree_are_lines c.tree (nodes_allowed m bytes c text)),
                     ),
                   ),
@@ -188,9 +256,11 @@ certificate_text_injective m is bytes c d mine yours =
     let lower : c.lower ≡ d.lower = signed_line_injective (codes "lower") c.lower d.lower (assumption) a.1.1.1.1.1.0 b.1.1.1.1.1.0 (line 5) in
     let upper : c.upper ≡ d.upper = signed_line_injective (codes "upper") c.upper d.upper (assumption) a.1.1.1.1.1.1.0 b.1.1.1.1.1.1.0 (line 6) in
     let inner : c.inner ≡ d.inner = plain_line_injective (codes "inner") 0 (2 ^ 32 - 1) c.inner d.inner (assumption) a.1.1.1.1.1.1.1.0 b.1.1.1.1.1.1.1.0 (line 7) in
-    let policies = all_agent_lines_injective m is c.horizon d.horizon c.policy d.policy horizon a.1.0.1 mine.policy yours.policy (tree_lines c.tree) (tree_lines d.tree) behind_head in
+    let version : c.version ≡ d.version = title_line_injective c.version d.version (small_version m c mine.policy) (small_version m d yours.policy) (line 0) in
+    let policies = certificate_rows_injective m is c d version horizon a.1.0.1 mine.policy yours.policy (tree_lines c.tree) (tree_lines d.tree) behind_head in
     let trees = node_lines_injective c.tree d.tree (nodes_allowed m bytes c mine) (nodes_allowed m bytes d yours) (fixed_line end_form ∷ []) (fixed_line end_form ∷ []) (rest_of_list _ _ _ _ policies.1) in
     λ i. record {
+      version = version i;
       horizon = horizon i;
       look = look i;
       is_exact = mode i;
@@ -204,7 +274,7 @@ certificate_text_injective m is bytes c d mine yours =
 
 -- a certificate whose numbers its lines allow has a text
 pub certificate_has_text : (m : Model) → IsModel m → (c : Certificate) → HasTextNumbers c
-    → IsPolicyOf m c.horizon c.policy → IsCertificateText m (certificate_text m.actions m.observations c) c
+    → HasPolicyOfVersion m c → IsCertificateText m (certificate_text m.actions m.observations c) c
 certificate_has_text m is c numbers policy =
     let agents = is.sizes.agents_limit in
     record {
@@ -227,8 +297,8 @@ certificate_has_text m is c numbers policy =
                       numbers.inner,
                       (
                         tt,
-                        AllAllowed-append (agent_lines 0 (policy_rows m.actions m.observations c.horizon c.policy)) (tree_lines c.tree)
-                            (allowed_of _ (agents_are_lines c.horizon m.actions m.observations c.policy (actions_small m is) policy 0 (omega (arith, agents))))
+                        AllAllowed-append (agent_lines 0 (certificate_rows m.actions m.observations c)) (tree_lines c.tree)
+                            (allowed_of _ (certificate_rows_are_lines m is c policy))
                             (tt, AllAllowed-append (node_lines c.tree) (fixed_line end_form ∷ []) numbers.tree (tt, tt)),
                       ),
                     ),

@@ -17,11 +17,11 @@ use Rattle.dp_spec.specs.Sums.{greatest, int_sum, nat_sum, numbers_below}
 
 module _ (m : Model) (A : Arithmetic) (R : Enclosure) (ok : IsSound m A R) where
   -- equal scales and equal weights
-  weighs_same : (T T' w w' : ℕ) (s : Span) → T ≡ T' → w ≡ w' → R.Weighs T w s → R.Weighs T' w' s
+  pub weighs_same : (T T' w w' : ℕ) (s : Span) → T ≡ T' → w ≡ w' → R.Weighs T w s → R.Weighs T' w' s
   weighs_same T T' w w' s e f h = subst (λ (t : ℕ). R.Weighs t w' s) e (subst (λ (x : ℕ). R.Weighs T x s) f h)
 
   -- equal scales
-  earns_same : (T T' : ℕ) (x : ℤ) (s : Span) → T ≡ T' → R.Earns T x s → R.Earns T' x s
+  pub earns_same : (T T' : ℕ) (x : ℤ) (s : Span) → T ≡ T' → R.Earns T x s → R.Earns T' x s
   earns_same T T' x s e h = subst (λ (t : ℕ). R.Earns t x s) e h
 
   -- equal scales, from above
@@ -124,7 +124,7 @@ module _ (m : Model) (A : Arithmetic) (R : Enclosure) (ok : IsSound m A R) where
   history_weight_enclosed act (suc t) (o ∷ H) s h = weighs_same _ _ _ _ _ (scale_of_next m t) refl (weights_after_enclosed _ _ _ (act H) o s (λ s p. history_weight_enclosed act t H s h.1))
 
   -- a weight where a test holds
-  weighs_where : (T w : ℕ) (s : Span) (b : Bool) → R.Weighs T w s → R.Weighs T (cond b w 0) (cond b s (point (pos 0)))
+  pub weighs_where : (T w : ℕ) (s : Span) (b : Bool) → R.Weighs T w s → R.Weighs T (cond b w 0) (cond b s (point (pos 0)))
   weighs_where T w s true h = h
   weighs_where T w s false h = ok.no_weight T
 

@@ -27,12 +27,12 @@ tree_at_fits b n q (suc t) r k x e h is =
     subtree_fits b n r (tree_at n q t (x / n)) (x % n) (mod_below x n (positive_right (n ^ t) n x h')) (tree_at_fits b n q t (suc r) k (x / n) (omega arith) (part_below (n ^ t) n x h') is)
 
 -- the last number below k that is of class c
-abbrev last_member : (ℕ → ℕ) → ℕ → ℕ → ℕ
+abbrev pub last_member : (ℕ → ℕ) → ℕ → ℕ → ℕ
 last_member class c zero = 0
 last_member class c (suc k) = cond (eqb (class k) c) k (last_member class c k)
 
 -- where there is one
-last_member_is : (class : ℕ → ℕ) (c k x : ℕ) → x < k → class x ≡ c
+pub last_member_is : (class : ℕ → ℕ) (c k x : ℕ) → x < k → class x ≡ c
     → (last_member class c k < k) × (class (last_member class c k) ≡ c)
 last_member_is class c zero x h e = absurd (omega arith)
 last_member_is class c (suc k) x h e =

@@ -128,7 +128,7 @@ split_joined first (second ∷ items) h =
     ∙ ap (λ (l : List (List ℕ)). first ∷ l) (split_joined second items h.1)
 
 -- items that are equal once they are joined are equal
-joined_injective : (x y : List ℕ) (xs ys : List (List ℕ)) → AllByRecursion IsItem (x ∷ xs)
+pub joined_injective : (x y : List ℕ) (xs ys : List (List ℕ)) → AllByRecursion IsItem (x ∷ xs)
     → AllByRecursion IsItem (y ∷ ys) → join_with_byte 32 (x ∷ xs) ≡ join_with_byte 32 (y ∷ ys) → x ∷ xs ≡ y ∷ ys
 joined_injective x y xs ys p q e = sym (split_joined x xs p) ∙ ap (slice_split (λ b. eqb b 32)) e ∙ split_joined y ys q
 

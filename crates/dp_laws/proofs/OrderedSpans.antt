@@ -95,7 +95,7 @@ where_point true w e = e
 where_point false w e = refl
 
 -- its magnitude
-where_size : (b : Bool) (w : Span) → size (cond b w (point (pos 0))) ≡ cond b (size w) 0
+pub where_size : (b : Bool) (w : Span) → size (cond b w (point (pos 0))) ≡ cond b (size w) 0
 where_size true w = refl
 where_size false w = refl
 

@@ -22,7 +22,7 @@ use Rattle.dp_spec.specs.PolicyTree.{IsPolicyOf, PolicyTree}
 use Rattle.dp_spec.specs.Quantities.{action_look_ahead_in, class_weight_in, history_weight_in, weights_after_in}
 use Rattle.dp_spec.specs.Sizes.{AreWeights, reward_size, weight_limit}
 use Rattle.dp_spec.specs.SizesOfEarnings.{CanEarn, CanEvaluate, IsActing, earned_size, worth_size}
-use Rattle.dp_spec.specs.SizesOfFronts.{CanAdvance, IsChoosing, advanced_size, class_reward_size, CanBound, CanClassify, class_look_size}
+use Rattle.dp_spec.specs.SizesOfFronts.{CanAdvance, IsChoosing, advanced_size, class_reward_size, CanBound, CanClassify, CanRefine, class_look_size}
 use Rattle.dp_spec.specs.Sums.{greatest, nat_sum}
 use Rattle.dp_spec.specs.Value.{joint_root_action, trees_after}
 use Rattle.dp_spec.specs.WellFormed.{IsFront}
@@ -79,6 +79,15 @@ module _ (m : Model) (is : IsModel m) (h : ℕ) (horizon : h ≤ 24) (cells : m.
   unfolding outward
   outward_can_evaluate = record { add = worth_fits }
 
+-- ---- up to a stage k that is within the limit of stage cells
+module _ (m : Model) (is : IsModel m) (h : ℕ) (horizon : h ≤ 24) (k : ℕ) (cells : m.states * joint_observations m ^ k ≤ 2 ^ 22) where
+  -- the joint histories of a time up to k are at most 2^22
+  histories_until : (t : ℕ) → t ≤ k → joint_observations m ^ t ≤ 2 ^ 22
+  histories_until t le =
+      let grows : joint_observations m ^ t ≤ joint_observations m ^ k = pow-le-pow_right (some_joint_observation m is) le in
+      let states = le-mul_of_pos_right (joint_observations m ^ k) (some_state m is) in
+      omega arith
+
   -- the weights of a joint history are weights of its time
   weights_of : (act : List ℕ → ℕ) (t : ℕ) (H : List ℕ) → t ≤ h → IsActing m t act
       → IsJointHistory (joint_observations m) t H
@@ -87,28 +96,24 @@ module _ (m : Model) (is : IsModel m) (h : ℕ) (horizon : h ≤ 24) (cells : m.
   weights_of act t H le acts hist = history_weights (outward m.scales) (outward_calls m.scales) m h (outward_can_push m is h horizon) act t H le acts hist
 
   -- what is earned by the time
-  earned_room : (act : List ℕ → ℕ) (f : ℕ) → f ≤ h → IsActing m f act
+  earned_room : (act : List ℕ → ℕ) (f : ℕ) → f ≤ h → f ≤ suc k → IsActing m f act
       → earned_size (outward m.scales) m act h f ≤ f * 2 ^ 104
-  earned_room act zero le acts = omega arith
-  earned_room act (suc f) le acts =
+  earned_room act zero le until acts = omega arith
+  earned_room act (suc f) le until acts =
       let O = joint_observations m in
       let W = λ (H : List ℕ). history_weight_in (outward m.scales) m act H in
       let before : IsActing m f act = λ i H lt hist. acts i H (omega arith) hist in
-      let rest = earned_room act f (omega arith) before in
+      let rest = earned_room act f (omega arith) (omega arith) before in
       let each = nat_history_sum_le O f (λ H. reward_size (outward m.scales) m (h - suc f) (W H) (act H)) (λ H. 2 ^ 82)
       (λ H hist. reward_room m is h horizon f (h - suc f) (W H) (act H) (omega arith) (weights_of act f H (omega arith) before hist) (acts f H (omega arith) hist)) in
       let flat = nat_history_sum_const O f (2 ^ 82) in
-      let few = mul-le-mul_right (2 ^ 82) (histories_before f le) in
+      let few = mul-le-mul_right (2 ^ 82) (histories_until f (omega arith)) in
       omega arith
 
   -- it is at most 2^109
-  earned_most : (act : List ℕ → ℕ) (f : ℕ) → f ≤ h → IsActing m f act
+  earned_most : (act : List ℕ → ℕ) (f : ℕ) → f ≤ h → f ≤ suc k → IsActing m f act
       → earned_size (outward m.scales) m act h f ≤ 2 ^ 109
-  earned_most act f le acts = let most = earned_room act f le acts in omega arith
-
-  -- in outward mode earnings can be added up
-  pub outward_can_earn : CanEarn (outward m.scales) m h
-  outward_can_earn = record { add = λ act f le acts. let most = earned_most act f le acts in omega arith }
+  earned_most act f le until acts = let most = earned_room act f le until acts in omega arith
 
   -- ---- fronts
   -- the weights of one joint history
@@ -144,102 +149,125 @@ module _ (m : Model) (is : IsModel m) (h : ℕ) (horizon : h ≤ 24) (cells : m.
       let each = nat_history_sum_le (joint_observations m) t (λ H. total_size m (history_weight_in (outward m.scales) m act H)) (λ H. 2 ^ 40) (λ H hist. history_small act t H le acts hist) in
       let flat = nat_history_sum_const (joint_observations m) t (2 ^ 40) in omega arith
 
-  -- the joint histories of a time up to the horizon are at most 2^30
-  histories_to : (t : ℕ) → t ≤ h → joint_observations m ^ t ≤ 2 ^ 30
+  -- those of the time after k are at most 2^30
+  histories_to : (t : ℕ) → t ≤ suc k → joint_observations m ^ t ≤ 2 ^ 30
   histories_to zero le = let e = pow-zero (joint_observations m) in omega arith
-  histories_to (suc t) le = let before = histories_before t le in let few = mul-le-mul before is.sizes.joint_observations_limit in let e = pow-suc (joint_observations m) t in omega arith
+  histories_to (suc t) le = let before = histories_until t (omega arith) in let few = mul-le-mul before is.sizes.joint_observations_limit in let e = pow-suc (joint_observations m) t in omega arith
 
   -- the weights of a joint class
-  class_limit : (F : Front) (C : ℕ) → IsFront m h F → F.stage < h
+  class_limit : (F : Front) (C : ℕ) → IsFront m h F → F.stage < h → F.stage ≤ k
       → total_size m (class_weight_in (outward m.scales) m F C) ≤ weight_limit false m F.stage
-  class_limit F C front lt =
+  class_limit F C front lt few =
       let all = histories_total (fixed_joint_action m F) F.stage (omega arith) (front_acting m h F front) in
       let classes = classes_total (outward m.scales) m F (suc C) in
       let one = nat_sum_at (suc C) (λ C. total_size m (class_weight_in (outward m.scales) m F C)) C (omega arith) in
-      let few = mul-le-mul_right (2 ^ 40) (histories_before F.stage lt) in omega arith
+      let all_few = mul-le-mul_right (2 ^ 40) (histories_until F.stage few) in omega arith
 
   -- they are weights of the stage
-  weights_of_class : (F : Front) (C : ℕ) → IsFront m h F → F.stage < h
+  pub weights_of_class : (F : Front) (C : ℕ) → IsFront m h F → F.stage < h → F.stage ≤ k
       → AreWeights false m F.stage (class_weight_in (outward m.scales) m F C)
   unfolding outward
-  weights_of_class F C front lt = class_weights (outward m.scales) (outward_calls m.scales) m h (outward_can_push m is h horizon) F C front lt (class_limit F C front lt)
+  weights_of_class F C front lt few = class_weights (outward m.scales) (outward_calls m.scales) m h (outward_can_push m is h horizon) F C front lt (class_limit F C front lt few)
 
   -- all weights of a time fit
-  weights_fit : (act : List ℕ → ℕ) (t : ℕ) → t ≤ h → IsActing m t act
+  pub weights_fit : (act : List ℕ → ℕ) (t : ℕ) → t ≤ h → t ≤ suc k → IsActing m t act
       → nat_history_sum (joint_observations m) t (λ H. total_size m (history_weight_in (outward m.scales) m act H))
       < 2 ^ 127
-  weights_fit act t le acts = let all = histories_total act t le acts in let few = mul-le-mul_right (2 ^ 40) (histories_to t le) in omega arith
+  weights_fit act t le until acts = let all = histories_total act t le acts in let few = mul-le-mul_right (2 ^ 40) (histories_to t until) in omega arith
 
-  -- in outward mode weights of joint classes can be added up
-  pub outward_can_classify : CanClassify (outward m.scales) m h
-  unfolding outward
-  outward_can_classify = record { add = weights_fit; weights = weights_of_class }
-
-  -- the joint classes of a front of a stage before the horizon are at most 2^22
-  classes_before : (F : Front) → IsFront m h F → F.stage < h → product (class_counts F.agents) ≤ 2 ^ 22
-  classes_before F front lt = let classes = joint_classes_within_histories m h F front in let histories = histories_before F.stage lt in omega arith
+  -- the joint classes of a front of a stage up to k are at most 2^22
+  classes_before : (F : Front) → IsFront m h F → F.stage ≤ k → product (class_counts F.agents) ≤ 2 ^ 22
+  classes_before F front few = let classes = joint_classes_within_histories m h F front in let histories = histories_until F.stage few in omega arith
 
   -- the best look-ahead of a joint class
-  class_look_most : (F : Front) (C r k : ℕ) → IsFront m h F → F.stage + suc r ≡ h
-      → unsigned_abs (greatest (λ a. action_look_ahead_in (outward m.scales) m r (class_weight_in (outward m.scales) m F C) a k) (agreeing_actions m F C))
+  class_look_most : (F : Front) (C r look : ℕ) → IsFront m h F → F.stage + suc r ≡ h → F.stage ≤ k
+      → unsigned_abs (greatest (λ a. action_look_ahead_in (outward m.scales) m r (class_weight_in (outward m.scales) m F C) a look) (agreeing_actions m F C))
       ≤ 2 ^ 97
-  class_look_most F C r k front e =
+  class_look_most F C r look front e few =
       let W = class_weight_in (outward m.scales) m F C in
-      let are = weights_of_class F C front (omega arith) in
-      greatest_abs (λ a. action_look_ahead_in (outward m.scales) m r W a k) (2 ^ 97) (agreeing_actions m F C)
-      (λ a inside. let parts = action_look_le (outward m.scales) m r W a k in let most = looks_room m is h horizon F.stage r (k - 1) W a e are (agreeing_below m F C a inside) in omega arith)
+      let are = weights_of_class F C front (omega arith) few in
+      greatest_abs (λ a. action_look_ahead_in (outward m.scales) m r W a look) (2 ^ 97) (agreeing_actions m F C)
+      (λ a inside. let parts = action_look_le (outward m.scales) m r W a look in let most = looks_room m is h horizon F.stage r (look - 1) W a e are (agreeing_below m F C a inside) in omega arith)
 
   -- those of all joint classes together
-  class_looks_most : (F : Front) (r k : ℕ) → IsFront m h F → F.stage + suc r ≡ h
-      → class_look_size (outward m.scales) m r F k ≤ 2 ^ 119
+  class_looks_most : (F : Front) (r look : ℕ) → IsFront m h F → F.stage + suc r ≡ h → F.stage ≤ k
+      → class_look_size (outward m.scales) m r F look ≤ 2 ^ 119
   unfolding class_look_size
-  class_looks_most F r k front e =
+  class_looks_most F r look front e few =
       let n = product (class_counts F.agents) in
-      let each = nat_sum_most n (2 ^ 97) (λ C. unsigned_abs (greatest (λ a. action_look_ahead_in (outward m.scales) m r (class_weight_in (outward m.scales) m F C) a k) (agreeing_actions m F C))) (λ C p. class_look_most F C r k front e) in
-      let all = mul-le-mul_right (2 ^ 97) (classes_before F front (omega arith)) in
+      let each = nat_sum_most n (2 ^ 97) (λ C. unsigned_abs (greatest (λ a. action_look_ahead_in (outward m.scales) m r (class_weight_in (outward m.scales) m F C) a look) (agreeing_actions m F C))) (λ C p. class_look_most F C r look front e few) in
+      let all = mul-le-mul_right (2 ^ 97) (classes_before F front few) in
       omega arith
 
   -- what a front has earned and its best look-aheads
-  front_fits : (F : Front) (r k : ℕ) → IsFront m h F → F.stage + suc r ≡ h
-      → earned_size (outward m.scales) m (fixed_joint_action m F) h F.stage + class_look_size (outward m.scales) m r F k
+  pub front_fits : (F : Front) (r look : ℕ) → IsFront m h F → F.stage + suc r ≡ h → F.stage ≤ k
+      → earned_size (outward m.scales) m (fixed_joint_action m F) h F.stage + class_look_size (outward m.scales) m r F look
       < 2 ^ 127
-  front_fits F r k front e =
-      let earned = earned_most (fixed_joint_action m F) F.stage (omega arith) (front_acting m h F front) in
-      let looks = class_looks_most F r k front e in omega arith
-
-  -- in outward mode the bound of a front can be added up
-  pub outward_can_bound : CanBound (outward m.scales) m h
-  outward_can_bound = record { add = front_fits }
+  front_fits F r look front e few =
+      let earned = earned_most (fixed_joint_action m F) F.stage (omega arith) (omega arith) (front_acting m h F front) in
+      let looks = class_looks_most F r look front e few in omega arith
 
   -- all next weights of a front's joint classes
-  advanced_fits : (F : Front) (act : ℕ → ℕ) → IsFront m h F → F.stage < h → IsChoosing m F act
+  pub advanced_fits : (F : Front) (act : ℕ → ℕ) → IsFront m h F → F.stage < h → F.stage ≤ k → IsChoosing m F act
       → advanced_size (outward m.scales) m F act < 2 ^ 127
   unfolding advanced_size
-  advanced_fits F act front lt chosen =
+  advanced_fits F act front lt few chosen =
       let n = product (class_counts F.agents) in
       let W = λ (C : ℕ). class_weight_in (outward m.scales) m F C in
       let O = joint_observations m in
       let each = nat_sum_most n (O * 2 ^ 64) (λ C. nat_sum O (λ o. total_size m (weights_after_in (outward m.scales) m (W C) (act C) o)))
       (λ C p. nat_sum_most O (2 ^ 64) (λ o. total_size m (weights_after_in (outward m.scales) m (W C) (act C) o))
-      (λ o q. limit_room m is h horizon (suc F.stage) (weights_after_in (outward m.scales) m (W C) (act C) o) lt (next_weights m is h horizon F.stage (W C) (act C) o (weights_of_class F C front lt) (chosen C p) q))) in
-      let few = mul-le-mul (classes_before F front lt) is.sizes.joint_observations_limit in
-      let all = mul-le-mul_right (2 ^ 64) few in
+      (λ o q. limit_room m is h horizon (suc F.stage) (weights_after_in (outward m.scales) m (W C) (act C) o) lt (next_weights m is h horizon F.stage (W C) (act C) o (weights_of_class F C front lt few) (chosen C p) q))) in
+      let all_few = mul-le-mul (classes_before F front few) is.sizes.joint_observations_limit in
+      let all = mul-le-mul_right (2 ^ 64) all_few in
       omega arith
 
   -- what a front has earned and its rewards
-  rewards_of_front_fit : (F : Front) (r : ℕ) (act : ℕ → ℕ) → IsFront m h F → F.stage + suc r ≡ h → IsChoosing m F act
+  pub rewards_of_front_fit : (F : Front) (r : ℕ) (act : ℕ → ℕ) → IsFront m h F → F.stage + suc r ≡ h → F.stage ≤ k → IsChoosing m F act
       → earned_size (outward m.scales) m (fixed_joint_action m F) h F.stage + class_reward_size (outward m.scales) m r F act
       < 2 ^ 127
   unfolding class_reward_size
-  rewards_of_front_fit F r act front e chosen =
+  rewards_of_front_fit F r act front e few chosen =
       let lt : F.stage < h = omega arith in
       let n = product (class_counts F.agents) in
       let W = λ (C : ℕ). class_weight_in (outward m.scales) m F C in
-      let earned = earned_most (fixed_joint_action m F) F.stage (omega arith) (front_acting m h F front) in
-      let each = nat_sum_most n (2 ^ 82) (λ C. reward_size (outward m.scales) m r (W C) (act C)) (λ C p. reward_room m is h horizon F.stage r (W C) (act C) (omega arith) (weights_of_class F C front lt) (chosen C p)) in
-      let few = mul-le-mul_right (2 ^ 82) (classes_before F front lt) in
+      let earned = earned_most (fixed_joint_action m F) F.stage (omega arith) (omega arith) (front_acting m h F front) in
+      let each = nat_sum_most n (2 ^ 82) (λ C. reward_size (outward m.scales) m r (W C) (act C)) (λ C p. reward_room m is h horizon F.stage r (W C) (act C) (omega arith) (weights_of_class F C front lt few) (chosen C p)) in
+      let all_few = mul-le-mul_right (2 ^ 82) (classes_before F front few) in
       omega arith
 
-  -- in outward mode a front can be advanced
+  -- in outward mode a front of a stage up to k can be refined
+  pub outward_can_refine : (F : Front) → IsFront m h F → F.stage < h → F.stage ≤ k → CanRefine (outward m.scales) m h F
+  unfolding outward
+  outward_can_refine F front lt few = record {
+    weights = λ C. weights_of_class F C front lt few;
+    classify = weights_fit (fixed_joint_action m F) F.stage (omega arith) (omega arith) (front_acting m h F front);
+    bound = λ r look e. front_fits F r look front e few;
+    advance = λ act chosen. advanced_fits F act front lt few chosen;
+    rewards = λ r act e chosen. rewards_of_front_fit F r act front e few chosen;
+  }
+
+-- ---- up to the last stage
+module _ (m : Model) (is : IsModel m) (h : ℕ) (horizon : h ≤ 24) (cells : m.states * joint_observations m ^ (h - 1) ≤ 2 ^ 22) where
+  -- in outward mode earnings can be added up
+  pub outward_can_earn : CanEarn (outward m.scales) m h
+  outward_can_earn = record { add = λ act f le acts. let most = earned_most m is h horizon (h - 1) cells act f le (omega arith) acts in omega arith }
+
+  -- weights of joint classes can be added up
+  pub outward_can_classify : CanClassify (outward m.scales) m h
+  unfolding outward
+  outward_can_classify = record {
+    add = λ act t le acts. weights_fit m is h horizon (h - 1) cells act t le (omega arith) acts;
+    weights = λ F C front lt. weights_of_class m is h horizon (h - 1) cells F C front lt (omega arith);
+  }
+
+  -- the bound of a front can be added up
+  pub outward_can_bound : CanBound (outward m.scales) m h
+  outward_can_bound = record { add = λ F r look front e. front_fits m is h horizon (h - 1) cells F r look front e (omega arith) }
+
+  -- a front can be advanced
   pub outward_can_advance : CanAdvance (outward m.scales) m h
-  outward_can_advance = record { weights = advanced_fits; earned = rewards_of_front_fit }
+  outward_can_advance = record {
+    weights = λ F act front lt chosen. advanced_fits m is h horizon (h - 1) cells F act front lt (omega arith) chosen;
+    earned = λ F r act front e chosen. rewards_of_front_fit m is h horizon (h - 1) cells F r act front e (omega arith) chosen;
+  }

@@ -16,7 +16,7 @@ use Rattle.dp_spec.specs.Quantities.{weights_after_in}
 use Rattle.dp_spec.specs.Rounding.{by_sign, ceiling_of, floor_of, mul_down, mul_up}
 use Rattle.dp_spec.specs.Sizes.{reward_size}
 use Rattle.dp_spec.specs.Sums.{nat_sum}
-use Rattle.dp_spec.proofs.NaturalSumLaws.{nat_sum_add, nat_sum_at, nat_sum_const, nat_sum_le, nat_sum_swap, nat_sum_times}
+use Rattle.dp_spec.proofs.NaturalSumLaws.{nat_sum_add, nat_sum_at, nat_sum_const, nat_sum_ext, nat_sum_le, nat_sum_swap, nat_sum_times}
 use Rattle.dp_spec.proofs.RoundingLaws.{unsigned_abs-neg}
 
 -- ---- one quotient
@@ -215,6 +215,44 @@ module _ (m : Model) (is : IsModel m) where
       let parts = next_parts ws a o pa po h in
       let each = nat_sum_le m.states (λ u. size (weights_after_in (outward m.scales) m ws a o u)) (λ u. nat_sum m.states (λ s. size ((outward m.scales).later ((outward m.scales).chance (ws s) (trans_at m a s u) (obs_at m a u o)))))
       (λ u p. pushed_size_le (outward m.scales) m ws a o u) in
+      omega arith
+
+  -- the parts of one weight after all joint observations
+  spread_parts : (w : Span) (a s : ℕ) → a < joint_actions m → s < m.states → IsOrdered w →
+      nat_sum m.states (λ u. nat_sum (joint_observations m) (λ o. size ((outward m.scales).later ((outward m.scales).chance w (trans_at m a s u) (obs_at m a u o)))))
+      ≤ size w + (m.states + m.states * joint_observations m)
+  spread_parts w a s pa ps ow =
+      let S = m.states in
+      let O = joint_observations m in
+      let C = λ (u o : ℕ). (outward m.scales).chance w (trans_at m a s u) (obs_at m a u o) in
+      let L = λ (u o : ℕ). size ((outward m.scales).later (C u o)) in
+      let X = λ (u : ℕ). state_part w (trans_at m a s u) in
+      let states = shares S (size w) m.scales.trans (trans_at m a s) X is.scales.trans (is.rows.trans a s pa ps) (λ u pu. state_part_most w (trans_at m a s u) ow) in
+      let row : (u : ℕ) → u < S → nat_sum O (λ o. L u o) ≤ X u + O = λ u pu.
+      let seen = shares O (X u) m.scales.obs (obs_at m a u) (λ o. size (C u o)) is.scales.obs (is.rows.obs a u pa pu) (λ o po. chance_most w (trans_at m a s u) (obs_at m a u o) ow) in
+      let each = nat_sum_le O (λ o. L u o) (λ o. size (C u o)) (λ o po. later_le (C u o) (chance_ordered w (trans_at m a s u) (obs_at m a u o) ow)) in
+      omega arith in
+      let all = nat_sum_le S (λ u. nat_sum O (λ o. L u o)) (λ u. X u + O) row in
+      let sums = nat_sum_add S X (λ u. O) in
+      let flat = nat_sum_const S O in
+      omega arith
+
+  -- the next weights after all joint observations together
+  pub spread_total : (ws : ℕ → Span) (a : ℕ) → a < joint_actions m → ((s : ℕ) → s < m.states → IsOrdered (ws s)) →
+      nat_sum (joint_observations m) (λ o. total_size m (weights_after_in (outward m.scales) m ws a o))
+      ≤ total_size m ws + m.states * (m.states + m.states * joint_observations m)
+  spread_total ws a pa h =
+      let S = m.states in
+      let O = joint_observations m in
+      let f = λ (o u s : ℕ). size ((outward m.scales).later ((outward m.scales).chance (ws s) (trans_at m a s u) (obs_at m a u o))) in
+      let parts = nat_sum_le O (λ o. total_size m (weights_after_in (outward m.scales) m ws a o)) (λ o. nat_sum S (λ u. nat_sum S (λ s. f o u s)))
+      (λ o po. nat_sum_le S (λ u. size (weights_after_in (outward m.scales) m ws a o u)) (λ u. nat_sum S (λ s. f o u s)) (λ u pu. pushed_size_le (outward m.scales) m ws a o u)) in
+      let first = nat_sum_swap O S (λ o u. nat_sum S (λ s. f o u s)) in
+      let second = nat_sum_ext S (λ u. nat_sum O (λ o. nat_sum S (λ s. f o u s))) (λ u. nat_sum S (λ s. nat_sum O (λ o. f o u s))) (λ u pu. nat_sum_swap O S (λ o s. f o u s)) in
+      let third = nat_sum_swap S S (λ u s. nat_sum O (λ o. f o u s)) in
+      let each = nat_sum_le S (λ s. nat_sum S (λ u. nat_sum O (λ o. f o u s))) (λ s. size (ws s) + (S + S * O)) (λ s ps. spread_parts (ws s) a s pa ps (h s ps)) in
+      let sums = nat_sum_add S (λ s. size (ws s)) (λ s. S + S * O) in
+      let flat = nat_sum_const S (S + S * O) in
       omega arith
 
   -- the parts of the reward from one weight

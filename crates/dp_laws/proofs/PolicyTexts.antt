@@ -23,7 +23,7 @@ row_allowed f high a (suc k) each =
     (here.1, omega arith, here.0, row_allowed f high (a + 1) k (λ x ge lt. each x (omega arith) (omega arith)))
 
 -- a form of plain numbers has no fixed text
-replicate_items : (k low high : ℕ) → HasItems (replicate k (plain low high))
+pub replicate_items : (k low high : ℕ) → HasItems (replicate k (plain low high))
 replicate_items zero low high = tt
 replicate_items (suc k) low high = replicate_items k low high
 
@@ -38,7 +38,7 @@ row_is b n h t q small lt is = (
 )
 
 -- the numbers of a row without a sign
-map-unsigned_abs-pos : (xs : List ℕ) → map unsigned_abs (map pos xs) ≡ xs
+pub map-unsigned_abs-pos : (xs : List ℕ) → map unsigned_abs (map pos xs) ≡ xs
 map-unsigned_abs-pos [] = refl
 map-unsigned_abs-pos (x ∷ xs) = ap (λ l. x ∷ l) (map-unsigned_abs-pos xs)
 

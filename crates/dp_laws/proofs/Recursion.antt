@@ -11,7 +11,7 @@ use Rattle.dp_spec.specs.Quantities.{earned_reward_in, forward_worth_in, history
 use Rattle.dp_spec.specs.Value.{joint_root_action}
 
 -- equal ends
-span_equal : (a b : Span) → a.low ≡ b.low → a.high ≡ b.high → a ≡ b
+pub span_equal : (a b : Span) → a.low ≡ b.low → a.high ≡ b.high → a ≡ b
 span_equal a b e f =
     let make = λ (x : ℤ) (y : ℤ). let s : Span = record { low = x; high = y } in s in
     ap (λ (x : ℤ). make x a.high) e ∙ ap (λ (y : ℤ). make b.low y) f
@@ -25,11 +25,11 @@ span_add_assoc : (a b c : Span) → span_add (span_add a b) c ≡ span_add a (sp
 span_add_assoc a b c = span_equal _ _ (+ℤ_assoc a.low b.low c.low) (+ℤ_assoc a.high b.high c.high)
 
 -- nothing added to a span
-span_add_none : (a : Span) → span_add a (point (pos 0)) ≡ a
+pub span_add_none : (a : Span) → span_add a (point (pos 0)) ≡ a
 span_add_none a = span_equal _ _ (+ℤ_idr a.low) (+ℤ_idr a.high)
 
 -- a span added to nothing
-span_none_add : (a : Span) → span_add (point (pos 0)) a ≡ a
+pub span_none_add : (a : Span) → span_add (point (pos 0)) a ≡ a
 span_none_add a = span_equal _ _ (+ℤ_idl a.low) (+ℤ_idl a.high)
 
 -- a sum of sums
@@ -56,7 +56,7 @@ span_history_sum_add n zero f g = refl
 span_history_sum_add n (suc t) f g = span_history_sum_ext n t _ _ (λ H. span_sum_add n (λ o. f (o ∷ H)) (λ o. g (o ∷ H))) ∙ span_history_sum_add n t _ _
 
 -- a sum of zeros
-span_sum_none : (n : ℕ) → span_sum n (λ i. point (pos 0)) ≡ point (pos 0)
+pub span_sum_none : (n : ℕ) → span_sum n (λ i. point (pos 0)) ≡ point (pos 0)
 span_sum_none zero = refl
 span_sum_none (suc n) = ap (λ (x : Span). span_add x (point (pos 0))) (span_sum_none n) ∙ span_add_none (point (pos 0))
 

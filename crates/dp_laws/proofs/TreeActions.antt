@@ -25,17 +25,17 @@ equal_lists b n r (suc c) (more_trees p ks) no_trees k l same = absurd l
 equal_lists b n r (suc c) (more_trees p ks) (more_trees q ls) k l same = rw (same 0 (omega arith), equal_lists b n r c ks ls k.1 l.1 (λ o h. same (suc o) (omega arith))) refl
 
 -- trees of one step are equal where their actions are
-equal_leaves : (b n : ℕ) (p q : PolicyTree) → IsPolicyTree b n 1 p → IsPolicyTree b n 1 q
+pub equal_leaves : (b n : ℕ) (p q : PolicyTree) → IsPolicyTree b n 1 p → IsPolicyTree b n 1 q
     → root_action p ≡ root_action q → p ≡ q
 equal_leaves b n (node a ks) (node c ls) tp tq same = rw (same, tp.1, tq.1) refl
 
 -- trees of more steps are equal where their actions and their subtrees are
-equal_nodes : (b n r : ℕ) (p q : PolicyTree) → IsPolicyTree b n (suc (suc r)) p → IsPolicyTree b n (suc (suc r)) q
+pub equal_nodes : (b n r : ℕ) (p q : PolicyTree) → IsPolicyTree b n (suc (suc r)) p → IsPolicyTree b n (suc (suc r)) q
     → root_action p ≡ root_action q → ((o : ℕ) → o < n → subtree p o ≡ subtree q o) → p ≡ q
 equal_nodes b n r (node a ks) (node c ls) tp tq same below = rw (same, equal_lists b n (suc r) n ks ls tp.1 tq.1 below) refl
 
 -- what remains of a tree after an own history and one more observation
-tree_at-next : (n : ℕ) (q : PolicyTree) (t x o : ℕ) → o < n
+pub tree_at-next : (n : ℕ) (q : PolicyTree) (t x o : ℕ) → o < n
     → tree_at n q (suc t) (x * n + o) ≡ subtree (tree_at n q t x) o
 tree_at-next n q t x o h = rw (div-mul-add x n o h, mod-mul-add x n o h) refl
 

@@ -76,7 +76,7 @@ policy_are_lines : (m : Model) → IsModel m → (h : ℕ) (qs : List PolicyTree
     → IsPolicyOf m h qs → AreLines (policy_lines m.actions m.observations h qs)
 policy_are_lines m is h qs horizon policy =
     let agents = is.sizes.agents_limit in (
-      (assumption, tt),
+      ((assumption, (assumption, (decimal_item 1 (omega arith), tt))), tt),
       (
         (assumption, horizon),
         AreLines-append (agent_lines 0 (policy_rows m.actions m.observations h qs)) (fixed_line end_form ∷ [])

@@ -11,7 +11,10 @@ pub mod HorizonOneLaws
 pub mod LookAheadLaws
 pub mod MergingLaws
 pub mod OneSpelling
+pub mod PlanLaws
+pub mod RoomLaws
 pub mod RootFrontLaws
+pub mod SharedLaws
 pub mod SizeLaws
 pub mod TreeDepthLaws
 pub mod TreeLaws

@@ -3,7 +3,7 @@ use Rattle.std.specs.Prelude.{◌≡◌, ℕ, ◌^◌, ◌<◌, List}
 use Rattle.dp_spec.specs.Model.{Model, IsModel}
 use Rattle.dp_spec.specs.PolicyTree.{PolicyTree, IsPolicyOf}
 use Rattle.dp_spec.specs.PolicyText.{policy_text, IsPolicyText}
-use Rattle.dp_spec.specs.Certificate.{Certificate}
+use Rattle.dp_spec.specs.Certificate.{Certificate, HasPolicyOfVersion}
 use Rattle.dp_spec.specs.CertificateText.{certificate_text, HasTextNumbers, IsCertificateText}
 
 -- a text is that of one horizon and one joint policy
@@ -24,10 +24,10 @@ EachPolicyHasText =
     (m : Model) → IsModel m → (h : ℕ) (qs : List PolicyTree) → 0 < h → h < 2 ^ 32 → IsPolicyOf m h qs →
     IsPolicyText m (policy_text m.actions m.observations h qs) h qs
 
--- every certificate whose numbers its lines allow, with a joint policy for the model, has a text
+-- every certificate whose numbers its lines allow, with a policy of its version for the model, has a text
 abbrev pub EachCertificateHasText : Type 0
 EachCertificateHasText =
-    (m : Model) → IsModel m → (c : Certificate) → HasTextNumbers c → IsPolicyOf m c.horizon c.policy →
+    (m : Model) → IsModel m → (c : Certificate) → HasTextNumbers c → HasPolicyOfVersion m c →
     IsCertificateText m (certificate_text m.actions m.observations c) c
 
 -- a text is that of one certificate

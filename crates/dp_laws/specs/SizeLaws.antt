@@ -2,15 +2,18 @@
 use Rattle.std.specs.Prelude.{ℕ, ◌*◌, ◌-◌, ◌^◌, ◌<◌, ◌≤◌, ◌≡◌, Bool, false, List}
 use Rattle.dp_spec.specs.Arithmetic.{arithmetic}
 use Rattle.dp_spec.specs.Calls.{calls_in}
+use Rattle.dp_spec.specs.Front.{Front}
 use Rattle.dp_spec.specs.JointHistory.{IsJointHistory}
 use Rattle.dp_spec.specs.Mode.{is_exact_mode}
 use Rattle.dp_spec.specs.Model.{IsModel, Model, joint_observations}
 use Rattle.dp_spec.specs.Quantities.{history_weight_in}
 use Rattle.dp_spec.specs.Sizes.{AreWeights, CanPush, CanReward}
 use Rattle.dp_spec.specs.SizesOfEarnings.{CanEarn, CanEvaluate, IsActing}
-use Rattle.dp_spec.specs.SizesOfFronts.{CanAdvance, CanBound, CanClassify}
+use Rattle.dp_spec.specs.SizesOfFronts.{CanAdvance, CanBound, CanClassify, CanRefine}
 use Rattle.dp_spec.specs.SizesOfLookAhead.{CanLookAhead}
+use Rattle.dp_spec.specs.SizesOfRows.{CanShare}
 use Rattle.dp_spec.specs.SizesOfTable.{CanTabulate}
+use Rattle.dp_spec.specs.WellFormed.{IsFront}
 
 -- ---- from any weights within the sum bound, up to a horizon of 24
 
@@ -45,6 +48,12 @@ HistoryWeightsAreWithinBound =
     (act : List ℕ → ℕ) (t : ℕ) (H : List ℕ) → t ≤ h → IsActing m t act → IsJointHistory (joint_observations m) t H →
     AreWeights e m t (history_weight_in (arithmetic e m.scales) m act H)
 
+-- the worth of a shared policy is computed from weights within the sum bound, and can be added up
+abbrev pub ModeAllowsSharedWorth : Type 0
+ModeAllowsSharedWorth =
+    (m : Model) → IsModel m → (h : ℕ) → 0 < h → h ≤ 24 → (e : Bool) → e ≡ is_exact_mode m h →
+    CanShare (arithmetic e m.scales) m h
+
 -- ---- sums along joint histories, in outward mode within the limit of stage cells
 
 -- what is earned can be added up
@@ -76,3 +85,13 @@ abbrev pub ModeAllowsAdvances : Type 0
 ModeAllowsAdvances =
     (m : Model) → IsModel m → (h : ℕ) → 0 < h → h ≤ 24 → (e : Bool) → e ≡ is_exact_mode m h →
     (e ≡ false → m.states * joint_observations m ^ (h - 1) ≤ 2 ^ 22) → CanAdvance (arithmetic e m.scales) m h
+
+-- ---- one front, in outward mode where its own stage is within the limit of stage cells (as where it has room and no
+-- two histories share a class)
+
+-- it can be bounded and advanced
+abbrev pub ModeAllowsRefining : Type 0
+ModeAllowsRefining =
+    (m : Model) → IsModel m → (h : ℕ) → 0 < h → h ≤ 24 → (e : Bool) → e ≡ is_exact_mode m h →
+    (F : Front) → IsFront m h F → F.stage < h → (e ≡ false → m.states * joint_observations m ^ F.stage ≤ 2 ^ 22) →
+    CanRefine (arithmetic e m.scales) m h F

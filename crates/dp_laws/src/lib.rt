@@ -12,8 +12,11 @@ mod full_fronts;
 mod horizon_one;
 mod look_ahead;
 mod lossless_merging;
+mod plans;
 mod policy_trees;
+mod rooms;
 mod root_fronts;
+mod shared_policies;
 mod sizes;
 mod texts;
 mod tree_depth;
@@ -25,7 +28,7 @@ pub use arithmetics::{
 };
 pub use certificates::{
     closed_certificates_are_optimal, ends_are_in_order, lower_end_is_the_value,
-    valid_certificates_hold,
+    lower_end_of_version_one, valid_certificates_fit, valid_certificates_hold,
 };
 pub use choosing::{choosing_changes_no_weight, equivalence_ignores_choices};
 pub use class_counts::{
@@ -52,16 +55,30 @@ pub use look_ahead::{
 pub use lossless_merging::{
     empty_classes_are_equivalent, keeping_the_merged_keeps_the_front, merging_loses_nothing,
 };
+pub use plans::plans_of_version_one_end;
 pub use policy_trees::{
     actions_are_of_the_agent, tree_of_any_actions_exists, trees_with_equal_actions_are_equal,
 };
+pub use rooms::{
+    choices_keep_histories_apart, no_node_is_wide_in_version_one, nodes_have_room,
+    nodes_keep_apart_without_merges, steps_keep_room, widening_is_want_of_room,
+};
 pub use root_fronts::{every_policy_keeps_the_root_front, root_front_is_well_formed};
+pub use shared_policies::{
+    constant_rows_are_a_shared_form, exact_shared_worth_is_the_value, histories_reach_their_rows,
+    plain_form_has_the_forward_worth, plain_form_means_the_policy, plain_policy_is_its_plain_form,
+    plain_worth_is_forward_worth, reduced_rows_are_a_shared_form, rows_are_few,
+    shared_cells_pass_no_limit, shared_form_means_the_policy, shared_rows_mean_a_policy,
+    shared_worth_encloses_the_value,
+};
 pub use sizes::{
     history_weights_are_within_bound, mode_allows_advances, mode_allows_bounds,
     mode_allows_class_weights, mode_allows_earnings, mode_allows_look_ahead, mode_allows_pushes,
-    mode_allows_rewards, mode_allows_table, mode_allows_worth,
+    mode_allows_refining, mode_allows_rewards, mode_allows_shared_worth, mode_allows_table,
+    mode_allows_worth,
 };
 pub use texts::{certificates_have_one_text, policies_have_one_text};
 pub use tree_depth::{
-    paths_below_a_front_are_short, paths_below_the_root_are_short, paths_of_valid_trees_are_short,
+    fitting_branches_are_small, paths_below_a_front_are_short, paths_below_the_root_are_limited,
+    paths_below_the_root_are_short, paths_of_valid_trees_are_short,
 };

@@ -1,7 +1,8 @@
 ghost use Rattle.dp_laws.specs.SizeLaws.{ModeAllowsPushes, ModeAllowsRewards, ModeAllowsTable};
 ghost use Rattle.dp_laws.specs.SizeLaws.{ModeAllowsLookAhead, HistoryWeightsAreWithinBound};
 ghost use Rattle.dp_laws.specs.SizeLaws.{ModeAllowsEarnings, ModeAllowsWorth, ModeAllowsClassWeights};
-ghost use Rattle.dp_laws.specs.SizeLaws.{ModeAllowsBounds, ModeAllowsAdvances};
+ghost use Rattle.dp_laws.specs.SizeLaws.{ModeAllowsBounds, ModeAllowsAdvances, ModeAllowsSharedWorth};
+ghost use Rattle.dp_laws.specs.SizeLaws.{ModeAllowsRefining};
 
 /// In either mode the weights of the start, and from weights within the sum bound those of the
 /// next time, are computed by allowed calls and stay within 127 bits with a sign.
@@ -63,4 +64,16 @@ pub fn mode_allows_bounds()
 /// front adds can be added up.
 pub fn mode_allows_advances()
     ensures { ModeAllowsAdvances }
+{}
+
+/// In either mode the weights of the joint rows of a shared policy are within the sum bound of their
+/// stages, and they and what they earn can be added up.
+pub fn mode_allows_shared_worth()
+    ensures { ModeAllowsSharedWorth }
+{}
+
+/// In exact mode always, and in outward mode where the stage of a front is within the limit of stage
+/// cells, the front can be bounded and advanced.
+pub fn mode_allows_refining()
+    ensures { ModeAllowsRefining }
 {}

@@ -72,3 +72,16 @@ solo = record {
   obs = 1 ∷ 1 ∷ [];
   reward = pos 1 ∷ pos 3 ∷ [];
 }
+
+-- One agent, 65 states and 256 observations, of which nothing can be learnt and nothing earned.
+unfoldable pub fan : Model
+fan = record {
+  states = 65;
+  actions = 1 ∷ [];
+  observations = 256 ∷ [];
+  scales = record { start = 65; trans = 65; obs = 256; reward = 1; discount = 1; gain = 1 };
+  start = replicate 65 1;
+  trans = replicate 4225 1;
+  obs = replicate 16640 1;
+  reward = replicate 1081600 (pos 0);
+}

@@ -81,7 +81,7 @@ unfolding decay forward_worth_in weights_after_in weighted_reward_in outward mul
 worth_of_decay = refl
 
 -- ---- a bound tree: one branch on both actions
-abbrev both_actions : BoundTree
+abbrev pub both_actions : BoundTree
 both_actions = branch 0 0 (more_bound_trees (leaf (pos 1)) (more_bound_trees (leaf (pos 3)) no_bound_trees))
 
 inner_of_both : inner_count both_actions ≡ 1
@@ -100,7 +100,7 @@ unfolding solo front_bound exact reward_factor weights_after_in weighted_reward_
 root_bound_of_solo = refl
 
 -- the capped bounds of its nodes in preorder
-caps_of_solo : map (λ (n : Node). n.cap) (nodes_of (exact solo.scales) solo 1 1 both_actions (root_front solo) (pos 3))
+caps_of_solo : map (λ (n : Node). n.cap) (nodes_of (exact solo.scales) solo 1 1 0 both_actions (root_front solo) (pos 3))
     ≡ pos 3 ∷ pos 1 ∷ pos 3 ∷ []
 unfolding solo front_bound exact reward_factor weights_after_in weighted_reward_in weighted_table_in action_look_ahead_in class_weight_in joint_class fixed_joint_action agreeing_actions joint_observations joint_actions trans_at obs_at reward_at start_at step_scale root_front front_after_choice advanced_agent
 caps_of_solo = refl

@@ -6,12 +6,13 @@ use Rattle.std.proofs.lemmas.Fmt.{decimal_digit}
 use Rattle.std.proofs.lemmas.List.FromFn.{length-map-range_with_len}
 use Rattle.std.specs.List.{join_with_byte}
 use Rattle.std.specs.Fmt.{decimal, signed_decimal}
-use Rattle.dp_spec.specs.PolicyTree.{PolicyTree, node, no_trees, root_action}
+use Rattle.dp_spec.specs.PolicyTree.{PolicyTree, root_action}
+use Rattle.dp_spec.specs.SharedPolicy.{AgentRows}
 use Rattle.dp_spec.specs.Keeping.{tree_at}
 use Rattle.dp_spec.specs.BoundTree.{leaf}
 use Rattle.dp_spec.specs.TextLines.{plain, Line, spelled_items, line_text, text_of_lines}
 use Rattle.dp_spec.specs.PolicyText.{row_form, row_actions, row_line}
-use Rattle.dp_spec.specs.CertificateText.{certificate_text}
+use Rattle.dp_spec.specs.CertificateText.{certificate_rows, certificate_text}
 
 -- the text of lines and further lines is their texts, one after the other
 pub text_of_lines-append : (lines more : List Line)
@@ -40,9 +41,13 @@ line_text-row b n t q =
     (length-map-range_with_len (λ x. root_action (tree_at n q t x)) 0 (n ^ t))
     (ap (join_with_byte 32) (spelled_items-replicate 0 (b - 1) (row_actions n q t)))
 
--- whatever its numbers are, a certificate of one step and one agent with one leaf is these lines
+-- the rows of an agent that does one action over one step
+abbrev pub one_row : ℕ → AgentRows
+one_row a = (record { action = a; next = [] } ∷ []) ∷ []
+
+-- whatever its numbers are, a certificate of version 1, of one step and one agent with one leaf is these lines
 pub one_leaf : (b n look inner action : ℕ) (unit lower upper bound : ℤ)
-    → certificate_text (b ∷ []) (n ∷ []) (record { horizon = 1; look = look; is_exact = true; unit = unit; lower = lower; upper = upper; inner = inner; policy = node action no_trees ∷ []; tree = leaf bound })
+    → certificate_text (b ∷ []) (n ∷ []) (record { version = 1; horizon = 1; look = look; is_exact = true; unit = unit; lower = lower; upper = upper; inner = inner; policy = one_row action ∷ []; tree = leaf bound })
     ≡ codes "decplan certificate 1\nhorizon 1\nlook "
     ++ (decimal look
     ++ (codes "\nmode exact\nunit "
@@ -52,5 +57,5 @@ pub one_leaf : (b n look inner action : ℕ) (unit lower upper bound : ℤ)
     ++ (codes "\nupper "
     ++ (signed_decimal upper
     ++ (codes "\ninner " ++ (decimal inner ++ (codes "\npolicy\nagent 0\n" ++ (decimal action ++ (codes "\ntree\nL " ++ (signed_decimal bound ++ codes "\nend\n")))))))))))))
-unfolding certificate_text
+unfolding certificate_text certificate_rows
 one_leaf b n look inner action unit lower upper bound = rw (pow-zero n, decimal_digit 0 (omega arith), decimal_digit 1 (omega arith)) refl

@@ -1,12 +1,15 @@
 -- Worked rows of the texts of policies and certificates, by computation.
-use Rattle.std.specs.Prelude.{◌≡◌, ℕ, ◌-◌, ◌^◌, pos, negsuc, true, false, [], ◌∷◌, codes}
+use Rattle.std.specs.Prelude.{◌≡◌, ℕ, ◌-◌, ◌^◌, pos, negsuc, true, false, Some, [], ◌∷◌, codes}
 use Rattle.std.proofs.Common.{refl, arith}
 use Rattle.std.specs.Fmt.{digits}
 use Rattle.dp_spec.specs.PolicyTree.{PolicyTree, node, no_trees, more_trees}
 use Rattle.dp_spec.specs.BoundTree.{leaf, branch, merge, no_bound_trees, more_bound_trees}
 use Rattle.dp_spec.specs.TextLines.{fixed, signed, any_plain, line_text, Allows}
+use Rattle.dp_spec.specs.SharedPolicy.{AgentRows}
+use Rattle.dp_spec.specs.SharedRows.{counts_form, first_past, row_cells, shared_row_form}
+use Rattle.dp_spec.proofs.TextLemmas.{one_row}
 use Rattle.dp_spec.specs.PolicyText.{policy_text, horizon_form, row_form}
-use Rattle.dp_spec.specs.CertificateText.{certificate_text, look_form, branch_form}
+use Rattle.dp_spec.specs.CertificateText.{certificate_rows, certificate_text, look_form, branch_form}
 
 -- an action, and nothing after it
 abbrev act : ℕ → PolicyTree
@@ -57,25 +60,62 @@ own_observations = refl
 
 -- ---- certificates
 
+-- an action, and one action after each of two observations, with a row for each own history
+abbrev two_rows : ℕ → ℕ → ℕ → AgentRows
+two_rows a b c =
+    (record { action = a; next = 0 ∷ 1 ∷ [] } ∷ [])
+    ∷ (record { action = b; next = [] } ∷ record { action = c; next = [] } ∷ [])
+    ∷ []
+
 -- both agents listen once, and the tree is one leaf
-listen_once : certificate_text (3 ∷ 3 ∷ []) (2 ∷ 2 ∷ []) (record { horizon = 1; look = 1; is_exact = true; unit = pos 40000; lower = negsuc 79999; upper = negsuc 79999; inner = 0; policy = act 0 ∷ act 0 ∷ []; tree = leaf (negsuc 79999) })
+listen_once : certificate_text (3 ∷ 3 ∷ []) (2 ∷ 2 ∷ []) (record { version = 1; horizon = 1; look = 1; is_exact = true; unit = pos 40000; lower = negsuc 79999; upper = negsuc 79999; inner = 0; policy = one_row 0 ∷ one_row 0 ∷ []; tree = leaf (negsuc 79999) })
     ≡ codes "decplan certificate 1\nhorizon 1\nlook 1\nmode exact\nunit 40000\nlower -80000\nupper -80000\ninner 0\npolicy\nagent 0\n0\nagent 1\n0\ntree\nL -80000\nend\n"
-unfolding certificate_text digits
+unfolding certificate_text certificate_rows digits
 listen_once = refl
 
 -- one agent with two actions: a branch, and a leaf for each action
-two_leaves : certificate_text (2 ∷ []) (1 ∷ []) (record { horizon = 1; look = 1; is_exact = true; unit = pos 1; lower = pos 3; upper = pos 3; inner = 1; policy = act 1 ∷ []; tree = branch 0 0 (more_bound_trees (leaf (pos 1)) (more_bound_trees (leaf (pos 3)) no_bound_trees)) })
+two_leaves : certificate_text (2 ∷ []) (1 ∷ []) (record { version = 1; horizon = 1; look = 1; is_exact = true; unit = pos 1; lower = pos 3; upper = pos 3; inner = 1; policy = one_row 1 ∷ []; tree = branch 0 0 (more_bound_trees (leaf (pos 1)) (more_bound_trees (leaf (pos 3)) no_bound_trees)) })
     ≡ codes "decplan certificate 1\nhorizon 1\nlook 1\nmode exact\nunit 1\nlower 3\nupper 3\ninner 1\npolicy\nagent 0\n1\ntree\nB 0 0 2\nL 1\nL 3\nend\n"
-unfolding certificate_text digits
+unfolding certificate_text certificate_rows digits
 two_leaves = refl
 
 -- a merge below a branch: its child follows it at once, before the branch's second child; and outward mode
-merge_below : certificate_text (2 ∷ []) (2 ∷ []) (record { horizon = 2; look = 16; is_exact = false; unit = pos 1000000000; lower = negsuc 0; upper = pos 0; inner = 2; policy = act_twice 1 0 1 ∷ []; tree = branch 0 0 (more_bound_trees (merge 0 0 1 (leaf (pos 0))) (more_bound_trees (leaf (negsuc 1)) no_bound_trees)) })
+merge_below : certificate_text (2 ∷ []) (2 ∷ []) (record { version = 1; horizon = 2; look = 16; is_exact = false; unit = pos 1000000000; lower = negsuc 0; upper = pos 0; inner = 2; policy = two_rows 1 0 1 ∷ []; tree = branch 0 0 (more_bound_trees (merge 0 0 1 (leaf (pos 0))) (more_bound_trees (leaf (negsuc 1)) no_bound_trees)) })
     ≡ codes "decplan certificate 1\nhorizon 2\nlook 16\nmode outward\nunit 1000000000\nlower -1\nupper 0\ninner 2\npolicy\nagent 0\n1\n0 1\ntree\nB 0 0 2\nM 0 0 1\nL 0\nL -2\nend\n"
-unfolding certificate_text digits
+unfolding certificate_text certificate_rows digits
 merge_below = refl
 
+-- version 2: a line with the counts of the stages, and a line for each row
+listen_once_shared : certificate_text (3 ∷ 3 ∷ []) (2 ∷ 2 ∷ []) (record { version = 2; horizon = 1; look = 1; is_exact = true; unit = pos 40000; lower = negsuc 79999; upper = negsuc 79999; inner = 0; policy = one_row 0 ∷ one_row 0 ∷ []; tree = leaf (negsuc 79999) })
+    ≡ codes "decplan certificate 2\nhorizon 1\nlook 1\nmode exact\nunit 40000\nlower -80000\nupper -80000\ninner 0\npolicy\nagent 0\nrows 1\n0\nagent 1\nrows 1\n0\ntree\nL -80000\nend\n"
+unfolding certificate_text certificate_rows digits
+listen_once_shared = refl
+
+-- the rows stand stage after stage, each with its action and then its next rows
+rows_by_stage : certificate_text (2 ∷ []) (2 ∷ []) (record { version = 2; horizon = 2; look = 16; is_exact = false; unit = pos 1000000000; lower = negsuc 0; upper = pos 0; inner = 0; policy = two_rows 1 0 1 ∷ []; tree = leaf (pos 0) })
+    ≡ codes "decplan certificate 2\nhorizon 2\nlook 16\nmode outward\nunit 1000000000\nlower -1\nupper 0\ninner 0\npolicy\nagent 0\nrows 1 2\n1 0 1\n0\n1\ntree\nL 0\nend\n"
+unfolding certificate_text certificate_rows digits
+rows_by_stage = refl
+
 -- ---- what a form allows
+
+-- the first stage has one row, each other one or more
+two_first_rows : Allows (counts_form 1) (pos 2 ∷ []) → ⊥
+two_first_rows allowed = omega (arith, allowed.2)
+
+no_later_row : Allows (counts_form 2) (pos 1 ∷ pos 0 ∷ []) → ⊥
+no_later_row allowed = omega (arith, allowed.3.1)
+
+many_later_rows : Allows (counts_form 2) (pos 1 ∷ pos 2097153 ∷ [])
+many_later_rows = (omega arith, omega arith, omega arith, (omega arith, omega arith, omega arith, tt))
+
+-- two states and that many rows are past the limit on joint rows
+past_the_limit : first_past (2 ^ 22) (row_cells 2 2 ((1 ∷ 2097153 ∷ []) ∷ [])) ≡ Some 4194306
+past_the_limit = refl
+
+-- a next row is below the count of the next stage
+next_row_too_large : Allows (shared_row_form 2 1 3) (pos 0 ∷ pos 3 ∷ []) → ⊥
+next_row_too_large allowed = omega (arith, allowed.3.2)
 
 -- a horizon of 0 is not allowed, one of 1 is
 no_steps : Allows horizon_form (pos 0 ∷ []) → ⊥

@@ -1,5 +1,5 @@
 -- Bound trees: the tree of a certificate.
-use Rattle.std.specs.Prelude.{ℕ, suc, ◌+◌, max, ℤ, pos, ◌≤ℤ◌}
+use Rattle.std.specs.Prelude.{ℕ, suc, ◌+◌, ◌≤◌, max, ℤ, pos, ◌≤ℤ◌}
 use Rattle.std.specs.Int.{int_max}
 
 -- a leaf with its bound; a branch on the actions of an agent's class; two classes of an agent merged
@@ -34,6 +34,33 @@ abbrev mutual
   pub inner_counts : BoundTrees → ℕ
   inner_counts no_bound_trees = 0
   inner_counts (more_bound_trees k ks) = inner_count k + inner_counts ks
+
+abbrev mutual
+  -- how many nodes a tree has, leaves too
+  pub node_count : BoundTree → ℕ
+  node_count (leaf x) = 1
+  node_count (branch i c ks) = suc (node_counts ks)
+  node_count (merge i a b k) = suc (node_count k)
+
+  pub node_counts : BoundTrees → ℕ
+  node_counts no_bound_trees = 0
+  node_counts (more_bound_trees k ks) = node_count k + node_counts ks
+
+-- how many trees a list has
+abbrev pub child_count : BoundTrees → ℕ
+child_count no_bound_trees = 0
+child_count (more_bound_trees k ks) = child_count ks + 1
+
+abbrev mutual
+  -- each branch has from 1 to 256 children
+  pub HasSmallBranches : BoundTree → Type 0
+  HasSmallBranches (leaf x) = Unit {0}
+  HasSmallBranches (branch i c ks) = (1 ≤ child_count ks) × (child_count ks ≤ 256) × HaveSmallBranches ks
+  HasSmallBranches (merge i a b k) = HasSmallBranches k
+
+  pub HaveSmallBranches : BoundTrees → Type 0
+  HaveSmallBranches no_bound_trees = Unit {0}
+  HaveSmallBranches (more_bound_trees k ks) = HasSmallBranches k × HaveSmallBranches ks
 
 abbrev mutual
   -- the greatest number of branches and merges on a path from the root to a leaf

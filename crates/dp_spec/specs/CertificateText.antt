@@ -1,10 +1,11 @@
 -- The text of a certificate: its head, its policy, and its bound tree with one line for each node. (Own.)
-use Rattle.std.specs.Prelude.{◌≡◌, ℕ, ◌+◌, ℤ, pos, FitsSigned, Bool, if◌then◌else◌, List, [], ◌∷◌, ◌++◌, codes}
+use Rattle.std.specs.Prelude.{◌≡◌, ℕ, ◌==◌, cond, ℤ, pos, FitsSigned, Bool, if◌then◌else◌, List, [], ◌∷◌, ◌++◌, codes}
 use Rattle.std.specs.Int.{w128}
 use Rattle.dp_spec.specs.Model.{Model}
-use Rattle.dp_spec.specs.PolicyTree.{IsPolicyOf}
-use Rattle.dp_spec.specs.BoundTree.{BoundTree, BoundTrees, leaf, branch, merge, no_bound_trees, more_bound_trees}
-use Rattle.dp_spec.specs.Certificate.{Certificate}
+use Rattle.dp_spec.specs.SharedPolicy.{unfolded}
+use Rattle.dp_spec.specs.SharedRows.{shared_policy_rows}
+use Rattle.dp_spec.specs.BoundTree.{BoundTree, BoundTrees, child_count, leaf, branch, merge, no_bound_trees, more_bound_trees}
+use Rattle.dp_spec.specs.Certificate.{Certificate, HasPolicyOfVersion}
 use Rattle.dp_spec.specs.TextLines.{Item, fixed, plain, signed, any_plain, Line, fixed_line, text_of_lines, Allows, AllAllowed}
 use Rattle.dp_spec.specs.PolicyText.{title_form, horizon_form, end_form, horizon_line, policy_rows, agent_lines}
 
@@ -47,7 +48,7 @@ signed_line word z = record { form = signed_form word; numbers = z ∷ [] }
 -- the lines before the policy
 abbrev pub head_lines : Certificate → List Line
 head_lines c =
-    fixed_line (title_form (codes "certificate"))
+    fixed_line (title_form (codes "certificate") c.version)
     ∷ horizon_line c.horizon
     ∷ record { form = look_form; numbers = pos c.look ∷ [] }
     ∷ fixed_line (mode_form c.is_exact)
@@ -56,11 +57,6 @@ head_lines c =
     ∷ signed_line (codes "upper") c.upper
     ∷ record { form = inner_form; numbers = pos c.inner ∷ [] }
     ∷ []
-
--- how many trees a list has
-abbrev pub child_count : BoundTrees → ℕ
-child_count no_bound_trees = 0
-child_count (more_bound_trees k ks) = child_count ks + 1
 
 -- the line of a branch
 abbrev pub branch_line : ℕ → ℕ → ℕ → Line
@@ -82,12 +78,17 @@ abbrev mutual
   children_lines no_bound_trees = []
   children_lines (more_bound_trees k ks) = node_lines k ++ children_lines ks
 
+-- for each agent the lines of its rows: in version 1 the actions after its own histories, else its shared rows
+unfoldable pub certificate_rows : List ℕ → List ℕ → Certificate → List (List Line)
+certificate_rows bs ns c =
+    cond (c.version == 1) (policy_rows bs ns c.horizon (unfolded c.policy)) (shared_policy_rows bs ns c.policy)
+
 -- the lines of the text of a certificate, where the agents have bs actions and ns observations
 abbrev pub certificate_lines : List ℕ → List ℕ → Certificate → List Line
 certificate_lines bs ns c =
     head_lines c
     ++ fixed_line (fixed (codes "policy") ∷ [])
-    ∷ (agent_lines 0 (policy_rows bs ns c.horizon c.policy)
+    ∷ (agent_lines 0 (certificate_rows bs ns c)
     ++ fixed_line (fixed (codes "tree") ∷ []) ∷ (node_lines c.tree ++ fixed_line end_form ∷ []))
 
 -- the text of a certificate
@@ -104,8 +105,9 @@ pub record HasTextNumbers (c : Certificate) : Type 0 where
   pub inner : Allows inner_form (pos c.inner ∷ [])
   pub tree : AllAllowed (node_lines c.tree)
 
--- These bytes are the text of a certificate with a joint policy for a model, and each line has numbers that it allows.
+-- These bytes are the text of a certificate with a policy of its version for a model, and each line has numbers that it
+-- allows.
 pub record IsCertificateText (m : Model) (bytes : List ℕ) (c : Certificate) : Type 0 where
-  pub policy : IsPolicyOf m c.horizon c.policy
+  pub policy : HasPolicyOfVersion m c
   pub allowed : AllAllowed (certificate_lines m.actions m.observations c)
   pub text : bytes ≡ certificate_text m.actions m.observations c

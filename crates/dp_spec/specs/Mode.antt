@@ -1,5 +1,5 @@
 -- The mode of a model and a horizon, the unit in which its values are counted, and the limits of a horizon.
-use Rattle.std.specs.Prelude.{ℕ, ◌+◌, ◌*◌, ◌-◌, ◌^◌, ◌<◌, ◌≤◌, Bool, nat_le, max, unsigned_abs, ℤ, List, [], ◌∷◌, if◌then◌else◌}
+use Rattle.std.specs.Prelude.{ℕ, ◌+◌, ◌*◌, ◌-◌, ◌^◌, ◌<◌, ◌≤◌, ◌≡◌, ◌⊎◌, Bool, nat_le, max, unsigned_abs, ℤ, List, [], ◌∷◌, if◌then◌else◌}
 use Rattle.dp_spec.specs.Sums.{nat_sum}
 use Rattle.dp_spec.specs.Model.{Model, joint_actions, joint_observations, step_scale, value_scale}
 
@@ -22,10 +22,17 @@ abbrev pub own_history_count : List ℕ → ℕ → ℕ
 own_history_count [] h = 0
 own_history_count (n ∷ ns) h = nat_sum h (λ t. n ^ t) + own_history_count ns h
 
--- the horizon is at least 1 and keeps every limit
+-- the horizon is at least 1 and keeps every limit of policies with a row for each own history
 pub record IsWithin (m : Model) (h : ℕ) : Type 0 where
   pub some_step : 0 < h
   pub horizon : h ≤ 16
   pub own_histories : own_history_count m.observations h ≤ 2048
   pub stage_cells : m.states * joint_observations m ^ (h - 1) ≤ 2 ^ 22
   pub game_cells : joint_actions m * joint_observations m ^ (h - 1) ≤ 2 ^ 24
+
+-- A version of certificates is 1 or 2, and the horizon keeps its limits: in version 1 those above, and in version 2 only
+-- from 1 to 24 steps.
+pub record IsWithinVersion (m : Model) (h version : ℕ) : Type 0 where
+  pub known : (version ≡ 1) ⊎ (version ≡ 2)
+  pub first : version ≡ 1 → IsWithin m h
+  pub second : version ≡ 2 → (0 < h) × (h ≤ 24)

@@ -9,9 +9,9 @@ use Rattle.dp_spec.specs.TextLines.{Item, fixed, plain, Line, fixed_line, text_o
 
 -- ---- the forms of the lines
 
--- the first line of a text of this kind, in its first version
-abbrev pub title_form : List ℕ → List Item
-title_form kind = fixed (codes "decplan") ∷ fixed kind ∷ fixed (codes "1") ∷ []
+-- the first line of a text of this kind, in this version
+abbrev pub title_form : List ℕ → ℕ → List Item
+title_form kind version = fixed (codes "decplan") ∷ fixed kind ∷ fixed (decimal version) ∷ []
 
 -- the horizon, at least 1
 abbrev pub horizon_form : List Item
@@ -58,7 +58,7 @@ horizon_line horizon = record { form = horizon_form; numbers = pos horizon ∷ [
 -- the lines of the text of a joint policy qs, where the agents have bs actions and ns observations
 abbrev pub policy_lines : List ℕ → List ℕ → ℕ → List PolicyTree → List Line
 policy_lines bs ns horizon qs =
-    fixed_line (title_form (codes "policy"))
+    fixed_line (title_form (codes "policy") 1)
     ∷ horizon_line horizon
     ∷ (agent_lines 0 (policy_rows bs ns horizon qs) ++ fixed_line end_form ∷ [])
 

@@ -1,5 +1,5 @@
 -- What can be said of a valid certificate: closed, lean, merged, and ruled by a branching rule. (Own.)
-use Rattle.std.specs.Prelude.{ℕ, suc, ◌<◌, ◌≡◌, ◌==◌, true, cond, ℤ, pos, ◌+ℤ◌, neg_ℤ, ◌≤ℤ◌, ◌<ℤ◌, All, slice_get, List, [], ◌∷◌, ◌++◌, map, filter, length, get_or, Option, Some, None, is_none}
+use Rattle.std.specs.Prelude.{ℕ, suc, ◌<◌, ◌≡◌, ◌==◌, true, false, cond, ℤ, pos, ◌+ℤ◌, neg_ℤ, ◌≤ℤ◌, ◌<ℤ◌, All, slice_get, List, [], ◌∷◌, ◌++◌, map, filter, length, get_or, Option, Some, None, is_none}
 use Rattle.std.specs.Int.{int_min}
 use Rattle.std.specs.List.{range_with_len, flat_map}
 use Rattle.dp_spec.specs.Sums.{int_sum, greatest, numbers_below}
@@ -11,38 +11,41 @@ use Rattle.dp_spec.specs.Merge.{AreEquivalent, merged_front}
 use Rattle.dp_spec.specs.Arithmetic.{Arithmetic}
 use Rattle.dp_spec.specs.Quantities.{class_weight_in}
 use Rattle.dp_spec.specs.BoundTree.{BoundTree, BoundTrees, leaf, branch, merge, no_bound_trees, more_bound_trees, LeavesAtMost}
+use Rattle.dp_spec.specs.Wide.{is_wide}
 use Rattle.dp_spec.specs.Fitting.{front_bound}
 use Rattle.dp_spec.specs.Certificate.{Certificate, arithmetic_for}
 
 -- ---- the nodes of a tree that fits a front
 
--- a node: the tree that begins at it, its front, and the least bound on its path
+-- a node: the tree that begins at it, how many branches and merges stand above it, its front, and the least bound on its
+-- path
 pub record Node : Type 0 where
   pub tree : BoundTree
+  pub above : ℕ
   pub front : Front
   pub cap : ℤ
 
 abbrev mutual
   -- the nodes in preorder
-  pub nodes_of : Arithmetic → Model → ℕ → ℕ → BoundTree → Front → ℤ → List Node
-  nodes_of A m h look (leaf x) F cap = record { tree = leaf x; front = F; cap = cap } ∷ []
-  nodes_of A m h look (branch i c ks) F cap =
-      record { tree = branch i c ks; front = F; cap = cap } ∷ nodes_of_choices A m h look ks F i c 0 cap
-  nodes_of A m h look (merge i a b k) F cap =
-      record { tree = merge i a b k; front = F; cap = cap }
-      ∷ nodes_of A m h look k (merged_front F i a b) (int_min cap (front_bound A m h look (merged_front F i a b)))
+  pub nodes_of : Arithmetic → Model → ℕ → ℕ → ℕ → BoundTree → Front → ℤ → List Node
+  nodes_of A m h look above (leaf x) F cap = record { tree = leaf x; above = above; front = F; cap = cap } ∷ []
+  nodes_of A m h look above (branch i c ks) F cap =
+      record { tree = branch i c ks; above = above; front = F; cap = cap } ∷ nodes_of_choices A m h look (suc above) ks F i c 0 cap
+  nodes_of A m h look above (merge i a b k) F cap =
+      record { tree = merge i a b k; above = above; front = F; cap = cap }
+      ∷ nodes_of A m h look (suc above) k (merged_front F i a b) (int_min cap (front_bound A m h look (merged_front F i a b)))
 
-  pub nodes_of_choices : Arithmetic → Model → ℕ → ℕ → BoundTrees → Front → ℕ → ℕ → ℕ → ℤ → List Node
-  nodes_of_choices A m h look no_bound_trees F i c a cap = []
-  nodes_of_choices A m h look (more_bound_trees k ks) F i c a cap =
-      nodes_of A m h look k (front_after_choice m F i c a) (int_min cap (front_bound A m h look (front_after_choice m F i c a)))
-      ++ nodes_of_choices A m h look ks F i c (suc a) cap
+  pub nodes_of_choices : Arithmetic → Model → ℕ → ℕ → ℕ → BoundTrees → Front → ℕ → ℕ → ℕ → ℤ → List Node
+  nodes_of_choices A m h look above no_bound_trees F i c a cap = []
+  nodes_of_choices A m h look above (more_bound_trees k ks) F i c a cap =
+      nodes_of A m h look above k (front_after_choice m F i c a) (int_min cap (front_bound A m h look (front_after_choice m F i c a)))
+      ++ nodes_of_choices A m h look above ks F i c (suc a) cap
 
 -- the nodes of a certificate's tree, from the root front
 abbrev pub certificate_nodes : Model → Certificate → List Node
 certificate_nodes m c =
     let A = arithmetic_for m c in
-    nodes_of A m c.horizon c.look c.tree (root_front m) (front_bound A m c.horizon c.look (root_front m))
+    nodes_of A m c.horizon c.look 0 c.tree (root_front m) (front_bound A m c.horizon c.look (root_front m))
 
 -- a fact of a leaf's bound
 abbrev pub IfLeaf : BoundTree → (ℤ → Type 0) → Type 0
@@ -52,6 +55,10 @@ IfLeaf T P = Unit {0}
 -- a fact of the bound of a leaf that is not full
 abbrev pub IfOpenLeaf : ℕ → Node → (ℤ → Type 0) → Type 0
 IfOpenLeaf h n P = IfLeaf n.tree (λ x. n.front.stage < h → P x)
+
+-- a fact of the bound of a leaf that is neither full nor wide
+abbrev pub IfNarrowLeaf : Model → ℕ → Node → (ℤ → Type 0) → Type 0
+IfNarrowLeaf m h n P = IfOpenLeaf h n (λ x. is_wide m h n.above n.front ≡ false → P x)
 
 -- a fact of a node that is no leaf
 abbrev pub IfInner : BoundTree → Type 0 → Type 0
@@ -70,11 +77,17 @@ pub record IsClosed (m : Model) (c : Certificate) : Type 0 where
   pub open_leaves : All (λ n. IfOpenLeaf c.horizon n (λ x. x ≤ℤ c.lower)) (certificate_nodes m c)
   pub exact_leaves : c.is_exact ≡ true → LeavesAtMost c.lower c.tree
 
--- Lean: no branch and no merge stands where the least bound of its path is below that of a leaf that is still open.
+-- Lean: no branch and no merge stands where the least bound of its path is below that of a leaf that is still open and
+-- could be refined, since it is not wide.
 abbrev pub IsLean : Model → Certificate → Type 0
 IsLean m c =
-    All (λ n. All (λ k. IfInner n.tree (IfOpenLeaf c.horizon k (λ x. c.lower <ℤ x → x ≤ℤ n.cap)))
+    All (λ n. All (λ k. IfInner n.tree (IfNarrowLeaf m c.horizon k (λ x. c.lower <ℤ x → x ≤ℤ n.cap)))
     (certificate_nodes m c)) (certificate_nodes m c)
+
+-- Every leaf that is not full and whose bound exceeds the lower end is wide, so that nothing is left to be refined.
+abbrev pub IsRefined : Model → Certificate → Type 0
+IsRefined m c =
+    All (λ n. IfOpenLeaf c.horizon n (λ x. c.lower <ℤ x → is_wide m c.horizon n.above n.front ≡ true)) (certificate_nodes m c)
 
 -- no two unassigned classes of one agent are equivalent
 abbrev pub HasNoEquivalent : Model → Front → Type 0

@@ -56,3 +56,18 @@ class_look_size A m r F k =
 pub record CanBound (A : Arithmetic) (m : Model) (h : ℕ) : Type 0 where
   pub add : (F : Front) (r k : ℕ) → IsFront m h F → F.stage + suc r ≡ h
       → earned_size A m (fixed_joint_action m F) h F.stage + class_look_size A m r F k < 2 ^ 127
+
+-- One front from whose stage a step is left can be computed with: its bound, and its advance.
+pub record CanRefine (A : Arithmetic) (m : Model) (h : ℕ) (F : Front) : Type 0 where
+  -- the weights of a joint class are weights of the stage
+  pub weights : (C : ℕ) → AreWeights A.is_exact m F.stage (class_weight_in A m F C)
+  -- the weights of all joint histories of the stage can be added to those of joint classes, in any order
+  pub classify : nat_history_sum (joint_observations m) F.stage (λ H. nat_sum m.states (λ s. size (history_weight_in A m (fixed_joint_action m F) H s)))
+      < 2 ^ 127
+  -- what it has earned and the best look-aheads of its joint classes can be added, in any order
+  pub bound : (r k : ℕ) → F.stage + suc r ≡ h
+      → earned_size A m (fixed_joint_action m F) h F.stage + class_look_size A m r F k < 2 ^ 127
+  -- its next weights can be added to those of the next joint classes, and its rewards to what it has earned
+  pub advance : (act : ℕ → ℕ) → IsChoosing m F act → advanced_size A m F act < 2 ^ 127
+  pub rewards : (r : ℕ) (act : ℕ → ℕ) → F.stage + suc r ≡ h → IsChoosing m F act
+      → earned_size A m (fixed_joint_action m F) h F.stage + class_reward_size A m r F act < 2 ^ 127

@@ -34,3 +34,14 @@ pub record IsFront (m : Model) (h : ℕ) (F : Front) : Type 0 where
   pub agents : AreAgentFronts F.stage m.actions m.observations F.agents
   -- where no step is left there is nothing to choose
   pub none_at_end : F.stage ≡ h → NoneChosen F.agents
+
+-- no two own histories of the stage are of one class, for agents with these numbers of observations
+abbrev pub AreApart : ℕ → List ℕ → List AgentFront → Type 0
+AreApart f [] ds = Unit {0}
+AreApart f (n ∷ ns) [] = Unit {0}
+AreApart f (n ∷ ns) (d ∷ ds) =
+    ((x y : ℕ) → x < n ^ f → y < n ^ f → get_or d.class_of x 0 ≡ get_or d.class_of y 0 → x ≡ y) × AreApart f ns ds
+
+-- no two own histories of an agent share a class, as where nothing was merged
+abbrev pub KeepsHistoriesApart : Model → Front → Type 0
+KeepsHistoriesApart m F = AreApart F.stage m.observations F.agents

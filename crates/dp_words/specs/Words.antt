@@ -35,7 +35,14 @@ is_plan command model option = bytes_eq command (codes "plan") && bytes_eq optio
 -- a plan with that horizon, and all that the words do not say: a budget of 100,000 nodes, a
 -- look-ahead of one step, merging, and the first place of a front
 abbrev pub plain_plan : List ℕ → ℕ → Job
-plain_plan model horizon = Plan model horizon 100000 1 true First
+plain_plan model horizon = Plan (record {
+  model = model;
+  horizon = horizon;
+  nodes = 100000;
+  look = 1;
+  merge = true;
+  order = First;
+})
 
 -- the plan of that horizon, where there is one
 abbrev pub plan_over : List ℕ → Option ℕ → Option Job
@@ -56,4 +63,4 @@ IsReadAs job (Err faults.Memory) = Unit {0}
 
 -- a plan is over at least one step
 abbrev pub HasSomeStep : Job → Type 0
-HasSomeStep (Plan model horizon nodes look merge order) = 1 ≤ horizon
+HasSomeStep (Plan job) = 1 ≤ job.horizon

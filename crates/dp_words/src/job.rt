@@ -9,17 +9,21 @@ use std::alloc::Global;
 /// What a command is to do, with which files and options.
 #[derive(Drop)]
 pub enum Job {
-    /// A plan for the model: its horizon, the budget of inner nodes of the bound tree, the steps
-    /// of look-ahead in its bounds, whether equivalent classes are merged, and the order in which
-    /// the search takes the places of a front.
-    Plan {
-        model: Name,
-        horizon: u32,
-        nodes: u32,
-        look: u32,
-        merge: bool,
-        order: OrderWord,
-    },
+    /// A plan for a model.
+    Plan(PlanJob),
+}
+
+/// A plan for the model: its horizon, the budget of inner nodes of the bound tree, the steps of
+/// look-ahead in its bounds, whether equivalent classes are merged, and the order in which the
+/// search takes the places of a front.
+#[derive(Drop)]
+pub struct PlanJob {
+    pub model: Name,
+    pub horizon: u32,
+    pub nodes: u32,
+    pub look: u32,
+    pub merge: bool,
+    pub order: OrderWord,
 }
 
 /// The place of a front at which a plan's search branches.
@@ -86,12 +90,12 @@ fn plain_plan(alloc: Global, model: &str, horizon: u32) -> Result<Job, WordFault
     ensures read { IsReadAs (Some (plain_plan model.now horizon)) result }
     ensures some_step { IfOk result HasSomeStep }
 {
-    Ok(Job::Plan {
+    Ok(Job::Plan(PlanJob {
         model: Name::of(alloc, model)?,
         horizon,
         nodes: DEFAULT_NODES,
         look: DEFAULT_LOOK,
         merge: true,
         order: OrderWord::First,
-    })
+    }))
 }

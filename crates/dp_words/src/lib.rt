@@ -5,5 +5,5 @@ mod job;
 mod name;
 mod number;
 
-pub use job::{Job, OrderWord, WordFault, read_words};
+pub use job::{Job, OrderWord, PlanJob, WordFault, read_words};
 pub use name::Name;
