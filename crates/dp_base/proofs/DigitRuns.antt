@@ -5,8 +5,8 @@ use Rattle.std.specs.List.{prefix_len}
 use Rattle.std.proofs.lemmas.Bool.{and_parts, leb-true}
 use Rattle.std.proofs.lemmas.List.{take_more}
 use Rattle.std.proofs.lemmas.List.Sums.{prefix_len_passes, prefix_len_stops, prefix_len-le-length}
-use Rattle.dp_num.specs.declared.significand.Significand.{Significand}
-use Rattle.dp_num.specs.Significands.{IsSeen}
+use Rattle.dp_base.specs.declared.significand.Significand.{Significand}
+use Rattle.dp_base.specs.Significands.{IsSeen}
 
 -- the byte of a digit is at least 48
 pub digit_low : (b : ℕ) → is_ascii_digit b ≡ true → 48 ≤ b

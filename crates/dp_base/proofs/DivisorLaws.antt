@@ -3,7 +3,7 @@ use Rattle.std.proofs.Common.{◌≡◌, ℕ, zero, suc, ◌+◌, ◌*◌, ◌/�
 use Rattle.std.specs.Int.{◌∣◌, IsGcd}
 use Rattle.std.proofs.Math.Nat.{dvd-add_iff_left, dvd-mod_iff, dvd-mul_left, dvd-mul_right_of_dvd, mul-dvd-mul_left, mul-dvd-mul_right, div-mul_cancel, pos_of_dvd_of_pos, dvd_of_mul-dvd-mul_right, mod-add-div}
 use Rattle.std.proofs.lemmas.Nat.Gcd.{same_from_IsGcd, IsGcd-from_zero, IsGcd-from_mod, dvd_antisymm}
-use Rattle.dp_num.specs.Divisors.{IsLcm, gcd_within, gcd_of, lcm_of}
+use Rattle.dp_base.specs.Divisors.{IsLcm, gcd_within, gcd_of, lcm_of}
 
 -- one step of Euclid's algorithm, turned
 pub IsGcd-mod : (a b g : ℕ) → IsGcd a b g → IsGcd b (a % b) g

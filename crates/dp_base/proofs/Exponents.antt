@@ -4,8 +4,8 @@ use Rattle.std.specs.Char.{is_ascii_digit}
 use Rattle.std.specs.Str.Parse.{digits_value}
 use Rattle.std.proofs.lemmas.Int.Digits.{digits_value_more}
 use Rattle.std.proofs.lemmas.Str.{digit_value_digit}
-use Rattle.dp_num.proofs.DigitRuns.{digit_low, digit_high}
-use Rattle.dp_num.proofs.SignificandLaws.{ten_more}
+use Rattle.dp_base.proofs.DigitRuns.{digit_low, digit_high}
+use Rattle.dp_base.proofs.SignificandLaws.{ten_more}
 
 -- the number of the first digits and one more
 pub more_value : (text : List ℕ) (n i : ℕ) → i < length text → is_ascii_digit (get_or text i 0) ≡ true

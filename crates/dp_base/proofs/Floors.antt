@@ -2,8 +2,8 @@
 use Rattle.std.proofs.Common.{◌≡◌, ℕ, zero, suc, ◌*◌, ◌/◌, ◌<◌, ◌≤◌, ℤ, pos, negsuc, ◌*ℤ◌, neg_ℤ, ◌≤ℤ◌, unsigned_abs, arith}
 use Rattle.std.proofs.lemmas.Int.{ints}
 use Rattle.std.proofs.Math.Nat.{div-lt_iff_lt-mul, div-mul-le_self, mul-le-mul_left}
-use Rattle.dp_spec.specs.Rounding.{ceiling_of, floor_of, mul_down, mul_up}
-use Rattle.dp_spec.proofs.RoundingLaws.{floor_of-le, le-ceiling_of, unsigned_abs-neg}
+use Rattle.dp_base.specs.Rounding.{ceiling_of, floor_of, mul_down, mul_up}
+use Rattle.dp_base.proofs.RoundingLaws.{floor_of-le, le-ceiling_of, unsigned_abs-neg}
 
 -- a product rounded down
 pub mul_down_le : (a b : ℤ) (d : ℕ) → 0 < d → (mul_down a b d *ℤ pos d) ≤ℤ (a *ℤ b)

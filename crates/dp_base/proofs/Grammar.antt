@@ -7,11 +7,11 @@ use Rattle.std.proofs.lemmas.Bool.{and_parts, eqb-true, le-leb, leb-true, lt-ltb
 use Rattle.std.proofs.lemmas.List.{take-append-drop, append-nil}
 use Rattle.std.proofs.Math.Seq.{drop-append_seam}
 use Rattle.std.proofs.lemmas.List.Folds.{length-prefix_len}
-use Rattle.dp_num.specs.Bytes.{is_sign}
-use Rattle.dp_num.specs.DecimalShape.{first, unsigned, digit_count, after_digits, is_power, is_exponent, is_magnitude, is_decimal}
-use Rattle.dp_num.specs.DecimalGrammar.{AreDigits, IsOptionalSign, IsOptionalPoint, IsPower, IsOptionalExponent, HasDecimalShape}
-use Rattle.dp_num.proofs.DigitRuns.{digit_low}
-use Rattle.dp_num.proofs.Magnitudes.{pointed_shape, plain_shape}
+use Rattle.dp_base.specs.Bytes.{is_sign}
+use Rattle.dp_base.specs.DecimalShape.{first, unsigned, digit_count, after_digits, is_power, is_exponent, is_magnitude, is_decimal}
+use Rattle.dp_base.specs.DecimalGrammar.{AreDigits, IsOptionalSign, IsOptionalPoint, IsPower, IsOptionalExponent, HasDecimalShape}
+use Rattle.dp_base.proofs.DigitRuns.{digit_low}
+use Rattle.dp_base.proofs.Magnitudes.{pointed_shape, plain_shape}
 
 -- ---- from the parts to the test
 

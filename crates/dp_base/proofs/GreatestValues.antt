@@ -2,10 +2,10 @@
 use Rattle.std.proofs.Common.{◌≡◌, inl, inr, ℕ, ◌<◌, ◌≤◌, ℤ, pos, ◌+ℤ◌, ◌≤ℤ◌, unsigned_abs, List, [], ◌∷◌, length, refl, subst, arith}
 use Rattle.std.specs.Int.{int_max}
 use Rattle.std.proofs.lemmas.Int.{ints, clamps}
-use Rattle.dp_laws.proofs.Members.{IsIn, IsIn-below, below-IsIn, some_in}
-use Rattle.dp_laws.proofs.Order.{le_max_left, max_le}
-use Rattle.dp_laws.proofs.Ring.{zle_of}
-use Rattle.dp_spec.specs.Sums.{greatest, numbers_below}
+use Rattle.dp_base.proofs.Members.{IsIn, IsIn-below, below-IsIn, some_in}
+use Rattle.dp_base.proofs.Order.{le_max_left, max_le}
+use Rattle.dp_base.proofs.Ring.{zle_of}
+use Rattle.dp_base.specs.Sums.{greatest, numbers_below}
 
 max_right : (a b c : ℤ) → c ≤ℤ b → c ≤ℤ int_max a b
 max_right a b c h = omega (arith, ints, clamps)

@@ -6,10 +6,10 @@ use Rattle.std.specs.Str.Parse.{digits_value}
 use Rattle.std.proofs.lemmas.Bool.{eq-eqb, ne_eqb, lt-ltb}
 use Rattle.std.proofs.lemmas.List.{append-nil}
 use Rattle.std.proofs.lemmas.List.Folds.{length-prefix_len}
-use Rattle.dp_num.specs.declared.decimal.Decimal.{Decimal}
-use Rattle.dp_num.specs.declared.decimal.NumFault.{NumFault}
-use Rattle.dp_num.specs.DecimalShape.{first, digit_count, after_digits, is_exponent, is_magnitude}
-use Rattle.dp_num.specs.Decimals.{significand, raised, lowered, tens_more, tens_less, judged, shortest, magnitude_where}
+use Rattle.dp_base.specs.declared.decimal.Decimal.{Decimal}
+use Rattle.dp_base.specs.declared.decimal.NumFault.{NumFault}
+use Rattle.dp_base.specs.DecimalShape.{first, digit_count, after_digits, is_exponent, is_magnitude}
+use Rattle.dp_base.specs.Decimals.{significand, raised, lowered, tens_more, tens_less, judged, shortest, magnitude_where}
 
 -- of a significand, raised and lowered
 abbrev value : Bool → ℕ → ℕ → ℕ → Result Decimal NumFault

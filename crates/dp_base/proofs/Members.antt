@@ -1,7 +1,7 @@
 -- Members of lists, of filtered lists and of the numbers below n.
 use Rattle.std.proofs.Common.{◌≡◌, ◌⊎◌, inl, inr, ℕ, zero, suc, ◌<◌, Bool, true, false, cond, List, [], ◌∷◌, length, filter, refl, sym, ap, ◌∙◌, arith}
-use Rattle.dp_laws.proofs.Order.{last_or_before}
-use Rattle.dp_spec.specs.Sums.{numbers_below}
+use Rattle.dp_base.proofs.Order.{last_or_before}
+use Rattle.dp_base.specs.Sums.{numbers_below}
 
 -- a number is one of a list
 abbrev pub IsIn : ℕ → List ℕ → Type 0

@@ -1,11 +1,11 @@
 -- Worked decimals and least common multiples, computed.
 use Rattle.std.proofs.Common.{◌≡◌, ◌*◌, ◌^◌, ℕ, ℤ, pos, negsuc, Result, Ok, Err, refl}
 use Rattle.std.specs.Prelude.{codes}
-use Rattle.dp_num.specs.declared.decimal.Decimal.{Decimal}
-use Rattle.dp_num.specs.declared.decimal.NumFault.{NumFault}
-use Rattle.dp_num.specs.declared.decimal.NumFault.TheVariants.{Shape, Large, Digits}
-use Rattle.dp_num.specs.Decimals.{decimal_of, significand, raised, lowered}
-use Rattle.dp_num.specs.Divisors.{gcd_of, lcm_of}
+use Rattle.dp_base.specs.declared.decimal.Decimal.{Decimal}
+use Rattle.dp_base.specs.declared.decimal.NumFault.{NumFault}
+use Rattle.dp_base.specs.declared.decimal.NumFault.TheVariants.{Shape, Large, Digits}
+use Rattle.dp_base.specs.Decimals.{decimal_of, significand, raised, lowered}
+use Rattle.dp_base.specs.Divisors.{gcd_of, lcm_of}
 
 -- units / 10 ^ digits
 abbrev pub is : ℤ → ℕ → Result Decimal NumFault

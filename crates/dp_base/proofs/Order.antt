@@ -4,7 +4,7 @@ use Rattle.std.specs.Int.{int_max, int_min}
 use Rattle.std.proofs.lemmas.Int.{ints, clamps, by_lt_z}
 use Rattle.std.proofs.Math.Nat.{mul-le-mul_left}
 use borrow.Author.Differences.{up, down, product_is, le_out, lt_out}
-use Rattle.dp_laws.proofs.Ring.{zle_of, zle_trans, zmul_comm, zmul_le}
+use Rattle.dp_base.proofs.Ring.{zle_of, zle_trans, zmul_comm, zmul_le}
 
 -- of two numbers one is at most the other
 pub le_total : (a b : ℤ) → (a ≤ℤ b) ⊎ (b ≤ℤ a)

@@ -5,13 +5,13 @@ use Rattle.std.proofs.lemmas.Bool.{le-leb, lt-leb, lt-ltb, le-ltb, cases_lt, cas
 use Rattle.std.proofs.lemmas.Int.{unsigned_abs-mul}
 use Rattle.std.proofs.lemmas.Nat.{pow-add}
 use Rattle.std.proofs.Math.Nat.{mul-le-mul_right, eq_of_mul-eq-mul_right}
-use Rattle.dp_num.specs.declared.decimal.Decimal.{Decimal}
-use Rattle.dp_num.specs.declared.decimal.NumFault.{NumFault}
-use Rattle.dp_num.specs.declared.decimal.NumFault.TheVariants.{Shape, Large, Digits}
-use Rattle.dp_num.specs.DecimalShape.{first, unsigned, is_magnitude, is_decimal}
-use Rattle.dp_num.specs.Decimals.{significand, raised, lowered, signed, Writes, WritesShortest, IsLarge, IsSmall, HasTooManyDigits, shortest, judged, decimal_of, IsRead}
-use Rattle.dp_num.proofs.SignificandLaws.{some_tens, times_ten}
-use Rattle.dp_num.proofs.Shortest.{decimal_with, unsigned_abs-signed}
+use Rattle.dp_base.specs.declared.decimal.Decimal.{Decimal}
+use Rattle.dp_base.specs.declared.decimal.NumFault.{NumFault}
+use Rattle.dp_base.specs.declared.decimal.NumFault.TheVariants.{Shape, Large, Digits}
+use Rattle.dp_base.specs.DecimalShape.{first, unsigned, is_magnitude, is_decimal}
+use Rattle.dp_base.specs.Decimals.{significand, raised, lowered, signed, Writes, WritesShortest, IsLarge, IsSmall, HasTooManyDigits, shortest, judged, decimal_of, IsRead}
+use Rattle.dp_base.proofs.SignificandLaws.{some_tens, times_ten}
+use Rattle.dp_base.proofs.Shortest.{decimal_with, unsigned_abs-signed}
 
 -- ---- a decimal with the least digits
 

@@ -3,8 +3,8 @@ use Rattle.std.proofs.Common.{◌≡◌, ◌*◌, ◌^◌, ◌<◌, ℤ, pos, ne
 use Rattle.std.proofs.lemmas.Int.{ints, unsigned_abs-mul, fits_signed_from_abs}
 use mir.Syntax.{w128}
 use mir.Val.{SFits}
-use Rattle.dp_spec.specs.Rounding.{floor_of, ceiling_of}
-use Rattle.dp_spec.proofs.RoundingLaws.{floor_of-le, lt-floor_of, le-ceiling_of, ceiling_of-lt}
+use Rattle.dp_base.specs.Rounding.{floor_of, ceiling_of}
+use Rattle.dp_base.proofs.RoundingLaws.{floor_of-le, lt-floor_of, le-ceiling_of, ceiling_of-lt}
 
 -- a product whose magnitude has 127 bits fits its type
 pub product_fits : (a b : ℤ) → unsigned_abs a * unsigned_abs b < 2 ^ 127 → SFits w128 (a *ℤ b)

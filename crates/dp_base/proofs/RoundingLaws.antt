@@ -4,7 +4,7 @@ use Rattle.std.proofs.lemmas.Int.{ints}
 use lib.Signed.{◌<ℤ◌}
 use borrow.Author.Differences.{up, down, product_is, neg_is}
 use Rattle.std.proofs.Math.Nat.{div-mul-le_self}
-use Rattle.dp_spec.specs.Rounding.{floor_of, ceiling_of}
+use Rattle.dp_base.specs.Rounding.{floor_of, ceiling_of}
 
 -- a negated number has the same magnitude
 pub unsigned_abs-neg : (a : ℤ) → unsigned_abs (neg_ℤ a) ≡ unsigned_abs a

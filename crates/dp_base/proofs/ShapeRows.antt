@@ -2,8 +2,8 @@
 use Rattle.std.proofs.Common.{◌≡◌, [], ◌∷◌, true, false, refl}
 use Rattle.std.specs.Prelude.{codes}
 use Rattle.std.specs.List.{list_all, list_any}
-use Rattle.dp_num.specs.DecimalShape.{is_decimal, is_index}
-use Rattle.dp_num.specs.Names.{is_word, is_name}
+use Rattle.dp_base.specs.DecimalShape.{is_decimal, is_index}
+use Rattle.dp_base.specs.Names.{is_word, is_name}
 
 pub decimal_texts : list_all is_decimal (
     codes "0" ∷ codes "1." ∷ codes ".5" ∷ codes "1.5" ∷ codes "+1" ∷ codes "-2.50" ∷ codes "1e-3" ∷ codes "1E+2" ∷ codes "1e999"

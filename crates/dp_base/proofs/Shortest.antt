@@ -5,13 +5,13 @@ use Rattle.std.proofs.lemmas.Bool.{ne_eqb, le-leb, lt-ltb, le-ltb, lt-leb}
 use Rattle.std.proofs.Math.Nat.{mul-le-mul_right, zero-mul}
 use Rattle.std.proofs.lemmas.Nat.{pow-add}
 use Rattle.std.specs.Str.Parse.{digits_value}
-use Rattle.dp_num.specs.declared.significand.Significand.{Significand}
-use Rattle.dp_num.specs.declared.decimal.NumFault.{NumFault}
-use Rattle.dp_num.specs.declared.decimal.NumFault.TheVariants.{Large, Digits}
-use Rattle.dp_num.specs.declared.decimal.Decimal.{Decimal}
-use Rattle.dp_num.specs.Decimals.{signed, shortest, judged}
-use Rattle.dp_num.specs.Significands.{HasLength, IsSeen}
-use Rattle.dp_num.proofs.SignificandLaws.{tens_up, ten_more, times_ten}
+use Rattle.dp_base.specs.declared.significand.Significand.{Significand}
+use Rattle.dp_base.specs.declared.decimal.NumFault.{NumFault}
+use Rattle.dp_base.specs.declared.decimal.NumFault.TheVariants.{Large, Digits}
+use Rattle.dp_base.specs.declared.decimal.Decimal.{Decimal}
+use Rattle.dp_base.specs.Decimals.{signed, shortest, judged}
+use Rattle.dp_base.specs.Significands.{HasLength, IsSeen}
+use Rattle.dp_base.proofs.SignificandLaws.{tens_up, ten_more, times_ten}
 
 -- units / 10 ^ digits with a sign
 abbrev pub decimal_with : Bool → ℕ → ℕ → Decimal

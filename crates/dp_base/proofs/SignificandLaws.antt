@@ -5,8 +5,8 @@ use Rattle.std.proofs.Math.Nat.{pow-le-pow_right, mul-le-mul_right}
 use Rattle.std.proofs.lemmas.Nat.{pow-add}
 use Rattle.std.proofs.lemmas.Int.Digits.{digits_value_push}
 use Rattle.std.proofs.lemmas.Str.{digit_value_digit}
-use Rattle.dp_num.specs.declared.significand.Significand.{Significand}
-use Rattle.dp_num.specs.Significands.{IsSeen}
+use Rattle.dp_base.specs.declared.significand.Significand.{Significand}
+use Rattle.dp_base.specs.Significands.{IsSeen}
 
 -- the number of digits with one more behind them
 pushed : (ds : List ℕ) (d : ℕ) → d < 10 → digits_value 10 (ds ++ (48 + d) ∷ []) ≡ digits_value 10 ds * 10 + d

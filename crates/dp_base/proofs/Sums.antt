@@ -3,8 +3,8 @@ use Rattle.std.proofs.Common.{◌≡◌, ◌≢◌, inl, inr, ℕ, zero, suc, �
 use Rattle.std.proofs.Math.IntN.{+ℤ_idl, +ℤ_idr, +ℤ_assoc}
 use Rattle.std.proofs.lemmas.Bool.Decides.{nat_tests}
 use Rattle.std.proofs.lemmas.Int.{ints}
-use Rattle.dp_laws.proofs.Ring.{v, nat, ◌⊕◌, ◌⊗◌, by_ring, zadd_le, zmul_add, zle_of}
-use Rattle.dp_spec.specs.Sums.{int_sum, nat_sum}
+use Rattle.dp_base.proofs.Ring.{v, nat, ◌⊕◌, ◌⊗◌, by_ring, zadd_le, zmul_add, zle_of}
+use Rattle.dp_base.specs.Sums.{int_sum, nat_sum}
 use Rattle.std.proofs.lemmas.Bool.{cases_eq}
 
 -- equal numbers

@@ -2,7 +2,7 @@
 use Rattle.std.specs.Prelude.{◌≡◌, ℕ, ◌+◌, ◌<◌, ◌≤◌, ◌⊎◌, ⊤, IsTrue, List, [], ◌∷◌, ◌++◌, length}
 use Rattle.std.specs.List.{list_all}
 use Rattle.std.specs.Char.{is_ascii_digit}
-use Rattle.dp_num.specs.Bytes.{is_sign, point}
+use Rattle.dp_base.specs.Bytes.{is_sign, point}
 
 -- digits, or nothing
 abbrev pub AreDigits : List ℕ → Type 0

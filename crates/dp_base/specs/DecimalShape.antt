@@ -3,7 +3,7 @@
 use Rattle.std.specs.Prelude.{ℕ, ◌+◌, Bool, ◌&&◌, ◌||◌, ◌==◌, nat_lt, nat_le, if◌then◌else◌, List, length, drop, slice_index}
 use Rattle.std.specs.List.{prefix_len, list_all}
 use Rattle.std.specs.Char.{is_ascii_digit}
-use Rattle.dp_num.specs.Bytes.{is_sign, point}
+use Rattle.dp_base.specs.Bytes.{is_sign, point}
 
 -- the first byte, or 0
 abbrev pub first : List ℕ → ℕ

@@ -3,11 +3,11 @@ use Rattle.std.specs.Prelude.{◌≡◌, Result, Ok, Err, ℕ, zero, suc, ◌+�
 use Rattle.std.specs.List.{take_while}
 use Rattle.std.specs.Char.{is_ascii_digit}
 use Rattle.std.specs.Str.Parse.{digits_value}
-use Rattle.dp_num.specs.declared.decimal.Decimal.{Decimal}
-use Rattle.dp_num.specs.declared.decimal.NumFault.{NumFault}
-use Rattle.dp_num.specs.declared.decimal.NumFault.TheVariants.{Shape, Large, Digits}
-use Rattle.dp_num.specs.Bytes.{minus, point}
-use Rattle.dp_num.specs.DecimalShape.{first, unsigned, after_digits, is_magnitude}
+use Rattle.dp_base.specs.declared.decimal.Decimal.{Decimal}
+use Rattle.dp_base.specs.declared.decimal.NumFault.{NumFault}
+use Rattle.dp_base.specs.declared.decimal.NumFault.TheVariants.{Shape, Large, Digits}
+use Rattle.dp_base.specs.Bytes.{minus, point}
+use Rattle.dp_base.specs.DecimalShape.{first, unsigned, after_digits, is_magnitude}
 
 -- ---- the parts of a number without its sign
 

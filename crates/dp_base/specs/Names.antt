@@ -2,8 +2,8 @@
 use Rattle.std.specs.Prelude.{ℕ, Bool, not, ◌&&◌, ◌||◌, nat_lt, List, length, codes}
 use Rattle.std.specs.List.{list_all}
 use Rattle.std.specs.Str.{bytes_eq}
-use Rattle.dp_num.specs.Bytes.{is_name_byte}
-use Rattle.dp_num.specs.DecimalShape.{is_decimal}
+use Rattle.dp_base.specs.Bytes.{is_name_byte}
+use Rattle.dp_base.specs.DecimalShape.{is_decimal}
 
 -- A word is a nonempty text of the bytes of names and numbers that is no decimal number.
 unfoldable pub is_word : List ℕ → Bool

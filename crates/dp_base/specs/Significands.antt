@@ -1,7 +1,7 @@
 -- The digits seen so far, kept as a number that does not end in 0 and the zeros behind it.
 use Rattle.std.specs.Prelude.{◌≡◌, ◌≢◌, ℕ, ◌*◌, ◌%◌, ◌^◌, ◌<◌, ◌≤◌, List}
 use Rattle.std.specs.Str.Parse.{digits_value}
-use Rattle.dp_num.specs.declared.significand.Significand.{Significand}
+use Rattle.dp_base.specs.declared.significand.Significand.{Significand}
 
 -- n has so many digits, and its last digit is not 0
 pub record HasLength (n len : ℕ) : Type 0 where

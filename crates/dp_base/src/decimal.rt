@@ -3,11 +3,11 @@ ghost use Rattle.std.specs.Prelude.{◌≡◌, ◌↔◌, ℕ, List, ◌+◌, �
 ghost use Rattle.std.specs.Prelude.{false, IfOk, IsTrue};
 ghost use Rattle.std.specs.Str.Parse.{digits_value};
 ghost use Rattle.std.specs.Char.{is_ascii_digit};
-ghost use Rattle.dp_num.specs.DecimalShape.{is_decimal};
-ghost use Rattle.dp_num.specs.DecimalShape as spec;
-ghost use Rattle.dp_num.specs.Decimals.{decimal_of, IsRead, IsLarge, HasTooManyDigits, magnitude_where};
-ghost use Rattle.dp_num.specs.Decimals.{judged, shortest, signed, tens_more, tens_less};
-ghost use Rattle.dp_num.specs.Significands.{IsSeen};
+ghost use Rattle.dp_base.specs.DecimalShape.{is_decimal};
+ghost use Rattle.dp_base.specs.DecimalShape as spec;
+ghost use Rattle.dp_base.specs.Decimals.{decimal_of, IsRead, IsLarge, HasTooManyDigits, magnitude_where};
+ghost use Rattle.dp_base.specs.Decimals.{judged, shortest, signed, tens_more, tens_less};
+ghost use Rattle.dp_base.specs.Significands.{IsSeen};
 
 use crate::shape::{byte_at, is_exponent, skip_one, unsigned};
 use crate::significand::Significand;

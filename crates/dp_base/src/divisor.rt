@@ -1,7 +1,7 @@
 //! Greatest common divisors and least common multiples.
 ghost use Rattle.std.specs.Prelude.{◌≡◌, ℕ, ◌*◌, ◌^◌, ◌<◌, ◌≤◌, ◌↔◌, IsNone, IfSome, nat_le, if◌then◌else◌};
 ghost use Rattle.std.specs.Int.{IsGcd};
-ghost use Rattle.dp_num.specs.Divisors.{IsLcm, gcd_of, lcm_of};
+ghost use Rattle.dp_base.specs.Divisors.{IsLcm, gcd_of, lcm_of};
 
 /// The greatest common divisor of `a` and `b`, by Euclid's algorithm. That of 0 and `b` is `b`.
 pub fn gcd(a: u128, b: u128) -> u128

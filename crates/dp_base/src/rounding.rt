@@ -1,7 +1,7 @@
 //! Products divided and rounded.
 ghost use Rattle.std.specs.Prelude.{ℕ, ◌≡◌, ◌*◌, ◌^◌, ◌<◌, ℤ, pos, neg_ℤ, ◌+ℤ◌, ◌*ℤ◌, ◌≤ℤ◌, ◌<ℤ◌};
 ghost use Rattle.std.specs.Prelude.{unsigned_abs};
-ghost use Rattle.dp_spec.specs.Rounding.{floor_of, ceiling_of};
+ghost use Rattle.dp_base.specs.Rounding.{floor_of, ceiling_of};
 
 /// The floor of `a * b / d`. It asks for `d >= 1` and that `a * b` fits in 127 bits with a sign.
 pub fn mul_down(a: i128, b: i128, d: i128) -> i128
@@ -34,7 +34,7 @@ fn floor(a: i128, d: i128) -> i128
     a.div_euclid(d)
 }
 
-#[tactic(auto, unfolding(dp_spec::specs::Rounding::ceiling_of))]
+#[tactic(auto, unfolding(crate::specs::Rounding::ceiling_of))]
 fn ceiling(a: i128, d: i128) -> i128
     requires divisor { pos 1 ≤ℤ d }
     requires room { unsigned_abs a < 2 ^ 127 }

@@ -2,8 +2,8 @@
 ghost use Rattle.std.specs.Prelude.{◌≡◌, ◌≤◌, ◌↔◌, IsTrue, drop, slice_index, length};
 ghost use Rattle.std.specs.List.{list_all};
 ghost use Rattle.std.specs.Char.{is_ascii_digit};
-ghost use Rattle.dp_num.specs.DecimalShape as spec;
-ghost use Rattle.dp_num.specs.DecimalGrammar.{HasDecimalShape};
+ghost use Rattle.dp_base.specs.DecimalShape as spec;
+ghost use Rattle.dp_base.specs.DecimalGrammar.{HasDecimalShape};
 
 /// The byte at `index`, or 0 past the end.
 pub(crate) fn byte_at(text: &[u8], index: usize) -> u8

@@ -2,7 +2,7 @@
 ghost use Rattle.std.specs.Prelude.{◌≡◌, ℕ, List, ◌+◌, ◌++◌, ◌∷◌, [], ◌<◌, ◌≤◌, ◌^◌, length};
 ghost use Rattle.std.specs.List.{take_while};
 ghost use Rattle.std.specs.Char.{is_ascii_digit};
-ghost use Rattle.dp_num.specs.DecimalShape.{digit_count};
+ghost use Rattle.dp_base.specs.DecimalShape.{digit_count};
 
 /// The most digits that a number within the limits has: 18 before the point and 18 behind it.
 pub(crate) const MOST_DIGITS: u32 = 36;
@@ -19,7 +19,7 @@ pub(crate) struct Significand {
 }
 
 impl Significand {
-    ghost use Rattle.dp_num.specs.Significands.{IsSeen};
+    ghost use Rattle.dp_base.specs.Significands.{IsSeen};
 
     pub(crate) fn new() -> Significand
         ensures seen { IsSeen [] result }

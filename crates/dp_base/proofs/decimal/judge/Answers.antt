@@ -1,9 +1,9 @@
 use Rattle.std.proofs.Common.{◌≡◌, ◌+◌, ◌-◌, ◌*◌, ◌^◌, Bool, true, false, ap, sym, refl, ◌∙◌, arith, rules, pos}
 use Rattle.std.specs.Int.{w128}
 use Rattle.std.proofs.lemmas.Int.{to_z-of_z}
-use Rattle.dp_num.specs.Decimals.{signed}
-use Rattle.dp_num.proofs.Shortest.{at_zero, at_whole, at_fraction, large_whole, ok_whole, whole_fits, large_fraction, digits_fraction, ok_fraction, fraction_fits, ok_zero, ok_of}
-use Rattle.dp_num.proofs.decimal.judge.Goals as goal
+use Rattle.dp_base.specs.Decimals.{signed}
+use Rattle.dp_base.proofs.Shortest.{at_zero, at_whole, at_fraction, large_whole, ok_whole, whole_fits, large_fraction, digits_fraction, ok_fraction, fraction_fits, ok_zero, ok_of}
+use Rattle.dp_base.proofs.decimal.judge.Goals as goal
 
 -- zero is the same with each sign
 no_sign : (negative : Bool) → pos 0 ≡ signed negative 0

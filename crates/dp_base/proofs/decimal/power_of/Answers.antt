@@ -1,6 +1,6 @@
 use Rattle.std.proofs.Common.{arith}
-use Rattle.dp_num.proofs.Exponents.{more_value, more_below}
-use Rattle.dp_num.proofs.decimal.power_of.Goals as goal
+use Rattle.dp_base.proofs.Exponents.{more_value, more_below}
+use Rattle.dp_base.proofs.decimal.power_of.Goals as goal
 
 pub loop-digit-preserved : goal.loop-digit-preserved
 loop-digit-preserved c =

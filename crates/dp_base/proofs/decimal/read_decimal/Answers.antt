@@ -1,7 +1,7 @@
 use Rattle.std.proofs.Common.{refl, ◌∙◌}
-use Rattle.dp_num.specs.Decimals.{decimal_of}
-use Rattle.dp_num.proofs.Outcomes.{read_is, shape_iff, large_iff, digits_iff}
-use Rattle.dp_num.proofs.decimal.read_decimal.Goals as goal
+use Rattle.dp_base.specs.Decimals.{decimal_of}
+use Rattle.dp_base.proofs.Outcomes.{read_is, shape_iff, large_iff, digits_iff}
+use Rattle.dp_base.proofs.decimal.read_decimal.Goals as goal
 
 pub returns-clause-computed : goal.returns-clause-computed
 unfolding decimal_of

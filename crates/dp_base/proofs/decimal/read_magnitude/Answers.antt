@@ -1,9 +1,9 @@
 use Rattle.std.proofs.Common.{◌++◌, [], sym, ◌∙◌}
 use Rattle.std.specs.Char.{is_ascii_digit}
 use Rattle.std.specs.List.{take_while}
-use Rattle.dp_num.proofs.Magnitudes.{Begins, Behind, same_pointed, same_plain}
-use Rattle.dp_num.proofs.decimal.read_magnitude.Goals as goal
-use Rattle.dp_num.proofs.decimal.read_magnitude.Goals.{After-split_at}
+use Rattle.dp_base.proofs.Magnitudes.{Begins, Behind, same_pointed, same_plain}
+use Rattle.dp_base.proofs.decimal.read_magnitude.Goals as goal
+use Rattle.dp_base.proofs.decimal.read_magnitude.Goals.{After-split_at}
 
 begins : (c : After-split_at) → Begins c.args.number.now c.split_at.result.1.now c.scan-whole.result.1
 begins c = record { count_is = c.scan-whole.ensures.count; rest_is = c.split_at.ensures.back }

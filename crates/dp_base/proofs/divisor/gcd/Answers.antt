@@ -1,6 +1,6 @@
 use Rattle.std.proofs.lemmas.Nat.Gcd.{IsGcd-from_mod, IsGcd-from_zero, same_from_IsGcd}
-use Rattle.dp_num.proofs.DivisorLaws.{gcd_of-IsGcd}
-use Rattle.dp_num.proofs.divisor.gcd.Goals as goal
+use Rattle.dp_base.proofs.DivisorLaws.{gcd_of-IsGcd}
+use Rattle.dp_base.proofs.divisor.gcd.Goals as goal
 
 pub loop-divisor-preserved : goal.loop-divisor-preserved
 loop-divisor-preserved c = λ g h. c.loop-divisor.invariant g (IsGcd-from_mod c.loop-divisor.divided c.loop-divisor.divisor g h)

@@ -1,10 +1,10 @@
 use Rattle.std.proofs.Common.{◌≡◌, ◌*◌, ◌^◌, ◌<◌, ◌≤◌, ◌/◌, refl, arith}
 use Rattle.std.proofs.Math.Nat.{pos_of_dvd_of_pos, le-div_iff_mul-le, div-lt_iff_lt-mul}
 use Rattle.std.proofs.lemmas.Bool.{le-leb, lt-leb}
-use Rattle.dp_num.specs.Divisors.{IsLcm, lcm_of}
-use Rattle.dp_num.proofs.DivisorLaws.{IsLcm-from_IsGcd, same_from_IsLcm, lcm_of-IsLcm}
-use Rattle.dp_num.proofs.divisor.lcm.Goals as goal
-use Rattle.dp_num.proofs.divisor.lcm.Goals.{After-gcd}
+use Rattle.dp_base.specs.Divisors.{IsLcm, lcm_of}
+use Rattle.dp_base.proofs.DivisorLaws.{IsLcm-from_IsGcd, same_from_IsLcm, lcm_of-IsLcm}
+use Rattle.dp_base.proofs.divisor.lcm.Goals as goal
+use Rattle.dp_base.proofs.divisor.lcm.Goals.{After-gcd}
 
 is_lcm : (c : After-gcd) → IsLcm c.args.a c.args.b (c.args.a / c.gcd.result * c.args.b)
 is_lcm c = IsLcm-from_IsGcd c.args.a c.args.b c.gcd.result c.requires.some_left c.gcd.ensures.greatest

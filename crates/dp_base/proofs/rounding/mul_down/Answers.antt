@@ -2,10 +2,10 @@ use Rattle.std.proofs.Common.{rules, ◌≡◌, ◌*ℤ◌, unsigned_abs}
 use Rattle.std.proofs.lemmas.Int.{to_z-of_z}
 use mir.Syntax.{w128}
 use mir.Val.{SFits}
-use Rattle.dp_spec.specs.Rounding.{floor_of}
-use Rattle.dp_num.proofs.Rounded.{product_fits, floor_below, floor_close}
-use Rattle.dp_num.proofs.rounding.mul_down.Goals as goal
-use Rattle.dp_num.proofs.rounding.mul_down.Goals.{After-floor}
+use Rattle.dp_base.specs.Rounding.{floor_of}
+use Rattle.dp_base.proofs.Rounded.{product_fits, floor_below, floor_close}
+use Rattle.dp_base.proofs.rounding.mul_down.Goals as goal
+use Rattle.dp_base.proofs.rounding.mul_down.Goals.{After-floor}
 
 floor_is : (c : After-floor) → c.floor.result ≡ floor_of (c.args.a *ℤ c.args.b) (unsigned_abs c.args.d)
 floor_is c =

@@ -2,10 +2,10 @@ use Rattle.std.proofs.Common.{rules, ◌≡◌, ◌*ℤ◌, unsigned_abs}
 use Rattle.std.proofs.lemmas.Int.{to_z-of_z}
 use mir.Syntax.{w128}
 use mir.Val.{SFits}
-use Rattle.dp_spec.specs.Rounding.{ceiling_of}
-use Rattle.dp_num.proofs.Rounded.{product_fits, ceiling_above, ceiling_close}
-use Rattle.dp_num.proofs.rounding.mul_up.Goals as goal
-use Rattle.dp_num.proofs.rounding.mul_up.Goals.{After-ceiling}
+use Rattle.dp_base.specs.Rounding.{ceiling_of}
+use Rattle.dp_base.proofs.Rounded.{product_fits, ceiling_above, ceiling_close}
+use Rattle.dp_base.proofs.rounding.mul_up.Goals as goal
+use Rattle.dp_base.proofs.rounding.mul_up.Goals.{After-ceiling}
 
 ceiling_is : (c : After-ceiling) → c.ceiling.result ≡ ceiling_of (c.args.a *ℤ c.args.b) (unsigned_abs c.args.d)
 ceiling_is c =

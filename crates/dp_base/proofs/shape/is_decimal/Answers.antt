@@ -1,7 +1,7 @@
 use Rattle.std.proofs.Common.{ap, ◌∙◌}
-use Rattle.dp_num.specs.DecimalShape.{is_decimal, is_magnitude}
-use Rattle.dp_num.proofs.Grammar.{decimal_iff}
-use Rattle.dp_num.proofs.shape.is_decimal.Goals as goal
+use Rattle.dp_base.specs.DecimalShape.{is_decimal, is_magnitude}
+use Rattle.dp_base.proofs.Grammar.{decimal_iff}
+use Rattle.dp_base.proofs.shape.is_decimal.Goals as goal
 
 pub returns-clause-computed : goal.returns-clause-computed
 unfolding is_decimal

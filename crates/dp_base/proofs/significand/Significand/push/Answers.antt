@@ -1,6 +1,6 @@
 use Rattle.std.proofs.Common.{◌+◌, ◌*◌, refl, ap, arith}
-use Rattle.dp_num.proofs.SignificandLaws.{some_tens, more_high, fits_128, pow_fits, zero_digit, first_digit, next_digit}
-use Rattle.dp_num.proofs.significand.Significand.push.Goals as goal
+use Rattle.dp_base.proofs.SignificandLaws.{some_tens, more_high, fits_128, pow_fits, zero_digit, first_digit, next_digit}
+use Rattle.dp_base.proofs.significand.Significand.push.Goals as goal
 
 pub returns-then-digit-eq0-clause-seen : goal.returns-then-digit-eq0-clause-seen
 returns-then-digit-eq0-clause-seen c = λ ds seen. rw c.if-digit-eq0.true (zero_digit ds c.args.self _ refl refl refl seen)

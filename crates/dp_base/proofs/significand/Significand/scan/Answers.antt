@@ -1,7 +1,7 @@
 use Rattle.std.proofs.Common.{◌≡◌, ◌++◌, true, get_or, take, sym, ◌∙◌, arith}
 use Rattle.std.specs.Char.{is_ascii_digit}
-use Rattle.dp_num.proofs.DigitRuns.{run_more, run_stop, run_end, seen_more, seen_run}
-use Rattle.dp_num.proofs.significand.Significand.scan.Goals as goal
+use Rattle.dp_base.proofs.DigitRuns.{run_more, run_stop, run_end, seen_more, seen_run}
+use Rattle.dp_base.proofs.significand.Significand.scan.Goals as goal
 
 pub returns-then-not-is_ascii_digit-clause-count : goal.returns-then-not-is_ascii_digit-clause-count
 returns-then-not-is_ascii_digit-clause-count c =

@@ -1,8 +1,8 @@
 use Rattle.std.proofs.Common.{ℕ, List, ◌+◌, ◌++◌, ◌≤◌, take}
 use Rattle.std.specs.Char.{is_ascii_digit}
 use Rattle.std.specs.List.{prefix_len}
-use Rattle.dp_num.specs.Significands.{IsSeen}
-use Rattle.dp_num.proofs.significand.Significand.scan.Given as goal
+use Rattle.dp_base.specs.Significands.{IsSeen}
+use Rattle.dp_base.proofs.significand.Significand.scan.Given as goal
 
 abbrev pub invariant-loop-count : goal.invariant-loop-count
 invariant-loop-count l = record {
