@@ -3,7 +3,7 @@ use Rattle.std.proofs.Common.{◌≡◌, ◌*◌, ℤ, pos, ◌*ℤ◌, ◌≤�
 use Rattle.std.proofs.lemmas.Int.{ints, clamps}
 use Rattle.std.specs.Int.{int_min}
 use Rattle.dp_spec.specs.declared.span.Span.{Span}
-use Rattle.dp_laws.proofs.Ring.{v, zmul_comm, zle_of}
+use Rattle.dp_base.proofs.Ring.{v, zmul_comm, zle_of}
 use Rattle.dp_spec.specs.Arithmetic.{exact, reward_factor}
 use Rattle.dp_spec.specs.Enclosure.{IsSound, equality}
 use Rattle.dp_spec.specs.Model.{Model, step_scale}

@@ -4,7 +4,7 @@ use Rattle.std.specs.Prelude.{if◌then◌else◌}
 use Rattle.dp_spec.specs.declared.span.Span.{Span}
 use Rattle.dp_laws.proofs.ExactArithmetic.{exact_sound}
 use Rattle.dp_laws.proofs.OutwardArithmetic.{outward_sound}
-use Rattle.dp_laws.proofs.Ring.{zle_of}
+use Rattle.dp_base.proofs.Ring.{zle_of}
 use Rattle.dp_spec.specs.Arithmetic.{arithmetic}
 use Rattle.dp_spec.specs.Enclosure.{IsSound, enclosure}
 use Rattle.dp_spec.specs.Mode.{is_exact_mode, unit_of}

@@ -2,14 +2,14 @@
 use Rattle.std.proofs.Common.{◌≡◌, inl, inr, ℕ, suc, ◌*◌, ◌^◌, ◌<◌, ℤ, pos, negsuc, ◌+ℤ◌, ◌*ℤ◌, ◌≤ℤ◌, refl, sym, ap, ◌∙◌, subst, arith}
 use Rattle.std.proofs.lemmas.Int.{ints}
 use Rattle.std.specs.Int.{int_min, int_max}
-use Rattle.dp_laws.proofs.Ring.{v, nat, ◌⊗◌, by_ring, by_order, zmul_comm, zle_of, zle_trans, zmul_le, zadd_le, zadd_mul}
-use Rattle.dp_laws.proofs.Floors.{mul_down_le, le_mul_up}
-use Rattle.dp_laws.proofs.Order.{le_max_left, le_max_right, le_of_mul_le_left, max_is_either, min_is_either, mul_le_right}
-use Rattle.dp_laws.proofs.Scales.{step_scale_is}
+use Rattle.dp_base.proofs.Ring.{v, nat, ◌⊗◌, by_ring, by_order, zmul_comm, zle_of, zle_trans, zmul_le, zadd_le, zadd_mul}
+use Rattle.dp_base.proofs.Floors.{mul_down_le, le_mul_up}
+use Rattle.dp_base.proofs.Order.{le_max_left, le_max_right, le_of_mul_le_left, max_is_either, min_is_either, mul_le_right}
+use Rattle.dp_spec.proofs.QuantityScales.{step_scale_is}
 use Rattle.dp_spec.specs.Arithmetic.{outward}
 use Rattle.dp_spec.specs.Enclosure.{IsSound, containment}
 use Rattle.dp_spec.specs.Model.{IsModel, Model, step_scale}
-use Rattle.dp_spec.specs.Rounding.{by_sign, mul_down, mul_up}
+use Rattle.dp_base.specs.Rounding.{by_sign, mul_down, mul_up}
 
 -- ---- over the scale T and in the unit u
 

@@ -1,9 +1,9 @@
 pub mod JointNumberLaws
+pub mod ModeCondition
 pub mod ModelLaws
-pub mod NaturalSumLaws
 mod CertificateRows
 mod NumberingRows
-pub mod RoundingLaws
+pub mod QuantityScales
 pub mod ScaleRange
 pub mod SmallModels
 mod SharedPolicyRows

@@ -10,7 +10,7 @@ use Rattle.dp_spec.specs.Front.{Front, fixed_joint_action, joint_class, class_we
 use Rattle.dp_spec.specs.Bound.{agreeing_actions}
 use Rattle.dp_spec.specs.Steps.{root_front, front_after_choice, advanced_agent}
 use Rattle.dp_spec.specs.Merge.{AreEquivalent, class_of_agent, class_of_others, place_weight, class_total, merged_front}
-use Rattle.dp_spec.specs.Rounding.{ceiling_of, mul_down, mul_up}
+use Rattle.dp_base.specs.Rounding.{ceiling_of, mul_down, mul_up}
 use Rattle.dp_spec.specs.Arithmetic.{exact, outward, reward_factor}
 use Rattle.dp_spec.specs.Quantities.{weights_after_in, weighted_reward_in, forward_worth_in, weighted_table_in, action_look_ahead_in, class_weight_in}
 use Rattle.dp_spec.specs.BoundTree.{BoundTree, leaf, branch, no_bound_trees, more_bound_trees, inner_count, depth_of, greatest_leaf}
