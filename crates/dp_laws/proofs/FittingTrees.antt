@@ -28,7 +28,7 @@ use Rattle.dp_spec.specs.Value.{policy_value}
 use Rattle.dp_spec.specs.WellFormed.{IsFront}
 
 -- ---- in a sound arithmetic
-module _ (A : Arithmetic) (R : Enclosure) (m : Model) (is : IsModel m) (ok : IsSound m A R) (h look : ℕ) where
+module _ (A : Arithmetic) (R : Enclosure) (m : Model) (is : IsModel m) (ok : IsSound m.scales A R) (h look : ℕ) where
   -- u in the unit is at least the value v
   abbrev Bounds : ℤ → ℤ → Type 0
   Bounds u v = IsAbove (value_scale m h) (R.unit (value_scale m h)) v u
