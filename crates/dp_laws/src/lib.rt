@@ -72,8 +72,7 @@ pub use shared_policies::{
     shared_worth_encloses_the_value,
 };
 pub use sizes::{
-    history_weights_are_within_bound, mode_allows_advances, mode_allows_bounds,
-    mode_allows_class_weights, mode_allows_earnings, mode_allows_look_ahead, mode_allows_pushes,
+    history_weights_are_within_bound, mode_allows_look_ahead, mode_allows_pushes,
     mode_allows_refining, mode_allows_rewards, mode_allows_shared_worth, mode_allows_table,
     mode_allows_worth,
 };
