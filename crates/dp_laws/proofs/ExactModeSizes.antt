@@ -196,7 +196,7 @@ module _ (m : Model) (is : IsModel m) (h : ℕ) (some : 0 < h) (mode : true ≡ 
   -- what a front has earned and its best look-aheads
   looks_of_front_fit : (F : Front) (r k : ℕ) → IsFront m h F → F.stage + suc r ≡ h
       → earned_size (exact m.scales) m (fixed_joint_action m F) h F.stage + class_look_size (exact m.scales) m r F k
-      < 2 ^ 127
+      ≤ 2 ^ 126
   looks_of_front_fit F r k front e =
       let acts = front_acting m h F front in
       let earned = earned_most m is (fixed_joint_action m F) h F.stage (omega arith) acts in

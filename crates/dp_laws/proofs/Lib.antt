@@ -83,6 +83,7 @@ pub mod SizeLaws
 pub mod SizeSums
 pub mod SmallBranches
 pub mod SoundOverScales
+pub mod Spreads
 pub mod Sums
 pub mod TableBound
 pub mod TreeActions

@@ -202,7 +202,7 @@ module _ (m : Model) (is : IsModel m) (h : ℕ) (horizon : h ≤ 24) (k : ℕ) (
   -- what a front has earned and its best look-aheads
   front_fits : (F : Front) (r look : ℕ) → IsFront m h F → F.stage + suc r ≡ h → F.stage ≤ k
       → earned_size (outward m.scales) m (fixed_joint_action m F) h F.stage + class_look_size (outward m.scales) m r F look
-      < 2 ^ 127
+      ≤ 2 ^ 126
   front_fits F r look front e few =
       let earned = earned_most (fixed_joint_action m F) F.stage (omega arith) (omega arith) (front_acting m h F front) in
       let looks = class_looks_most F r look front e few in omega arith

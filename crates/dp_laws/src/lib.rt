@@ -37,7 +37,9 @@ pub use class_counts::{
 pub use forward_values::{value_is_earned, value_is_earned_and_remaining};
 pub use front_bound::{
     advancing_never_raises_bound, choice_never_raises_bound, choosing_never_raises_bound,
-    merging_never_raises_bound, no_keeping_policy_above_bound,
+    choosing_never_raises_computed_bound, merging_never_raises_bound,
+    no_keeping_policy_above_bound, no_keeping_policy_above_computed_bound, spreads_are_limited,
+    spreads_are_never_negative,
 };
 pub use front_steps::{
     advancing_keeps_well_formed, choosing_keeps_well_formed, front_after_choice_is_well_formed,

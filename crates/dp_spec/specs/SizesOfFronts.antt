@@ -41,9 +41,9 @@ pub record CanRefine (A : Arithmetic) (m : Model) (h : ℕ) (F : Front) : Type 0
   -- the weights of all joint histories of the stage can be added to those of joint classes, in any order
   pub classify : nat_history_sum (joint_observations m) F.stage (λ H. nat_sum m.states (λ s. size (history_weight_in A m (fixed_joint_action m F) H s)))
       < 2 ^ 127
-  -- what it has earned and the best look-aheads of its joint classes can be added, in any order
+  -- what it has earned and the best look-aheads of its joint classes can be added, in any order, to at most 2^126
   pub bound : (r k : ℕ) → F.stage + suc r ≡ h
-      → earned_size A m (fixed_joint_action m F) h F.stage + class_look_size A m r F k < 2 ^ 127
+      → earned_size A m (fixed_joint_action m F) h F.stage + class_look_size A m r F k ≤ 2 ^ 126
   -- its next weights can be added to those of the next joint classes, and its rewards to what it has earned
   pub advance : (act : ℕ → ℕ) → IsChoosing m F act → advanced_size A m F act < 2 ^ 127
   pub rewards : (r : ℕ) (act : ℕ → ℕ) → F.stage + suc r ≡ h → IsChoosing m F act
