@@ -6,7 +6,7 @@ use Rattle.dp_spec.specs.declared.span.Span.{Span}
 use Rattle.dp_spec.specs.declared.scales.Scales.{Scales}
 use Rattle.dp_spec.proofs.ModeCondition.{reward_at_most, reward_most}
 use Rattle.dp_laws.proofs.OrderedSpans.{total_size}
-use Rattle.dp_spec.proofs.QuantityScales.{step_scale_is}
+use Rattle.dp_spec.proofs.QuantityScales.{reward_factor_is, step_scale_is}
 use Rattle.dp_laws.proofs.SizeSums.{pushed_size_le}
 use Rattle.dp_spec.specs.Arithmetic.{exact, reward_factor}
 use Rattle.dp_spec.specs.Calls.{size}
@@ -63,11 +63,6 @@ carry_size c v p = unsigned_abs-mul v (pos (p * c.obs * c.gain))
 pub tail_size : (c : Scales) (w : Span) (v : ℤ) → unsigned_abs ((exact c).tail w v) ≤ size w * unsigned_abs v
 unfolding exact
 tail_size c w v = let le : unsigned_abs w.low ≤ size w = omega arith in rw (unsigned_abs-mul w.low v) (mul-le-mul_right (unsigned_abs v) le)
-
--- the factor of a reward by the step scale
-pub reward_factor_is : (m : Model) (r : ℕ) → reward_factor m.scales r ≡ m.scales.discount * step_scale m ^ r
-unfolding reward_factor step_scale
-reward_factor_is m r = refl
 
 -- one weight with its chances and discount, and with its reward
 pushed_part : (c : Scales) (w : Span) (p z : ℕ)

@@ -76,6 +76,7 @@ pub mod SizeLaws
 pub mod SizeSums
 pub mod SmallBranches
 pub mod SoundOverScales
+pub mod Spreads
 pub mod TableBound
 pub mod TreeActions
 pub mod TreeDepth

@@ -207,5 +207,5 @@ impl Arith for Outward {
         }
     }
 
-    ghost holds = { λ a m is e. outward_holds a m is e };
+    ghost holds = { λ a range. outward_holds a range };
 }

@@ -78,7 +78,7 @@ root_bound_is_best m a ok best =
 lower_is_value : (m : Model) (a : ℕ)
     → constant_value m a ≡ (forward_worth_in (exact m.scales) m 1 (constant_policy m 1 a)).low
 unfolding constant_value
-lower_is_value m a = sym (ap (λ (s : Span). s.low) (worth_enclosed m (exact m.scales) equality (exact_sound m) 1 (constant_policy m 1 a)))
+lower_is_value m a = sym (ap (λ (s : Span). s.low) (worth_enclosed m (exact m.scales) equality (exact_sound m.scales) 1 (constant_policy m 1 a)))
 
 -- in exact mode the certificate of the best constant policy is valid
 pub best_constant_is_valid : (m : Model) (a : ℕ) → IsModel m → is_exact_mode m 1 ≡ true → IsBestConstant m a
