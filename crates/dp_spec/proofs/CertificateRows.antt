@@ -17,7 +17,7 @@ use Rattle.dp_spec.specs.Wide.{is_room, is_wide, widens}
 use Rattle.dp_spec.specs.Fitting.{FitsFront, front_bound}
 use Rattle.dp_spec.specs.Certificate.{Certificate, HasPolicyOfVersion, IsValid}
 use Rattle.dp_spec.proofs.SmallModels.{fan, solo}
-use Rattle.dp_spec.proofs.SmallRows.{both_actions}
+use Rattle.dp_spec.proofs.TreeRows.{both_actions}
 use Rattle.dp_spec.proofs.TextLemmas.{one_row}
 use Rattle.dp_spec.proofs.WideRows.{all_but_one, all_but_one_is_wide}
 

@@ -3,6 +3,7 @@ pub mod ModelLaws
 pub mod NaturalSumLaws
 mod CertificateRows
 mod NumberingRows
+mod OutwardRows
 pub mod RoundingLaws
 pub mod ScaleRange
 pub mod SmallModels
@@ -11,4 +12,5 @@ mod SmallRows
 pub mod TextLemmas
 mod TextRows
 mod TigerRows
+mod TreeRows
 mod WideRows
