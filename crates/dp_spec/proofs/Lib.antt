@@ -2,8 +2,11 @@ pub mod JointNumberLaws
 pub mod ModelLaws
 pub mod NaturalSumLaws
 mod CertificateRows
+mod FittingRows
+mod KeepingRows
 mod NumberingRows
 mod OutwardRows
+mod QualityRows
 pub mod RoundingLaws
 pub mod ScaleRange
 pub mod SmallModels

@@ -41,7 +41,7 @@ unfolding drift policy_value joint_root_action trees_after joint_observations jo
 value_of_drift = refl
 
 -- ---- two equivalent classes, and the weight of the merged class
-abbrev waited : Front
+abbrev pub waited : Front
 waited = front_after_choice blind (root_front blind) 0 0 0
 
 place_of_heard : place_weight blind waited 0 0 0 0 ≡ 1
@@ -60,7 +60,7 @@ total_of_never = refl
 only_zero : (k : ℕ) → k < 1 → k ≡ 0
 only_zero k h = omega arith
 
-heard_and_never_are_equivalent : AreEquivalent blind waited 0 0 1
+pub heard_and_never_are_equivalent : AreEquivalent blind waited 0 0 1
 unfolding blind joint_actions joint_observations start_at trans_at obs_at weights_after fixed_joint_action class_of_agent class_of_others place_weight class_total root_front front_after_choice advanced_agent
 heard_and_never_are_equivalent = record { same = λ x s first second. rw (only_zero x first, only_zero s second) refl }
 

@@ -116,7 +116,7 @@ place_of_right : place_weight tiger listened 0 1 0 0 ≡ 2550
 unfolding tiger joint_actions joint_observations start_at trans_at obs_at reward_at step_scale weights_after fixed_joint_action class_of_agent class_of_others place_weight root_front front_after_choice advanced_agent
 place_of_right = refl
 
-left_and_right_are_not_equivalent : AreEquivalent tiger listened 0 0 1 → ⊥
+pub left_and_right_are_not_equivalent : AreEquivalent tiger listened 0 0 1 → ⊥
 unfolding tiger joint_actions joint_observations start_at trans_at obs_at reward_at step_scale weights_after fixed_joint_action class_of_agent class_of_others place_weight class_total root_front front_after_choice advanced_agent
 left_and_right_are_not_equivalent h = let products : 14450 * 20000 ≡ 2550 * 20000 = h.same 0 0 (omega arith) (omega arith) in absurd (omega arith)
 
