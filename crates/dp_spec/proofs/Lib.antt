@@ -2,8 +2,11 @@ pub mod JointNumberLaws
 pub mod ModeCondition
 pub mod ModelLaws
 mod CertificateRows
+mod FittingRows
+mod KeepingRows
 mod NumberingRows
-pub mod QuantityScales
+mod OutwardRows
+mod QualityRows
 pub mod ScaleRange
 pub mod SmallModels
 mod SharedPolicyRows
@@ -11,4 +14,6 @@ mod SmallRows
 pub mod TextLemmas
 mod TextRows
 mod TigerRows
+mod TreeRows
 mod WideRows
+pub mod QuantityScales
