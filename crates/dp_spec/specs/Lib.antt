@@ -1,6 +1,5 @@
 pub use Rattle.dp_base.specs.Rounding
 pub use Rattle.dp_base.specs.Sums
-
 pub mod JointNumbers
 pub mod Model
 pub mod PolicyTree
