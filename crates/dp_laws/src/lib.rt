@@ -37,7 +37,9 @@ pub use class_counts::{
 pub use forward_values::{value_is_earned, value_is_earned_and_remaining};
 pub use front_bound::{
     advancing_never_raises_bound, choice_never_raises_bound, choosing_never_raises_bound,
-    merging_never_raises_bound, no_keeping_policy_above_bound,
+    choosing_never_raises_computed_bound, merging_never_raises_bound,
+    no_keeping_policy_above_bound, no_keeping_policy_above_computed_bound, spreads_are_limited,
+    spreads_are_never_negative,
 };
 pub use front_steps::{
     advancing_keeps_well_formed, choosing_keeps_well_formed, front_after_choice_is_well_formed,
@@ -72,8 +74,7 @@ pub use shared_policies::{
     shared_worth_encloses_the_value,
 };
 pub use sizes::{
-    history_weights_are_within_bound, mode_allows_advances, mode_allows_bounds,
-    mode_allows_class_weights, mode_allows_earnings, mode_allows_look_ahead, mode_allows_pushes,
+    history_weights_are_within_bound, mode_allows_look_ahead, mode_allows_pushes,
     mode_allows_refining, mode_allows_rewards, mode_allows_shared_worth, mode_allows_table,
     mode_allows_worth,
 };

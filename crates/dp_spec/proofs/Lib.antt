@@ -1,9 +1,12 @@
 pub mod JointNumberLaws
+pub mod ModeCondition
 pub mod ModelLaws
-pub mod NaturalSumLaws
 mod CertificateRows
+mod FittingRows
+mod KeepingRows
 mod NumberingRows
-pub mod RoundingLaws
+mod OutwardRows
+mod QualityRows
 pub mod ScaleRange
 pub mod SmallModels
 mod SharedPolicyRows
@@ -11,4 +14,6 @@ mod SmallRows
 pub mod TextLemmas
 mod TextRows
 mod TigerRows
+mod TreeRows
 mod WideRows
+pub mod QuantityScales

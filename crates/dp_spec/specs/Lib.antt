@@ -1,4 +1,6 @@
-pub mod Sums
+pub use Rattle.dp_base.specs.Rounding
+pub use Rattle.dp_base.specs.Sums
+
 pub mod JointNumbers
 pub mod Model
 pub mod PolicyTree
@@ -11,7 +13,6 @@ pub mod Front
 pub mod Bound
 pub mod Steps
 pub mod Merge
-pub mod Rounding
 pub mod Arithmetic
 pub mod Quantities
 pub mod Enclosure
