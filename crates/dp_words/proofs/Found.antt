@@ -1,5 +1,5 @@
 -- The matches of the command, by what its parse is.
-use Rattle.std.proofs.Common.{◌≡◌, ◌∙◌, true, false, refl, sym, ap, subst, List, [], ◌∷◌, map, Option, Some, None, unwrap_or, option_map, ◌⊎◌, inl, inr, string_bytes, Global}
+use Rattle.std.proofs.Common.{◌≡◌, ◌∙◌, true, false, refl, sym, ap, subst, List, [], ◌∷◌, map, Option, Some, None, unwrap_or, option_map, inl, inr, string_bytes, Global}
 use Rattle.std.specs.Prelude.{String, find, option_and_then, slice_get}
 use Rattle.std.specs.Option.{option_map_or}
 use Rattle.std.specs.Str.{bytes_eq}
@@ -14,7 +14,7 @@ use Rattle.clap.specs.declared.error.Error.{Error}
 use Rattle.clap.specs.declared.error.kind.ErrorKind.TheVariants.{OutOfMemory}
 use Rattle.clap.specs.declared.parser.matches.ArgMatches.{ArgMatches}
 use Rattle.clap.proofs.WalkLemmas.{first_value-rows, raw_values-rows}
-use Rattle.dp_words.specs.Line.{Text, is_well_given, options_of, plain_of}
+use Rattle.dp_words.specs.Line.{Text, is_well_given, options_of}
 use Rattle.dp_words.specs.Words.{value_names}
 use Rattle.dp_words.specs.Command.{Tells, command_app, flag_id, may_be, plain_id}
 use Rattle.dp_words.proofs.Rows.{values_at}

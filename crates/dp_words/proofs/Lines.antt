@@ -15,7 +15,7 @@ use Rattle.dp_words.proofs.Rows.{any_after, if_id, same_text, text_same, values_
 use Rattle.dp_words.specs.Command.{flag_id, may_be, plain_id}
 use Rattle.dp_words.proofs.Rules.{AreApart, apart, by_long_is, built_flag, found_long, is_in, built_option, rules}
 use Rattle.dp_words.proofs.WordKinds.{WordKind, kind_end, kind_long, kind_short, kind_plain, view_of}
-use Rattle.dp_words.proofs.Walks.{Use, given, refused, uses_by, uses_of_rule, built_plain, run, sort_is, sort_of_view, uses}
+use Rattle.dp_words.proofs.Walks.{Use, given, plain_uses, refused, uses_by, uses_of_rule, built_plain, run, sort_is, sort_of_view, uses}
 
 -- the text of an option that was given, that of a flag being `true`
 abbrev pub text_of : Option Text → Text
@@ -31,15 +31,19 @@ given_to n (o ∷ os) = cond (bytes_eq o.0 (dashed n)) (text_of o.1 ∷ given_to
 abbrev pub is_row_of : Text → Text → Bool
 is_row_of m id = bytes_eq (dashed id) m && not (bytes_eq id plain_id)
 
+-- some row is that of the option
 abbrev pub option_has_row : Text → List Row → Bool
 option_has_row m rows = list_any (λ r. is_row_of m r.id) rows
 
+-- no option has a row yet
 abbrev pub none_has_row : List Row → List Given → Bool
 none_has_row rows os = list_all (λ o. not (option_has_row o.0 rows)) os
 
+-- the words before `--`
 abbrev pub before_end : List Text → List Text
 before_end words = before_first ends_options words
 
+-- the plain words, after the word `before`
 abbrev pub plain_words : Text → List Text → List Text
 plain_words before words = plain_after may_be before (before_end words) ++ after_first ends_options words
 
@@ -49,6 +53,7 @@ HaveValues rows os ps after =
     ((m : Text) → bytes_eq m plain_id ≡ false → values_at m after ≡ values_at m rows ++ given_to m os)
     × (values_at plain_id after ≡ values_at plain_id rows ++ ps)
 
+-- the options, as `clap` splits the words
 abbrev pub given_options : List Text → List Given
 given_options words = options_of may_be words
 
@@ -58,6 +63,7 @@ HaveKinds [] = Unit {0}
 HaveKinds (word ∷ rest) = WordKind word × HaveKinds rest
 
 module _ (ns : List Text) (all : AreApart ns) where
+  -- the options are well given, and none has a row yet
   abbrev pub may_follow : List Row → List Given → Bool
   may_follow rows os = list_all (is_valued ns) os && (is_once os && none_has_row rows os)
 
@@ -67,12 +73,14 @@ module _ (ns : List Text) (all : AreApart ns) where
       ⊎ ((may_follow rows os ≡ true)
       × ((after : List Row) × ((run rows us ≡ Some after) × HaveValues rows os ps after)))
 
+  -- a word that is refused
   refused_agrees : (rows : List Row) (us : List Use) (o : Given) (os : List Given) (ps : List Text)
       → is_valued ns o ≡ false → run rows us ≡ None → Agree rows us (o ∷ os) ps
   refused_agrees rows us o os ps bad none = inl (rw bad refl, none)
 
   -- ---- one more option
 
+  -- one option more has a row
   none_more : (rows after : List Row) (n : Text) (os : List Given)
       → ((m : Text) → option_has_row m after ≡ (option_has_row m rows || bytes_eq n m))
       → none_has_row after os ≡ (not (list_any (λ p. bytes_eq n p.0) os) && none_has_row rows os)
@@ -208,6 +216,7 @@ module _ (ns : List Text) (all : AreApart ns) where
       by false true = refl
       by false false = refl
 
+  -- a use of the plain words
   plain_agrees : (rows : List Row) (word : Text) (us : List Use) (os : List Given) (ps : List Text)
       → ((after : List Row) → Agree after us os ps)
       → Agree rows (given built_plain (word ∷ []) ∷ us) os (word ∷ ps)
@@ -239,8 +248,9 @@ module _ (ns : List Text) (all : AreApart ns) where
       by (inl g) = inl (same ∙ g.0, g.1)
       by (inr g) = inr (same ∙ g.0, (g.1.0, (g.1.1.0, have g.1.0 g.1.1.1)))
 
+  -- the words after `--`
   rest_agrees : (words : List Text) (rows : List Row)
-      → Agree rows (map (λ v. given built_plain (v ∷ [])) words) [] words
+      → Agree rows (plain_uses words) [] words
   rest_agrees [] rows = inr (
     refl,
     (
@@ -252,10 +262,12 @@ module _ (ns : List Text) (all : AreApart ns) where
     ),
   )
   rest_agrees (word ∷ rest) rows =
-      plain_agrees rows word (map (λ v. given built_plain (v ∷ [])) rest) [] rest (λ after. rest_agrees rest after)
+      plain_agrees rows word (plain_uses rest) [] rest (λ after. rest_agrees rest after)
 
   -- ---- all words
 
+  -- the uses of the words agree with their options and plain words: where nothing waits for a value, and
+  -- where an option does
   abbrev Free : List Text → Type 0
   Free words = (before : Text) (rows : List Row) → takes_next before ≡ false
       → Agree rows (uses (rules ns) words None) (given_options words) (plain_words before words)
@@ -305,6 +317,7 @@ module _ (ns : List Text) (all : AreApart ns) where
       by [] = refl
       by (k ∷ ks) = refl
 
+  -- the option without a value
   with_flag : (rows : List Row) (us : List Use) (os : List Given) (ps : List Text)
       → ((after : List Row) → Agree after us os ps)
       → Agree rows (given built_flag [] ∷ us) ((dashed flag_id, None) ∷ os) ps
@@ -439,7 +452,7 @@ module _ (ns : List Text) (all : AreApart ns) where
       → Agree rows (uses_by (rules ns) (sort_of_view (view_of s)) None word rest (uses (rules ns) rest))
       (given_options (word ∷ rest)) (plain_words before (word ∷ rest))
   first_free word rest before rows (kind_end e) takes free wait =
-      agree_as rows (map (λ v. given built_plain (v ∷ [])) rest) (given_options (word ∷ rest)) []
+      agree_as rows (plain_uses rest) (given_options (word ∷ rest)) []
       (plain_words before (word ∷ rest))
       rest
       (ap (options_in may_be) (before_here ends_options word rest e))
@@ -474,6 +487,7 @@ module _ (ns : List Text) (all : AreApart ns) where
       → next_value may_be (before_end (word ∷ rest)) ≡ None
   next_none word rest e is = ap (next_value may_be) (before_next ends_options word rest e) ∙ rw is refl
 
+  -- the first word, where an option waits for it
   first_wait : (word : Text) (rest : List Text) (before n : Text) (rows : List Row) (s : WordKind word)
       → takes_next before ≡ true → is_in n ns ≡ true → Free rest → Wait rest
       → Agree rows (uses_by (rules ns) (sort_of_view (view_of s)) (Some (built_option n)) word rest
@@ -481,7 +495,7 @@ module _ (ns : List Text) (all : AreApart ns) where
       ((dashed n, next_value may_be (before_end (word ∷ rest))) ∷ given_options (word ∷ rest))
       (plain_words before (word ∷ rest))
   first_wait word rest before n rows (kind_end e) takes named free wait =
-      value_missing rows n (map (λ v. given built_plain (v ∷ [])) rest) (given_options (word ∷ rest))
+      value_missing rows n (plain_uses rest) (given_options (word ∷ rest))
       (plain_words before (word ∷ rest))
       (next_value may_be (before_end (word ∷ rest))) (ap (next_value may_be) (before_here ends_options word rest e))
       named

@@ -9,9 +9,8 @@ use Rattle.std.specs.Str.{bytes_eq}
 use Rattle.clap.specs.Kinds.{Kinds, or_else}
 use Rattle.clap.specs.Takes.{is_given as is_used}
 use Rattle.clap.specs.Walk.{Held, idle, rows_after, Row, Rule, Text, finished, has_row, nothing_held, settled, walk, walk_from, with_default, with_values}
-use Rattle.clap.specs.Simple.{App, built, filled_from, names_of, entered, matches_of, new_rule, new_shape}
+use Rattle.clap.specs.Simple.{App, built, filled_from, names_of, entered, matches_of, new_shape}
 use Rattle.clap.specs.Faults.{built_fault, check_fault, default_fault, defaults_fault, level_fault, entered_fault, fault_of, settle_fault, walk_fault}
-use Rattle.clap.specs.declared.builder.action.ArgAction.TheVariants.{Append, Set, SetTrue}
 use Rattle.clap.specs.declared.builder.value_parser.Reading.TheVariants.{AsWritten}
 use Rattle.clap.specs.declared.parser.matches.ValueSource.TheVariants.{DefaultValue}
 use Rattle.dp_words.specs.Line.{Given, dashed, given_as, is_flag, is_given, is_named, is_once, is_valued, is_well_given, value_in}

@@ -1,11 +1,10 @@
 -- The rules of the command: an option for each of the names, the flag, and the plain words.
-use Rattle.std.proofs.Common.{◌≡◌, ◌∙◌, ◌&&◌, ◌||◌, ℕ, Bool, cond, codes, true, false, not, refl, sym, ap, subst, List, [], ◌∷◌, Option, Some, None, true≢false}
+use Rattle.std.proofs.Common.{◌≡◌, ◌∙◌, ◌&&◌, ◌||◌, ℕ, Bool, cond, true, false, not, refl, sym, ap, subst, List, [], ◌∷◌, Option, Some, None, true≢false}
 use Rattle.std.proofs.lemmas.Bool.{and_parts, not-true}
 use Rattle.std.specs.List.{list_all, list_any}
 use Rattle.std.specs.Str.{bytes_eq}
 use Rattle.clap.specs.Walk.{Rule, Text, arg_by_id, arg_by_index, arg_by_long, arg_by_short, most_values, takes_values}
-use Rattle.clap.specs.Simple.{new_rule, filled}
-use Rattle.clap.specs.declared.builder.action.ArgAction.TheVariants.{Set, SetTrue}
+use Rattle.clap.specs.Simple.{filled}
 use Rattle.dp_words.proofs.Rows.{same_text}
 use Rattle.dp_words.specs.Command.{flag_id, flag_rule, option_rule, plain_id}
 use Rattle.dp_words.proofs.Walks.{Table, built_plain}

@@ -11,6 +11,8 @@ use Rattle.clap.specs.Lexer.{name_and_value}
 use Rattle.dp_words.specs.Line.{Text, attached_value, is_equals, is_option, name_of}
 use Rattle.dp_words.proofs.Walks.{IsLong, IsPlainWord, IsShort, View, an_end, a_long, a_short, a_plain}
 
+-- What a word is for `clap`, and what the definitions say of it: `--`, a long flag, short flags, which
+-- are no option that there is, or a plain word. 45 is the dash.
 pub data WordKind (word : Text) : Type 0 where
   kind_end : bytes_eq word (45 ∷ 45 ∷ []) ≡ true → WordKind word
   kind_long : (name : Text) (v : Option Text) → IsLong word name v → is_option word ≡ true
