@@ -85,3 +85,11 @@ pub mod ValidCertificates
 pub mod VersionOnePlans
 pub mod WellFormedSteps
 pub mod WholeTexts
+pub mod SpanSums
+pub mod LoneHistories
+pub mod ClassSteps
+pub mod AdvancedSpans
+pub mod MergedSpans
+pub mod PlaceWeights
+pub mod MergedMembers
+pub mod Zeros

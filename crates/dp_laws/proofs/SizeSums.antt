@@ -38,7 +38,7 @@ abs_min a b c p q = omega (arith, ints, clamps)
 
 -- ---- sums of spans
 -- the magnitude of a sum of two spans
-size_add : (a b : Span) → size (span_add a b) ≤ size a + size b
+pub size_add : (a b : Span) → size (span_add a b) ≤ size a + size b
 size_add a b = let low = abs_add a.low b.low in let high = abs_add a.high b.high in omega arith
 
 -- a sum of spans is no larger than its parts

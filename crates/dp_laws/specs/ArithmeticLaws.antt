@@ -14,6 +14,7 @@ use Rattle.dp_spec.specs.Bound.{bound_of}
 use Rattle.dp_spec.specs.Arithmetic.{Arithmetic, arithmetic, exact, outward}
 use Rattle.dp_spec.specs.Quantities.{action_look_ahead_in, bound_in, class_weight_in, earned_reward_in, forward_worth_in, history_weight_in, look_ahead_in, mdp_table_in, recursive_worth_in, weighted_reward_in, weights_after_in}
 use Rattle.dp_spec.specs.Enclosure.{Enclosure, IsSound, containment, enclosure, equality}
+use Rattle.dp_spec.specs.Zeros.{KeepsZero}
 
 -- ---- the operations, over any scales, or over those in range (as the scales of a model are)
 
@@ -28,6 +29,10 @@ OutwardArithmeticIsSound = (c : Scales) → AreInRange c → IsSound c (outward 
 -- the same of either mode
 abbrev pub ArithmeticIsSound : Type 0
 ArithmeticIsSound = (c : Scales) → AreInRange c → (e : Bool) → IsSound c (arithmetic e c) (enclosure e)
+
+-- what has weight 0 or chance 0 adds nothing, over any scales
+abbrev pub ArithmeticKeepsZero : Type 0
+ArithmeticKeepsZero = (e : Bool) (c : Scales) → KeepsZero (arithmetic e c)
 
 -- ---- the quantities
 

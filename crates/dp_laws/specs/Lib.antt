@@ -18,3 +18,4 @@ pub mod SharedLaws
 pub mod SizeLaws
 pub mod TreeDepthLaws
 pub mod TreeLaws
+pub mod ClassStepLaws

@@ -5,6 +5,7 @@ mod arithmetics;
 mod certificates;
 mod choosing;
 mod class_counts;
+mod class_steps;
 mod forward_values;
 mod front_bound;
 mod front_steps;
@@ -22,7 +23,8 @@ mod texts;
 mod tree_depth;
 
 pub use arithmetics::{
-    arithmetic_encloses_the_numbers, arithmetic_is_sound, exact_arithmetic_gives_the_numbers,
+    arithmetic_encloses_the_numbers, arithmetic_is_sound, arithmetic_keeps_zero,
+    exact_arithmetic_gives_the_numbers,
     exact_arithmetic_is_sound, outward_arithmetic_encloses_the_numbers,
     outward_arithmetic_is_sound, recursion_gives_forward_worth,
 };
@@ -33,6 +35,9 @@ pub use certificates::{
 pub use choosing::{choosing_changes_no_weight, equivalence_ignores_choices};
 pub use class_counts::{
     classes_are_at_most_own_histories, joint_classes_are_at_most_joint_histories,
+};
+pub use class_steps::{
+    advanced_earnings_are_rewards, advanced_weights_are_next_weights, apart_classes_step_as_histories, class_totals_fit, class_weights_fit, classes_step_as_histories, joined_classes_have_both_weights, joint_classes_hold_histories, kept_classes_keep_weights, place_weights_add_to_total, place_weights_are_class_weights, placed_numbers_are_by_row,
 };
 pub use forward_values::{value_is_earned, value_is_earned_and_remaining};
 pub use front_bound::{
@@ -55,14 +60,16 @@ pub use look_ahead::{
     more_look_never_raises_action, table_bounds_every_policy,
 };
 pub use lossless_merging::{
-    empty_classes_are_equivalent, keeping_the_merged_keeps_the_front, merging_loses_nothing,
+    empty_classes_are_equivalent, keeping_the_merged_keeps_the_front, merging_joins_members,
+    merging_keeps_other_members, merging_loses_nothing,
 };
 pub use plans::plans_of_version_one_end;
 pub use policy_trees::{
     actions_are_of_the_agent, tree_of_any_actions_exists, trees_with_equal_actions_are_equal,
 };
 pub use rooms::{
-    choices_keep_histories_apart, no_node_is_wide_in_version_one, nodes_have_room,
+    advancing_keeps_histories_apart, apart_fronts_have_a_class_each, choices_keep_histories_apart,
+    choosing_keeps_histories_apart, no_node_is_wide_in_version_one, nodes_have_room,
     nodes_keep_apart_without_merges, steps_keep_room, widening_is_want_of_room,
 };
 pub use root_fronts::{every_policy_keeps_the_root_front, root_front_is_well_formed};

@@ -42,3 +42,5 @@ pub mod SizesOfTable
 pub mod SizesOfLookAhead
 pub mod SizesOfFronts
 pub mod SizesOfRows
+pub mod ClassSteps
+pub mod Zeros
