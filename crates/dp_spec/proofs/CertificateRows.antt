@@ -59,7 +59,7 @@ unfolding solo front_bound exact reward_factor weights_after_in weighted_reward_
 solo_tree = (omega arith, (omega arith, refl), (refl, (refl, refl)), refl)
 
 -- it is valid in version 1 ..
-solo_is_valid : IsValid solo (solo_certificate 1)
+pub solo_is_valid : IsValid solo (solo_certificate 1)
 unfolding solo unit_of is_exact_mode value_scale step_scale shared_worth_in exact reward_factor weights_after_in weighted_reward_in joint_row_action next_joint_row joint_observations joint_actions trans_at obs_at reward_at start_at
 solo_is_valid = record {
   within = record {

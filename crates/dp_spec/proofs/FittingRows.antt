@@ -16,11 +16,11 @@ use Rattle.dp_spec.specs.PlainForm.ArePlain.{and_agent as and_plain}
 use Rattle.dp_spec.specs.SharedPolicy.{AgentRows}
 use Rattle.dp_spec.specs.Wide.{is_room, is_wide, widens}
 use Rattle.dp_spec.specs.Fitting.{FitsFront, front_bound}
-use Rattle.dp_spec.specs.Certificate.{Certificate, FitsRoot, HasPolicyOfVersion, IsValid}
+use Rattle.dp_spec.specs.Certificate.{Certificate, FitsRoot, HasPolicyOfVersion, IsCertificateOf, IsValid}
 use Rattle.dp_spec.proofs.SmallModels.{blind, solo, tiger}
 use Rattle.dp_spec.proofs.SmallRows.{heard_and_never_are_equivalent}
 use Rattle.dp_spec.proofs.TigerRows.{listened, left_and_right_are_not_equivalent}
-use Rattle.dp_spec.proofs.CertificateRows.{solo_certificate}
+use Rattle.dp_spec.proofs.CertificateRows.{solo_certificate, solo_is_valid}
 
 -- ---- one branch on both actions of an agent that earns 1 or 3
 
@@ -155,3 +155,25 @@ shared_policy_in_one has = none_plain (has.plain refl)
   where
     none_plain : ArePlain 2 (2 ∷ []) (waiting ∷ []) → ⊥
     none_plain (and_plain rows none) = shared_in_one rows
+
+-- ---- what is asked of a certificate before it is checked
+
+solo_is_certificate : IsCertificateOf solo valid
+solo_is_certificate = record {
+  within = solo_is_valid.within;
+  look = (omega arith, omega arith);
+  policy = solo_is_valid.policy;
+  nodes = omega arith;
+  depth = omega arith;
+  children = (omega arith, omega arith, (tt, (tt, tt)));
+}
+
+look_of_none : IsCertificateOf solo (record valid { look = 0 }) → ⊥
+look_of_none is = omega (arith, is.look.0)
+
+look_too_far : IsCertificateOf solo (record valid { look = 17 }) → ⊥
+look_too_far is = omega (arith, is.look.1)
+
+-- a branch of no children may not stand in one
+childless_branch : IsCertificateOf solo (record valid { tree = branch 0 0 no_bound_trees }) → ⊥
+childless_branch is = omega (arith, is.children.0)

@@ -2,11 +2,14 @@ pub mod JointNumberLaws
 pub mod ModeCondition
 pub mod ModelLaws
 mod CertificateRows
+mod EquivalenceRows
 mod FittingRows
 mod KeepingRows
 mod NumberingRows
 mod OutwardRows
 mod QualityRows
+mod ReasonRows
+pub mod RoundingLaws
 pub mod ScaleRange
 pub mod SmallModels
 mod SharedPolicyRows

@@ -121,7 +121,7 @@ unfolding tiger joint_actions joint_observations start_at trans_at obs_at reward
 left_and_right_are_not_equivalent h = let products : 14450 * 20000 ≡ 2550 * 20000 = h.same 0 0 (omega arith) (omega arith) in absurd (omega arith)
 
 -- ---- after both agents listened twice, of three steps
-abbrev listened_twice : Front
+abbrev pub listened_twice : Front
 listened_twice = front_after_choice tiger (front_after_choice tiger (front_after_choice tiger (front_after_choice tiger listened 0 0 0) 0 1 0) 1 0 0) 1 1 0
 
 earned_by_listening_twice : earned_reward tiger (fixed_joint_action tiger listened_twice) 3 2 ≡ negsuc 63999999999999
