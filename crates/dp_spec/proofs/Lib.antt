@@ -9,7 +9,6 @@ mod NumberingRows
 mod OutwardRows
 mod QualityRows
 mod ReasonRows
-pub mod RoundingLaws
 pub mod ScaleRange
 pub mod SmallModels
 mod SharedPolicyRows
