@@ -15,7 +15,6 @@ pub mod Merge
 pub mod Pairs
 pub mod UnequalPlaces
 pub mod Primitive
-pub mod Rounding
 pub mod Arithmetic
 pub mod Quantities
 pub mod Enclosure
