@@ -9,7 +9,7 @@ use Rattle.std.specs.List.{list_all, list_any, before_first, after_first}
 use Rattle.std.specs.Str.{bytes_eq}
 use Rattle.dp_base.specs.DecimalShape.{is_index}
 use Rattle.dp_words.specs.Line.{Given, Text, attached_value, begins_with_dash, dashed, ends_options, given_as, is_given, value_in, is_equals, is_flag, is_named, is_once, is_option, is_valued, is_well_given, may_be_value, name_of, options_in, options_of, plain_after, plain_of, takes_next, value_of}
-use Rattle.dp_words.specs.Words.{OptionRow, all_hold, holds, job_by, job_of, no_merge, options, value_job, value_names}
+use Rattle.dp_words.specs.Words.{OptionRow, all_hold, holds, job_by, job_of, no_merge, options, job_of_values, value_names}
 use Rattle.dp_words.specs.Command.{may_be}
 use Rattle.dp_words.proofs.Rows.{same_text, text_same}
 use Rattle.dp_words.proofs.Rules.{is_in}
@@ -24,7 +24,7 @@ has_dash o = option_map_or (λ v. bytes_eq v dash) o.1 false
 abbrev HasDash : List Given → Type 0
 HasDash os = list_any has_dash os ≡ true
 
--- some option has no value, and is not the flag
+-- some option is unknown, or without its value
 abbrev LacksValue : List Given → Type 0
 LacksValue os = list_all (is_valued value_names) os ≡ false
 
@@ -205,7 +205,7 @@ no_job_with_dash : (os : List Given) (plain : List Text) → HasDash os → job_
 no_job_with_dash os plain is = by (is_well_given value_names os) refl
   where
     by : (b : Bool) → is_well_given value_names os ≡ b
-        → cond (is_well_given value_names os) (value_job (value_in os) (is_given os no_merge) plain) None ≡ None
+        → cond (is_well_given value_names os) (job_of_values (value_in os) (is_given os no_merge) plain) None ≡ None
     by false e = rw e refl
     by true e =
         let parts = and_parts (list_all (is_valued value_names) os) (is_once os) e in

@@ -12,7 +12,7 @@ use Rattle.dp_words.specs.Line.{Given, Text, dashed, given_as, is_flag, is_given
 use Rattle.dp_words.specs.declared.job.Job.{Job}
 use Rattle.dp_words.specs.declared.job.WordFault.{WordFault}
 use Rattle.dp_words.specs.declared.job.WordFault.TheVariants as faults
-use Rattle.dp_words.specs.Words.{CommandRow, IsReadAs, Values, all_hold, command_job, row_job, commands, job_of, value_job, value_names}
+use Rattle.dp_words.specs.Words.{CommandRow, IsReadAs, Values, all_hold, command_job, row_job, commands, job_of, job_of_values, value_names}
 use Rattle.dp_words.specs.Command.{IsParsedAs, Tells, flag_id, may_be, merging_off, plain_words, values_of}
 use Rattle.dp_words.proofs.Rows.{same_text}
 use Rattle.dp_words.proofs.Rules.{is_in}
@@ -50,7 +50,7 @@ found_same (f ∷ fs) each v off files p = by (p f) (found_same fs each.1 v off 
     by false next = next
 
 option_values-same : (v : Values) (off : Bool) (plain : List Text)
-    → value_job v off plain ≡ value_job (option_values v) off plain
+    → job_of_values v off plain ≡ job_of_values (option_values v) off plain
 option_values-same v off [] = refl
 option_values-same v off (c ∷ files) =
     ap (λ o. cond (all_hold v) o None) (found_same commands commands_read v off files (λ f. bytes_eq f.word c))
@@ -104,12 +104,12 @@ flag_is words m t = by (values_of m flag_id) refl (is_given (options_of may_be w
 
 -- the job of matches that tell the words
 pub told_job : (words : List Text) (m : ArgMatches) → Tells words m
-    → value_job (values_of m) (merging_off m) (plain_words m) ≡ job_of words
+    → job_of_values (values_of m) (merging_off m) (plain_words m) ≡ job_of words
 told_job words m t =
     option_values-same (values_of m) (merging_off m) (plain_words m)
-    ∙ (λ i. value_job (values_are words m t i) (flag_is words m t i) (t.plain i))
+    ∙ (λ i. job_of_values (values_are words m t i) (flag_is words m t i) (t.plain i))
     ∙ sym (ap (λ b. cond b
-    (value_job (value_in (options_of may_be words)) (is_given (options_of may_be words) flag_id)
+    (job_of_values (value_in (options_of may_be words)) (is_given (options_of may_be words) flag_id)
     (plain_of may_be words)) None) t.well)
     ∙ job_is words
 
@@ -123,7 +123,7 @@ failed_job words faults.Usage bad = no_job words bad
 failed_job words faults.Memory bad = tt
 
 pub told_as : (words : List Text) (m : ArgMatches) (r : Result Job WordFault) → Tells words m
-    → IsReadAs (value_job (values_of m) (merging_off m) (plain_words m)) r → IsReadAs (job_of words) r
+    → IsReadAs (job_of_values (values_of m) (merging_off m) (plain_words m)) r → IsReadAs (job_of words) r
 told_as words m r t read = subst (λ j. IsReadAs j r) (told_job words m t) read
 
 -- the word is that of none of the rows
@@ -149,15 +149,15 @@ no_command v off word files none = ap (option_and_then (row_job v off files)) (n
 pub split_job : (v : Values) (off : Bool) (r : Result Job WordFault) (plain : List Text) (bs : List (Bor Text))
     (d : Bor Text) → all_hold v ≡ true → 1 ≤ length bs → map (λ s. s.now) bs ≡ plain
     → IsReadAs (command_job v off ((slice_index_or bs 0 d).now ∷ map (λ s. s.now) (take (length bs - 1) (drop 1 bs))))
-    r → IsReadAs (value_job v off plain) r
+    r → IsReadAs (job_of_values v off plain) r
 split_job v off r plain [] d in_range some is read = absurd (omega arith)
 split_job v off r plain (b ∷ bs) d in_range some is read =
-    let job : value_job v off (b.now ∷ map (λ s. s.now) bs) ≡ command_job v off (b.now ∷ map (λ s. s.now) bs) =
+    let job : job_of_values v off (b.now ∷ map (λ s. s.now) bs) ≡ command_job v off (b.now ∷ map (λ s. s.now) bs) =
     ap (λ x. cond x (command_job v off (b.now ∷ map (λ s. s.now) bs)) None) in_range in
     let rest : take (length (b ∷ bs) - 1) bs ≡ bs = take_all (length (b ∷ bs) - 1) bs (omega arith) in
     subst (λ j. IsReadAs j r)
     (ap (λ (xs : List (Bor Text)). command_job v off (b.now ∷ map (λ s. s.now) xs)) rest ∙ sym job
-    ∙ ap (value_job v off) is) read
+    ∙ ap (job_of_values v off) is) read
 
 -- `?` passes a fault up as it is
 pub fault_up : (words : List Text) (r : Result Job WordFault) (e : WordFault) → IsErrAnd r (λ y. y ≡ e)

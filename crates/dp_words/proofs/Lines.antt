@@ -15,7 +15,7 @@ use Rattle.dp_words.proofs.Rows.{any_after, if_id, same_text, text_same, values_
 use Rattle.dp_words.specs.Command.{flag_id, may_be, plain_id}
 use Rattle.dp_words.proofs.Rules.{AreApart, apart, by_long_is, built_flag, found_long, is_in, built_option, rules}
 use Rattle.dp_words.proofs.WordKinds.{WordKind, kind_end, kind_long, kind_short, kind_plain, view_of}
-use Rattle.dp_words.proofs.Walks.{Use, given, plain_uses, refused, uses_by, uses_of_rule, built_plain, run, sort_is, sort_of_view, uses}
+use Rattle.dp_words.proofs.Walks.{Use, given, or_else_nil, plain_uses, refused, uses_by, uses_of_rule, built_plain, run, sort_is, sort_of_view, uses}
 
 -- the text of an option that was given, that of a flag being `true`
 abbrev pub text_of : Option Text → Text
@@ -296,7 +296,7 @@ module _ (ns : List Text) (all : AreApart ns) where
       → is_valued ns (dashed name, v) ≡ false
   unknown name v named flag = rw (flag, named) refl
 
-  -- an option that waits in value_missing
+  -- an option without its value
   value_missing : (rows : List Row) (n : Text) (us : List Use) (os : List Given) (ps : List Text) (v : Option Text)
       → v ≡ None
       → is_in n ns ≡ true
@@ -311,24 +311,15 @@ module _ (ns : List Text) (all : AreApart ns) where
       → Agree rows (given (built_option n) (v ∷ []) ∷ us) ((dashed n, Some v) ∷ os) ps
   with_value rows n v us os ps is next =
       use_agrees rows (built_option n) (v ∷ []) us n AsWritten (Some v) os ps (not_plain n is) (option_valued n v is)
-      (by (repeat_fault false n rows)) refl next
-    where
-      by : (ks : Kinds) → or_else ks [] ≡ ks
-      by [] = refl
-      by (k ∷ ks) = refl
+      (or_else_nil (repeat_fault false n rows)) refl next
 
   -- the option without a value
   with_flag : (rows : List Row) (us : List Use) (os : List Given) (ps : List Text)
       → ((after : List Row) → Agree after us os ps)
       → Agree rows (given built_flag [] ∷ us) ((dashed flag_id, None) ∷ os) ps
   with_flag rows us os ps next =
-      use_agrees rows built_flag [] us flag_id AsWritten None os ps refl refl (by (repeat_fault false flag_id rows))
-      refl
-      next
-    where
-      by : (ks : Kinds) → or_else ks [] ≡ ks
-      by [] = refl
-      by (k ∷ ks) = refl
+      use_agrees rows built_flag [] us flag_id AsWritten None os ps refl refl
+      (or_else_nil (repeat_fault false flag_id rows)) refl next
 
   given_options-option : (word : Text) (rest : List Text) → ends_options word ≡ false → is_option word ≡ true
       → given_options (word ∷ rest) ≡ (name_of word, value_of may_be word (before_end rest)) ∷ given_options rest

@@ -9,7 +9,7 @@ use Rattle.std.proofs.lemmas.Bool.{leb-true, and_parts}
 use Rattle.dp_words.specs.declared.job.Job.{Job}
 use Rattle.dp_words.specs.declared.job.WordFault.{WordFault}
 use Rattle.dp_words.specs.Line.{Given, Text, is_given, is_well_given, may_be_value, options_of, plain_of, value_in}
-use Rattle.dp_words.specs.Words.{CommandRow, HasSomeStep, IsReadAs, Values, all_hold, command_job, commands, file_at, fits, holds, horizon, is_allowed, is_number, job_of, no_merge, number_option, plan_row, read, row_job, value_job, value_names}
+use Rattle.dp_words.specs.Words.{CommandRow, HasSomeStep, IsReadAs, Values, all_hold, command_job, commands, file_at, fits, holds, horizon, is_allowed, is_number, job_of, no_merge, number_option, plan_row, read, row_job, job_of_values, value_names}
 use Rattle.dp_words.proofs.Ranges.{options_hold}
 use Rattle.dp_words.proofs.Rows.{same_text}
 use Rattle.dp_words.proofs.Rules.{is_in}
@@ -92,9 +92,9 @@ find_has v (c ∷ cs) each p off files job is = by (p c) is (find_has v cs each.
     by true is next = made (fits c.options c.required v off) refl (length files == c.files) is
     by false is next = next is
 
-value_has : (v : Values) (off : Bool) (plain : List Text) (job : Job) → value_job v off plain ≡ Some job
+values_have : (v : Values) (off : Bool) (plain : List Text) (job : Job) → job_of_values v off plain ≡ Some job
     → HasSomeStep job
-value_has v off plain job is = by (all_hold v) refl plain is
+values_have v off plain job is = by (all_hold v) refl plain is
   where
     by : (b : Bool) → all_hold v ≡ b → (ps : List Text) → cond b (command_job v off ps) None ≡ Some job
         → HasSomeStep job
@@ -110,10 +110,10 @@ job_has words job is = by (is_well_given value_names os) is
     os : List Given
     os = options_of may_be_value words
 
-    by : (b : Bool) → cond b (value_job (value_in os) (is_given os no_merge) (plain_of may_be_value words)) None
+    by : (b : Bool) → cond b (job_of_values (value_in os) (is_given os no_merge) (plain_of may_be_value words)) None
         ≡ Some job
         → HasSomeStep job
-    by true is = value_has (value_in os) (is_given os no_merge) (plain_of may_be_value words) job is
+    by true is = values_have (value_in os) (is_given os no_merge) (plain_of may_be_value words) job is
     by false is = cc
 
 pub read_has : (words : List Text) (r : Result Job WordFault) → IsReadAs (job_of words) r → IfOk r HasSomeStep

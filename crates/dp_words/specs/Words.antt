@@ -142,14 +142,14 @@ command_job value no_merging (command ∷ files) =
     option_and_then (row_job value no_merging files) (find (λ c. bytes_eq c.word command) commands)
 
 -- the job of values in their ranges
-abbrev pub value_job : Values → Bool → List Text → Option Job
-value_job value no_merging plain =
+abbrev pub job_of_values : Values → Bool → List Text → Option Job
+job_of_values value no_merging plain =
     if all_hold value then command_job value no_merging plain else None
 
 -- the job of options and plain words: the options are well given, and their values are allowed
 abbrev pub job_by : List Given → List Text → Option Job
 job_by os plain =
-    if is_well_given value_names os then value_job (value_in os) (is_given os no_merge) plain else None
+    if is_well_given value_names os then job_of_values (value_in os) (is_given os no_merge) plain else None
 
 -- the job of the words, where they ask for one
 abbrev pub job_of : List Text → Option Job

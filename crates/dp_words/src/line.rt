@@ -105,7 +105,7 @@ pub fn fits(given: &ArgMatches<'_>, options: &[&str], required: &[&str]) -> bool
 }
 
 // The number of an option, where it is in its range or not given.
-pub fn value(given: &ArgMatches<'_>, setting: Setting) -> u64
+pub fn value_of(given: &ArgMatches<'_>, setting: Setting) -> u64
     requires holds { holds (values_of given.now) (number_option (setting_of setting)) ≡ true }
     requires default_limit { IfSome setting.default (λ default. default ≤ setting.most) }
     ensures value { result ≡ option_map_or (digits_value 10) (values_of given.now setting.name.now)

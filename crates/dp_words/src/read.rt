@@ -1,10 +1,10 @@
 // The job of the words.
 ghost use Rattle.std.specs.Prelude.{◌≡◌, ◌∷◌, IfOk, map, true, string_bytes};
-ghost use Rattle.dp_words.specs.Words.{HasSomeStep, IsReadAs, all_hold, command_job, job_of, plan_row, row_job, value_job};
+ghost use Rattle.dp_words.specs.Words.{HasSomeStep, IsReadAs, all_hold, command_job, job_of, plan_row, row_job, job_of_values};
 ghost use Rattle.dp_words.specs.Command.{merging_off, plain_words, values_of};
 
 use crate::job::{Job, OrderWord, PlanJob, WordFault};
-use crate::line::{Setting, all_hold, fits, merging_off, value};
+use crate::line::{Setting, all_hold, fits, merging_off, value_of};
 use crate::name::Name;
 use crate::parse::parsed;
 use clap::ArgMatches;
@@ -50,7 +50,7 @@ fn plan(alloc: Global, given: &ArgMatches<'_>, files: &[&str]) -> Result<Job, Wo
     Ok(Job::Plan(PlanJob {
         model: Name::of(alloc, model)?,
         version: DEFAULT_VERSION,
-        horizon: value(given, HORIZON) as u32,
+        horizon: value_of(given, HORIZON) as u32,
         nodes: DEFAULT_NODES,
         look: DEFAULT_LOOK,
         merge: !merging_off(given),
@@ -77,7 +77,7 @@ fn command_job(
 
 // The job of the matches.
 fn matches_job(alloc: Global, given: &ArgMatches<'_>) -> Result<Job, WordFault>
-    ensures { IsReadAs (value_job (values_of given.now) (merging_off given.now) (plain_words given.now)) result }
+    ensures { IsReadAs (job_of_values (values_of given.now) (merging_off given.now) (plain_words given.now)) result }
 {
     if !are_in_range(given) {
         return Err(WordFault::Usage);
