@@ -19,3 +19,4 @@ pub mod SizeLaws
 pub mod TreeDepthLaws
 pub mod TreeLaws
 pub mod ClassStepLaws
+pub mod GrowthLaws

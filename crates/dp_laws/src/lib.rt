@@ -10,6 +10,7 @@ mod forward_values;
 mod front_bound;
 mod front_steps;
 mod full_fronts;
+mod growth;
 mod horizon_one;
 mod look_ahead;
 mod lossless_merging;
@@ -53,6 +54,9 @@ pub use front_steps::{
 };
 pub use full_fronts::{
     full_front_earns_the_value, full_front_has_one_policy, full_policy_keeps_its_front,
+};
+pub use growth::{
+    arenas_are_counted, arenas_grow, arenas_start, full_bounds_are_values, low_trees_are_closed, search_keeps_its_promises, searched_certificates_are_planned,
 };
 pub use horizon_one::{constant_policy_is_policy, root_bound_is_best_constant_action};
 pub use look_ahead::{

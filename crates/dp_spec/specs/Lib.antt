@@ -44,3 +44,10 @@ pub mod SizesOfFronts
 pub mod SizesOfRows
 pub mod ClassSteps
 pub mod Zeros
+pub mod Arena
+pub mod Space
+pub mod Exploration
+pub mod SearchState
+pub mod FrontSpace
+pub mod Searched
+pub mod WholeTree
