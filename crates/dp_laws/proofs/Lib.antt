@@ -92,3 +92,5 @@ pub mod ValidCertificates
 pub mod VersionOnePlans
 pub mod WellFormedSteps
 pub mod WholeTexts
+pub mod UnequalPlaces
+pub mod RightNodes

@@ -18,3 +18,5 @@ pub mod SharedLaws
 pub mod SizeLaws
 pub mod TreeDepthLaws
 pub mod TreeLaws
+pub mod UnequalPlaceLaws
+pub mod ReasonLaws

@@ -14,12 +14,14 @@ mod look_ahead;
 mod lossless_merging;
 mod plans;
 mod policy_trees;
+mod reasons;
 mod rooms;
 mod root_fronts;
 mod shared_policies;
 mod sizes;
 mod texts;
 mod tree_depth;
+mod unequal_places;
 
 pub use arithmetics::{
     arithmetic_encloses_the_numbers, arithmetic_is_sound, exact_arithmetic_gives_the_numbers,
@@ -59,6 +61,7 @@ pub use plans::plans_of_version_one_end;
 pub use policy_trees::{
     actions_are_of_the_agent, tree_of_any_actions_exists, trees_with_equal_actions_are_equal,
 };
+pub use reasons::fitting_trees_have_right_nodes;
 pub use rooms::{
     choices_keep_histories_apart, no_node_is_wide_in_version_one, nodes_have_room,
     nodes_keep_apart_without_merges, steps_keep_room, widening_is_want_of_room,
@@ -82,3 +85,4 @@ pub use tree_depth::{
     fitting_branches_are_small, paths_below_a_front_are_short, paths_below_the_root_are_limited,
     paths_below_the_root_are_short, paths_of_valid_trees_are_short,
 };
+pub use unequal_places::{first_unequal_place_is_found, least_pair_is_unique};
