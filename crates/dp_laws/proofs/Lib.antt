@@ -110,3 +110,5 @@ pub mod SearchPromises
 pub mod FullBounds
 pub mod LowTrees
 pub mod SearchPlans
+pub mod UnequalPlaces
+pub mod RightNodes

@@ -20,3 +20,5 @@ pub mod TreeDepthLaws
 pub mod TreeLaws
 pub mod ClassStepLaws
 pub mod GrowthLaws
+pub mod UnequalPlaceLaws
+pub mod ReasonLaws

@@ -16,12 +16,14 @@ mod look_ahead;
 mod lossless_merging;
 mod plans;
 mod policy_trees;
+mod reasons;
 mod rooms;
 mod root_fronts;
 mod shared_policies;
 mod sizes;
 mod texts;
 mod tree_depth;
+mod unequal_places;
 
 pub use arithmetics::{
     arithmetic_encloses_the_numbers, arithmetic_is_sound, arithmetic_keeps_zero,
@@ -71,6 +73,7 @@ pub use plans::plans_of_version_one_end;
 pub use policy_trees::{
     actions_are_of_the_agent, tree_of_any_actions_exists, trees_with_equal_actions_are_equal,
 };
+pub use reasons::fitting_trees_have_right_nodes;
 pub use rooms::{
     advancing_keeps_histories_apart, apart_fronts_have_a_class_each, choices_keep_histories_apart,
     choosing_keeps_histories_apart, no_node_is_wide_in_version_one, nodes_have_room,
@@ -94,3 +97,4 @@ pub use tree_depth::{
     fitting_branches_are_small, paths_below_a_front_are_short, paths_below_the_root_are_limited,
     paths_below_the_root_are_short, paths_of_valid_trees_are_short,
 };
+pub use unequal_places::{first_unequal_place_is_found, least_pair_is_unique};

@@ -11,6 +11,9 @@ pub mod Front
 pub mod Bound
 pub mod Steps
 pub mod Merge
+pub mod Pairs
+pub mod UnequalPlaces
+pub mod Primitive
 pub mod Rounding
 pub mod Arithmetic
 pub mod Quantities
@@ -30,6 +33,9 @@ pub mod WellFormed
 pub mod Mode
 pub mod Certificate
 pub mod Qualities
+pub mod RightNodes
+pub mod Reasons
+pub mod FirstReason
 pub mod Claims
 pub mod Promises
 pub mod TextLines
