@@ -20,7 +20,7 @@ use Rattle.dp_spec.specs.Steps.{advanced_agent, advanced_agents, advanced_front}
 use Rattle.dp_spec.specs.WellFormed.{AreAgentFronts, IsFront}
 use Rattle.dp_spec.specs.WellFormed.AreAgentFronts.{and_agent, no_agents}
 use Rattle.dp_spec.proofs.JointNumberLaws.{AreBelow, joint_number_below, parts_below, parts_of-joint_number}
-use Rattle.dp_spec.proofs.NaturalSumLaws.{nat_sum_ext, nat_sum_one}
+use Rattle.dp_base.proofs.NaturalSumLaws.{nat_sum_ext, nat_sum_one}
 use Rattle.std.proofs.lemmas.Bool.{cases_eq}
 use Rattle.dp_laws.proofs.HistorySums.{nat_history_sum_ext}
 use Rattle.dp_spec.specs.ClassSteps.{actions_for, chosen_joint_action, pair_counts, pair_number}

@@ -9,11 +9,11 @@ use Rattle.dp_spec.specs.Front.{AgentFront, Front, class_counts}
 use Rattle.dp_spec.specs.JointNumbers.{joint_number, parts_of, product}
 use Rattle.dp_spec.specs.Model.{IsModel, Model, joint_actions}
 use Rattle.dp_spec.specs.Steps.{IsUnassigned, with_choice}
-use Rattle.dp_spec.specs.Sums.{numbers_below}
+use Rattle.dp_base.specs.Sums.{numbers_below}
 use Rattle.dp_spec.specs.WellFormed.{AreAgentFronts, IsFront}
 use Rattle.dp_spec.specs.WellFormed.AreAgentFronts.{and_agent, no_agents}
 use Rattle.dp_spec.proofs.JointNumberLaws.{AreBelow, joint_number_below, parts_below, parts_of-joint_number, positive_left, positive_right}
-use Rattle.dp_laws.proofs.Members.{IsIn, IsIn-below, IsIn-filter}
+use Rattle.dp_base.proofs.Members.{IsIn, IsIn-below, IsIn-filter}
 use Rattle.std.proofs.lemmas.Bool.{and_parts, cases_eq}
 use Rattle.dp_spec.specs.ClassSteps.{actions_for, chosen_joint_action}
 

@@ -3,8 +3,8 @@ use Rattle.std.proofs.Common.{◌≡◌, ℕ, zero, suc, ◌+◌, ◌<◌, pos, 
 use Rattle.dp_laws.proofs.AgreeingActions.{agree_without, chosen_action_agrees}
 use Rattle.dp_laws.proofs.ChosenFronts.{actions_chosen, counts_chosen, joint_class_chosen}
 use Rattle.dp_laws.proofs.QuantityLaws.{exact_quantities}
-use Rattle.dp_laws.proofs.Ring.{zadd_le, zle_of, zle_trans}
-use Rattle.dp_laws.proofs.Sums.{int_sum_le}
+use Rattle.dp_base.proofs.Ring.{zadd_le, zle_of, zle_trans}
+use Rattle.dp_base.proofs.Sums.{int_sum_le}
 use Rattle.dp_laws.proofs.WellFormedSteps.{chosen_is_front}
 use Rattle.dp_spec.specs.Arithmetic.{Arithmetic, exact, point}
 use Rattle.dp_spec.specs.Bound.{agreeing_actions, all_agree, bound_of}
@@ -13,10 +13,10 @@ use Rattle.dp_spec.specs.JointNumbers.{parts_of, product}
 use Rattle.dp_spec.specs.Model.{IsModel, Model, joint_actions, joint_observations}
 use Rattle.dp_spec.specs.Quantities.{action_look_ahead_in, bound_in, class_weight_in, earned_reward_in, history_weight_in, span_history_sum}
 use Rattle.dp_spec.specs.Steps.{IsUnassigned, chosen_front}
-use Rattle.dp_spec.specs.Sums.{greatest, int_sum, numbers_below}
+use Rattle.dp_base.specs.Sums.{greatest, int_sum, numbers_below}
 use Rattle.dp_spec.specs.WellFormed.{IsFront}
-use Rattle.dp_laws.proofs.Members.{IsIn, IsIn-filter, filter-IsIn, some_in}
-use Rattle.dp_laws.proofs.GreatestValues.{greatest_of_part}
+use Rattle.dp_base.proofs.Members.{IsIn, IsIn-filter, filter-IsIn, some_in}
+use Rattle.dp_base.proofs.GreatestValues.{greatest_of_part}
 
 -- what agrees after a choice agreed before it
 still_agrees : (m : Model) (F : Front) (i c a C x : ℕ) → IsUnassigned i c F.agents

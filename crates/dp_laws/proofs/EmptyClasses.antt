@@ -4,8 +4,8 @@ use Rattle.dp_spec.specs.Front.{Front, fixed_joint_action}
 use Rattle.dp_spec.specs.JointHistory.{history_weight}
 use Rattle.dp_spec.specs.Merge.{AreEquivalent, class_of_agent, class_of_others, class_total, place_weight}
 use Rattle.dp_spec.specs.Model.{Model, joint_observations}
-use Rattle.dp_spec.specs.Sums.{nat_sum}
-use Rattle.dp_spec.proofs.NaturalSumLaws.{nat_sum_none}
+use Rattle.dp_base.specs.Sums.{nat_sum}
+use Rattle.dp_base.proofs.NaturalSumLaws.{nat_sum_none}
 use Rattle.dp_laws.proofs.HistorySums.{nat_history_sum_none, nat_history_sum_of_none}
 
 -- where the weights of all states are 0 each of them is

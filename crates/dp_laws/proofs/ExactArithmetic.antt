@@ -4,7 +4,7 @@ use Rattle.std.proofs.lemmas.Int.{ints, clamps}
 use Rattle.std.specs.Int.{int_min}
 use Rattle.dp_spec.specs.declared.scales.Scales.{Scales}
 use Rattle.dp_spec.specs.declared.span.Span.{Span}
-use Rattle.dp_laws.proofs.Ring.{v, zmul_comm, zle_of}
+use Rattle.dp_base.proofs.Ring.{v, zmul_comm, zle_of}
 use Rattle.dp_spec.specs.Arithmetic.{exact}
 use Rattle.dp_spec.specs.Enclosure.{IsSound, equality}
 

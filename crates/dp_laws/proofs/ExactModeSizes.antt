@@ -8,9 +8,9 @@ use Rattle.dp_laws.proofs.ExactPushes.{exact_can_push, chance_point, chances_ste
 use Rattle.dp_laws.proofs.ExactSizes.{chance_size, gained_total, reward_total, tail_size}
 use Rattle.dp_laws.proofs.ExactValueSizes.{looks_most, one_size, table_most, table_parts_most, value_most, weighted_table_most, worth_most}
 use Rattle.dp_laws.proofs.ActingHistories.{class_weights, front_acting}
-use Rattle.dp_laws.proofs.ModeCondition.{reward_most, reward_most_some, step_scale_some}
+use Rattle.dp_spec.proofs.ModeCondition.{reward_most, reward_most_some, step_scale_some}
 use Rattle.dp_laws.proofs.OrderedSpans.{total_size}
-use Rattle.dp_laws.proofs.Scales.{reward_factor_is, step_scale_is, weights_times_value}
+use Rattle.dp_spec.proofs.QuantityScales.{reward_factor_is, step_scale_is, weights_times_value}
 use Rattle.dp_spec.specs.Arithmetic.{exact, reward_factor}
 use Rattle.dp_spec.specs.Calls.{IsPoint, exact_calls, size}
 use Rattle.dp_spec.specs.Front.{Front, fixed_joint_action}
@@ -25,9 +25,9 @@ use Rattle.dp_spec.specs.SizesOfEarnings.{CanEvaluate, IsActing, earned_size, wo
 use Rattle.dp_spec.specs.SizesOfFronts.{CanRefine, IsChoosing, advanced_size, class_reward_size, class_look_size}
 use Rattle.dp_spec.specs.SizesOfLookAhead.{CanLookAhead, next_look_size, weighted_table_size}
 use Rattle.dp_spec.specs.SizesOfTable.{CanTabulate, table_later_size, table_reward_size}
-use Rattle.dp_spec.specs.Sums.{nat_sum}
+use Rattle.dp_base.specs.Sums.{nat_sum}
 use Rattle.dp_spec.specs.WellFormed.{IsFront}
-use Rattle.dp_spec.proofs.NaturalSumLaws.{nat_sum_at}
+use Rattle.dp_base.proofs.NaturalSumLaws.{nat_sum_at}
 
 -- the weight 1 is one number
 one_point : (m : Model) → IsPoint (exact m.scales).one

@@ -6,9 +6,9 @@ use Rattle.dp_laws.proofs.KeptBound.{keeper_under_bound}
 use Rattle.dp_laws.proofs.KeptSteps.{keeps_some_next}
 use Rattle.dp_laws.proofs.LosslessMerging.{merging_loses_nothing}
 use Rattle.dp_laws.proofs.Modes.{model_arithmetic_sound}
-use Rattle.dp_laws.proofs.Order.{equal_or_less, mul_le_right}
+use Rattle.dp_base.proofs.Order.{equal_or_less, mul_le_right}
 use Rattle.dp_laws.proofs.OutwardArithmetic.{IsAbove, smaller_above}
-use Rattle.dp_laws.proofs.Ring.{zle_trans, zle_of}
+use Rattle.dp_base.proofs.Ring.{zle_trans, zle_of}
 use Rattle.dp_laws.proofs.RootFront.{policy_keeps_root, root_is_front}
 use Rattle.dp_laws.proofs.WellFormedSteps.{after_choice_is_front, merged_is_front}
 use Rattle.dp_spec.specs.Arithmetic.{Arithmetic, arithmetic}

@@ -2,7 +2,6 @@ pub mod ActingHistories
 pub mod AdvancedBound
 pub mod AdvancedFronts
 pub mod AgreeingActions
-pub mod GreatestValues
 pub mod BoundOnPath
 pub mod CertificateTexts
 pub mod ChosenBound
@@ -24,7 +23,6 @@ pub mod ExactPushes
 pub mod ExactSizes
 pub mod ExactValueSizes
 pub mod FittingTrees
-pub mod Floors
 pub mod FollowedBound
 pub mod FollowedFronts
 pub mod ForwardValue
@@ -48,14 +46,11 @@ pub mod MergedBound
 pub mod MergedFronts
 pub mod MergedKept
 pub mod MergedTrees
-pub mod Members
 pub mod Merging
-pub mod ModeCondition
 pub mod ModeRowSizes
 pub mod Modes
 pub mod NodeFronts
 pub mod OneStep
-pub mod Order
 pub mod OrderedSpans
 pub mod OutwardArithmetic
 pub mod OutwardHistorySizes
@@ -68,10 +63,8 @@ pub mod PlainWorth
 pub mod PolicyTexts
 pub mod QuantityLaws
 pub mod Recursion
-pub mod Ring
 pub mod FrontRoom
 pub mod RootFront
-pub mod Scales
 pub mod ReducedRows
 pub mod RowSizes
 pub mod SharedForms
@@ -84,7 +77,6 @@ pub mod SizeSums
 pub mod SmallBranches
 pub mod SoundOverScales
 pub mod Spreads
-pub mod Sums
 pub mod TableBound
 pub mod TreeActions
 pub mod TreeDepth

@@ -9,7 +9,7 @@ use Rattle.std.proofs.Math.ListN.{get_or-append}
 use Rattle.std.proofs.lemmas.List.{get_or-append-add}
 use Rattle.dp_laws.proofs.FullBounds.{full_bound_is_value}
 use Rattle.dp_laws.proofs.Leaves.{actions_left}
-use Rattle.dp_laws.proofs.Ring.{zle_of}
+use Rattle.dp_base.proofs.Ring.{zle_of}
 use Rattle.dp_laws.proofs.RootFront.{root_is_front}
 use Rattle.dp_laws.proofs.WellFormedSteps.{after_choice_is_front, merged_is_front}
 use Rattle.dp_laws.specs.GrowthLaws.{root_nodes}

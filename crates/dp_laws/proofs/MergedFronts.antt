@@ -13,7 +13,7 @@ use Rattle.dp_spec.specs.JointNumbers.{joint_number, parts_of, product}
 use Rattle.dp_spec.specs.Merge.{class_of_agent, class_of_others, inserted, merged_agents, merged_front, place_weight, renumbered, without, placed_number, kept_class}
 use Rattle.dp_spec.specs.Model.{Model, joint_actions, joint_observations}
 use Rattle.dp_spec.specs.Steps.{IsUnassigned}
-use Rattle.dp_spec.specs.Sums.{numbers_below}
+use Rattle.dp_base.specs.Sums.{numbers_below}
 use Rattle.dp_spec.specs.WellFormed.{IsFront}
 use Rattle.dp_spec.proofs.JointNumberLaws.{AreBelow, below_at, joint_number_below}
 use Rattle.std.proofs.lemmas.Bool.{cases_lt}

@@ -7,7 +7,7 @@ use Rattle.dp_spec.specs.Calls.{AreInRange}
 use Rattle.dp_spec.proofs.ScaleRange.{scales_in_range}
 use Rattle.dp_laws.proofs.ExactArithmetic.{exact_sound}
 use Rattle.dp_laws.proofs.OutwardArithmetic.{outward_sound}
-use Rattle.dp_laws.proofs.Ring.{zle_of}
+use Rattle.dp_base.proofs.Ring.{zle_of}
 use Rattle.dp_spec.specs.Arithmetic.{arithmetic, exact}
 use Rattle.dp_spec.specs.Enclosure.{IsSound, enclosure}
 use Rattle.dp_spec.specs.Mode.{is_exact_mode, unit_of}

@@ -23,11 +23,11 @@ use Rattle.dp_spec.specs.Quantities.{action_look_ahead_in, class_weight_in, hist
 use Rattle.dp_spec.specs.Sizes.{AreWeights, reward_size, weight_limit}
 use Rattle.dp_spec.specs.SizesOfEarnings.{CanEvaluate, IsActing, earned_size, worth_size}
 use Rattle.dp_spec.specs.SizesOfFronts.{IsChoosing, advanced_size, class_reward_size, CanRefine, class_look_size}
-use Rattle.dp_spec.specs.Sums.{greatest, nat_sum}
+use Rattle.dp_base.specs.Sums.{greatest, nat_sum}
 use Rattle.dp_spec.specs.Value.{joint_root_action, trees_after}
 use Rattle.dp_spec.specs.WellFormed.{IsFront}
-use Rattle.dp_laws.proofs.GreatestValues.{greatest_abs}
-use Rattle.dp_spec.proofs.NaturalSumLaws.{nat_sum_at, nat_sum_most}
+use Rattle.dp_base.proofs.GreatestValues.{greatest_abs}
+use Rattle.dp_base.proofs.NaturalSumLaws.{nat_sum_at, nat_sum_most}
 use Rattle.dp_laws.proofs.HistorySums.{nat_history_sum_const, nat_history_sum_le}
 use Rattle.dp_spec.proofs.ModelLaws.{some_state, some_joint_observation}
 

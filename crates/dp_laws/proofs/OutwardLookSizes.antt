@@ -8,14 +8,14 @@ use Rattle.dp_spec.specs.declared.span.Span.{Span}
 use Rattle.dp_laws.proofs.EnclosedQuantities.{look_ahead_enclosed}
 use Rattle.dp_laws.proofs.ExactArithmetic.{exact_sound}
 use Rattle.dp_laws.proofs.ExactValueSizes.{look_most, value_most}
-use Rattle.dp_laws.proofs.ModeCondition.{reward_most, reward_most_within, step_scale_some}
-use Rattle.dp_laws.proofs.Order.{mul_le_right}
+use Rattle.dp_spec.proofs.ModeCondition.{reward_most, reward_most_within, step_scale_some}
+use Rattle.dp_base.proofs.Order.{mul_le_right}
 use Rattle.dp_laws.proofs.OrderedSpans.{IsOrdered, total_size, weight_ordered}
 use Rattle.dp_laws.proofs.OutwardArithmetic.{outward_sound}
 use Rattle.dp_spec.proofs.ScaleRange.{scales_in_range}
 use Rattle.dp_laws.proofs.OutwardModeSizes.{limit_room, next_weights, reward_room, table_room, weight_le, weight_of}
 use Rattle.dp_laws.proofs.OutwardSizes.{tail_most}
-use Rattle.dp_laws.proofs.Ring.{zle_of}
+use Rattle.dp_base.proofs.Ring.{zle_of}
 use Rattle.dp_laws.proofs.SizeSums.{int_sum_abs}
 use Rattle.dp_spec.specs.Arithmetic.{exact, outward, point}
 use Rattle.dp_spec.specs.Calls.{outward_calls, size}
@@ -25,8 +25,8 @@ use Rattle.dp_spec.specs.Model.{IsModel, Model, joint_actions, joint_observation
 use Rattle.dp_spec.specs.Quantities.{look_ahead_in, mdp_table_in, weighted_table_in, weights_after_in}
 use Rattle.dp_spec.specs.Sizes.{AreWeights, reward_size}
 use Rattle.dp_spec.specs.SizesOfLookAhead.{CanLookAhead, next_look_size, weighted_table_size}
-use Rattle.dp_spec.specs.Sums.{nat_sum}
-use Rattle.dp_spec.proofs.NaturalSumLaws.{nat_sum_add, nat_sum_const, nat_sum_ext, nat_sum_le, nat_sum_most, nat_sum_times}
+use Rattle.dp_base.specs.Sums.{nat_sum}
+use Rattle.dp_base.proofs.NaturalSumLaws.{nat_sum_add, nat_sum_const, nat_sum_ext, nat_sum_le, nat_sum_most, nat_sum_times}
 
 -- a number over d that is at least x over c is not far below 0
 below_zero : (v x : ℤ) (c d B : ℕ) → (x *ℤ pos c) ≤ℤ (v *ℤ pos d) → unsigned_abs x * c ≤ B * d → 0 < d

@@ -11,9 +11,9 @@ use Rattle.dp_spec.specs.Mode.{is_exact_mode}
 use Rattle.dp_spec.specs.Model.{IsModel, Model, joint_observations}
 use Rattle.dp_spec.specs.Quantities.{class_weight_in, history_weight_in}
 use Rattle.dp_spec.specs.SizesOfFronts.{CanRefine}
-use Rattle.dp_spec.specs.Sums.{nat_sum}
+use Rattle.dp_base.specs.Sums.{nat_sum}
 use Rattle.dp_spec.specs.WellFormed.{IsFront}
-use Rattle.dp_spec.proofs.NaturalSumLaws.{nat_sum_at, nat_sum_cond, nat_sum_ext, nat_sum_one, nat_sum_swap}
+use Rattle.dp_base.proofs.NaturalSumLaws.{nat_sum_at, nat_sum_cond, nat_sum_ext, nat_sum_one, nat_sum_swap}
 use Rattle.dp_laws.proofs.HistorySums.{nat_history_sum_ext, nat_history_sum_le, nat_history_sum_swap}
 use Rattle.dp_laws.proofs.MergedFronts.{others_in_range, placed_weight}
 use Rattle.dp_laws.proofs.OrderedSpans.{classes_total, total_size}

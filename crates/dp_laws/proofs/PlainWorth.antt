@@ -21,7 +21,7 @@ use Rattle.dp_spec.specs.PolicyTree.{PolicyTree}
 use Rattle.dp_spec.specs.Quantities.{earned_reward_in, forward_worth_in, history_weight_in, span_history_sum, span_sum, weighted_reward_in, weights_after_in}
 use Rattle.dp_spec.specs.SharedPolicy.{AreRowsOfAgents, IsSharedOf, SharedPolicy, row_counts, unfolded}
 use Rattle.dp_spec.specs.SharedWorth.{joint_row_action, joint_row_count, next_joint_row, row_weight_in, rows_after, rows_earn_in, shared_worth_in}
-use Rattle.dp_spec.specs.Sums.{int_sum}
+use Rattle.dp_base.specs.Sums.{int_sum}
 use Rattle.dp_spec.specs.Value.{joint_root_action, trees_after}
 use Rattle.dp_spec.proofs.JointNumberLaws.{AreBelow, parts_below}
 use Rattle.dp_spec.specs.ClassSteps.{pair_counts, pair_number}

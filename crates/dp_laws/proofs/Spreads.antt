@@ -2,9 +2,9 @@
 use Rattle.std.proofs.Common.{◌≡◌, ℕ, zero, suc, ◌+◌, ◌-◌, ◌*◌, ◌^◌, ◌<◌, ◌≤◌, Bool, false, ℤ, pos, ◌+ℤ◌, ◌≤ℤ◌, neg_ℤ, unsigned_abs, get_or, sym, ap, subst, arith}
 use Rattle.std.proofs.lemmas.Int.{ints}
 use Rattle.dp_laws.proofs.ChosenBound.{chosen_bound_in_le}
-use Rattle.dp_laws.proofs.GreatestValues.{greatest_abs, le_greatest_below}
+use Rattle.dp_base.proofs.GreatestValues.{greatest_abs, le_greatest_below}
 use Rattle.dp_laws.proofs.Leaves.{some_action}
-use Rattle.dp_laws.proofs.Members.{below-IsIn}
+use Rattle.dp_base.proofs.Members.{below-IsIn}
 use Rattle.dp_laws.proofs.SizeLaws.{mode_can_refine}
 use Rattle.dp_laws.proofs.SizeSums.{abs_add, earned_size_le, int_sum_abs}
 use Rattle.dp_laws.proofs.WellFormedSteps.{chosen_is_front}
@@ -21,7 +21,7 @@ use Rattle.dp_spec.specs.Quantities.{action_look_ahead_in, bound_in, class_weigh
 use Rattle.dp_spec.specs.SizesOfEarnings.{earned_size}
 use Rattle.dp_spec.specs.SizesOfFronts.{CanRefine, class_look_size}
 use Rattle.dp_spec.specs.Steps.{IsUnassigned, chosen_front}
-use Rattle.dp_spec.specs.Sums.{greatest, int_sum, numbers_below}
+use Rattle.dp_base.specs.Sums.{greatest, int_sum, numbers_below}
 use Rattle.dp_spec.specs.WellFormed.{IsFront}
 
 -- ---- from below

@@ -2,12 +2,12 @@
 use Rattle.std.proofs.Common.{◌≡◌, ℕ, Bool, true, ℤ, pos, ◌*ℤ◌, ◌≤ℤ◌, sym, ap, ◌∙◌, subst}
 use Rattle.dp_spec.specs.declared.span.Span.{Span}
 use Rattle.dp_laws.proofs.FittingTrees.{fitting_root_bounds}
-use Rattle.dp_laws.proofs.Order.{equal_of_le, le_of_mul_le_right}
+use Rattle.dp_base.proofs.Order.{equal_of_le, le_of_mul_le_right}
 use Rattle.dp_laws.proofs.Leaves.{greatest_leaf-at_most, greatest_leaf_below}
 use Rattle.dp_laws.proofs.Modes.{model_arithmetic_sound, low_reads, mode_unit}
-use Rattle.dp_laws.proofs.Ring.{zle_trans}
+use Rattle.dp_base.proofs.Ring.{zle_trans}
 use Rattle.dp_laws.proofs.RootFront.{root_is_front}
-use Rattle.dp_laws.proofs.Scales.{value_scale_positive}
+use Rattle.dp_spec.proofs.QuantityScales.{value_scale_positive}
 use Rattle.dp_laws.proofs.PlainWorth.{plain_worth_is_forward}
 use Rattle.dp_spec.specs.Quantities.{forward_worth_in}
 use Rattle.dp_laws.proofs.SharedLaws.{exact_shared_worth, shared_worth_in_mode}

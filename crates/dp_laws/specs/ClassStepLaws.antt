@@ -13,7 +13,7 @@ use Rattle.dp_spec.specs.Model.{IsModel, Model, joint_observations}
 use Rattle.dp_spec.specs.Quantities.{class_weight_in, earned_reward_in, span_sum, weighted_reward_in, weights_after_in}
 use Rattle.dp_spec.specs.SizesOfFronts.{CanRefine}
 use Rattle.dp_spec.specs.Steps.{IsUnassigned, advanced_front}
-use Rattle.dp_spec.specs.Sums.{nat_sum}
+use Rattle.dp_base.specs.Sums.{nat_sum}
 use Rattle.dp_spec.specs.WellFormed.{IsFront, KeepsHistoriesApart}
 
 -- ---- when a class steps as its joint histories do

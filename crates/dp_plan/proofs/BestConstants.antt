@@ -4,7 +4,7 @@ use Rattle.std.proofs.lemmas.Int.{ints}
 use Rattle.std.specs.Int.Signed.{lt_z, lt_z_yes, lt_z_no}
 use Rattle.dp_laws.proofs.ConstantPolicies.{constant_policy_fits, root_bound_at_one}
 use Rattle.dp_laws.proofs.ExactArithmetic.{exact_sound}
-use Rattle.dp_laws.proofs.Order.{equal_of_le, last_or_before}
+use Rattle.dp_base.proofs.Order.{equal_of_le, last_or_before}
 use Rattle.dp_laws.proofs.ValidCertificates.{claims_hold}
 use Rattle.dp_laws.proofs.QuantityLaws.{exact_quantities, worth_enclosed}
 use Rattle.dp_spec.specs.declared.span.Span.{Span}
@@ -18,11 +18,11 @@ use Rattle.dp_spec.specs.Mode.{is_exact_mode}
 use Rattle.dp_spec.specs.Model.{IsModel, Model, joint_actions}
 use Rattle.dp_spec.specs.Quantities.{forward_worth_in}
 use Rattle.dp_spec.specs.Steps.{root_front}
-use Rattle.dp_spec.specs.Sums.{greatest, numbers_below}
+use Rattle.dp_base.specs.Sums.{greatest, numbers_below}
 use Rattle.dp_plan.specs.BestConstant.{IsBestConstant, IsFirstGreatest, constant_value}
 use Rattle.dp_plan.specs.ConstantCertificate.{constant_certificate}
 use Rattle.dp_plan.proofs.OneStep.{within_one_step}
-use Rattle.dp_laws.proofs.GreatestValues.{greatest_below_at_most, le_greatest_below}
+use Rattle.dp_base.proofs.GreatestValues.{greatest_below_at_most, le_greatest_below}
 
 -- ---- the first greatest, one number after the other
 

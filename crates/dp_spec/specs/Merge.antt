@@ -1,7 +1,7 @@
 -- Equivalent classes and merging: probabilistic equivalence of histories (JAIR 46 (2013), lossless clustering).
 use Rattle.std.specs.Prelude.{ℕ, zero, suc, ◌-◌, ◌*◌, ◌<◌, ◌≡◌, cond, ◌==◌, nat_lt, List, [], ◌∷◌, map, filter, length, get_or}
 use Rattle.std.specs.List.{range_with_len}
-use Rattle.dp_spec.specs.Sums.{nat_sum}
+use Rattle.dp_base.specs.Sums.{nat_sum}
 use Rattle.dp_spec.specs.JointNumbers.{joint_number, parts_of, product}
 use Rattle.dp_spec.specs.Model.{Model, joint_observations}
 use Rattle.dp_spec.specs.JointHistory.{nat_history_sum, history_weight}

@@ -1,6 +1,6 @@
 -- That a front can be bounded and advanced.
 use Rattle.std.specs.Prelude.{ℕ, suc, ◌+◌, ◌^◌, ◌<◌, ◌≤◌, ◌≡◌, unsigned_abs, List}
-use Rattle.dp_spec.specs.Sums.{greatest, nat_sum}
+use Rattle.dp_base.specs.Sums.{greatest, nat_sum}
 use Rattle.dp_spec.specs.JointNumbers.{product}
 use Rattle.dp_spec.specs.Model.{Model, joint_actions, joint_observations}
 use Rattle.dp_spec.specs.JointHistory.{nat_history_sum}
