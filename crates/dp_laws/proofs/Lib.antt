@@ -93,3 +93,14 @@ pub mod MergedSpans
 pub mod PlaceWeights
 pub mod MergedMembers
 pub mod Zeros
+pub mod ArenaNodes
+pub mod HeldLeaves
+pub mod Growing
+pub mod Searching
+pub mod ArenaTrees
+pub mod SearchPromises
+pub mod FullBounds
+pub mod LowTrees
+pub mod SearchPlans
+pub mod UnequalPlaces
+pub mod RightNodes

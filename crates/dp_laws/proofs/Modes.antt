@@ -1,6 +1,6 @@
 -- the arithmetic of a mode is sound, and what it says in the mode's unit
 use Rattle.std.proofs.Common.{◌≡◌, ℕ, ◌^◌, Bool, true, false, ℤ, pos, ◌*ℤ◌, ◌≤ℤ◌, refl, sym, ap, ◌∙◌}
-use Rattle.std.specs.Prelude.{if◌then◌else◌}
+use Rattle.std.specs.Prelude.{IsTrue, if◌then◌else◌}
 use Rattle.dp_spec.specs.declared.scales.Scales.{Scales}
 use Rattle.dp_spec.specs.declared.span.Span.{Span}
 use Rattle.dp_spec.specs.Calls.{AreInRange}
@@ -8,7 +8,7 @@ use Rattle.dp_spec.proofs.ScaleRange.{scales_in_range}
 use Rattle.dp_laws.proofs.ExactArithmetic.{exact_sound}
 use Rattle.dp_laws.proofs.OutwardArithmetic.{outward_sound}
 use Rattle.dp_base.proofs.Ring.{zle_of}
-use Rattle.dp_spec.specs.Arithmetic.{arithmetic}
+use Rattle.dp_spec.specs.Arithmetic.{arithmetic, exact}
 use Rattle.dp_spec.specs.Enclosure.{IsSound, enclosure}
 use Rattle.dp_spec.specs.Mode.{is_exact_mode, unit_of}
 use Rattle.dp_spec.specs.Model.{IsModel, Model, value_scale}
@@ -39,3 +39,9 @@ pub mode_unit : (m : Model) (h : ℕ) (e : Bool) → e ≡ is_exact_mode m h
     → unit_of m h ≡ (enclosure e).unit (value_scale m h)
 unfolding unit_of
 mode_unit m h e is = ap (λ (t : Bool). if t then value_scale m h else 10 ^ 9) (sym is) ∙ unit_is e (value_scale m h)
+
+-- the arithmetic of exact mode says that it is exact
+pub arithmetic_says : (e : Bool) (c : Scales) → e ≡ true → IsTrue (arithmetic e c).is_exact
+unfolding exact
+arithmetic_says true c same = refl
+arithmetic_says false c same = cc same

@@ -35,10 +35,10 @@ use Rattle.dp_spec.specs.Wide.{has_room, is_wide}
 
 -- ---- facts of all of two lists
 
-all_left : {X : Type 0} (P : X → Type 0) (xs ys : List X) → All P (xs ++ ys) → All P xs
+pub all_left : {X : Type 0} (P : X → Type 0) (xs ys : List X) → All P (xs ++ ys) → All P xs
 all_left P xs ys all = λ i x lt. subst P (get_or_append_left xs ys x i lt) (all i x (let size = length-append xs ys in omega arith))
 
-all_right : {X : Type 0} (P : X → Type 0) (xs ys : List X) → All P (xs ++ ys) → All P ys
+pub all_right : {X : Type 0} (P : X → Type 0) (xs ys : List X) → All P (xs ++ ys) → All P ys
 all_right P xs ys all = λ i x lt. subst P (get_or-append-add xs ys i x) (all (length xs + i) x (let size = length-append xs ys in omega arith))
 
 all_first : {X : Type 0} (P : X → Type 0) (x : X) (xs : List X) → All P (x ∷ xs) → P x

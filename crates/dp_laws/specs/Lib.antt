@@ -19,3 +19,6 @@ pub mod SizeLaws
 pub mod TreeDepthLaws
 pub mod TreeLaws
 pub mod ClassStepLaws
+pub mod GrowthLaws
+pub mod UnequalPlaceLaws
+pub mod ReasonLaws

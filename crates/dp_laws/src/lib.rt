@@ -10,17 +10,20 @@ mod forward_values;
 mod front_bound;
 mod front_steps;
 mod full_fronts;
+mod growth;
 mod horizon_one;
 mod look_ahead;
 mod lossless_merging;
 mod plans;
 mod policy_trees;
+mod reasons;
 mod rooms;
 mod root_fronts;
 mod shared_policies;
 mod sizes;
 mod texts;
 mod tree_depth;
+mod unequal_places;
 
 pub use arithmetics::{
     arithmetic_encloses_the_numbers, arithmetic_is_sound, arithmetic_keeps_zero,
@@ -54,6 +57,9 @@ pub use front_steps::{
 pub use full_fronts::{
     full_front_earns_the_value, full_front_has_one_policy, full_policy_keeps_its_front,
 };
+pub use growth::{
+    arenas_are_counted, arenas_grow, arenas_start, full_bounds_are_values, low_trees_are_closed, search_keeps_its_promises, searched_certificates_are_planned,
+};
 pub use horizon_one::{constant_policy_is_policy, root_bound_is_best_constant_action};
 pub use look_ahead::{
     action_look_ahead_bounds_every_policy, look_ahead_bounds_every_policy, more_look_never_raises,
@@ -67,6 +73,7 @@ pub use plans::plans_of_version_one_end;
 pub use policy_trees::{
     actions_are_of_the_agent, tree_of_any_actions_exists, trees_with_equal_actions_are_equal,
 };
+pub use reasons::fitting_trees_have_right_nodes;
 pub use rooms::{
     advancing_keeps_histories_apart, apart_fronts_have_a_class_each, choices_keep_histories_apart,
     choosing_keeps_histories_apart, no_node_is_wide_in_version_one, nodes_have_room,
@@ -90,3 +97,4 @@ pub use tree_depth::{
     fitting_branches_are_small, paths_below_a_front_are_short, paths_below_the_root_are_limited,
     paths_below_the_root_are_short, paths_of_valid_trees_are_short,
 };
+pub use unequal_places::{first_unequal_place_is_found, least_pair_is_unique};

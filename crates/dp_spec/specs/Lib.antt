@@ -1,5 +1,3 @@
-pub use Rattle.dp_base.specs.Rounding
-pub use Rattle.dp_base.specs.Sums
 pub mod JointNumbers
 pub mod Model
 pub mod PolicyTree
@@ -50,3 +48,10 @@ pub mod SizesOfFronts
 pub mod SizesOfRows
 pub mod ClassSteps
 pub mod Zeros
+pub mod Arena
+pub mod Space
+pub mod Exploration
+pub mod SearchState
+pub mod FrontSpace
+pub mod Searched
+pub mod WholeTree
