@@ -94,3 +94,4 @@ pub mod WellFormedSteps
 pub mod WholeTexts
 pub mod UnequalPlaces
 pub mod RightNodes
+pub mod FirstReasons
