@@ -1,6 +1,6 @@
 -- The first reason why a certificate is not valid: there is none exactly where it is valid, and what it names is what the
 -- definitions give.
-use Rattle.std.proofs.Common.{◌≡◌, ◌⊎◌, inl, inr, ℕ, zero, suc, ◌+◌, ◌<◌, Bool, true, false, not, ◌&&◌, eqb, ltb, IsTrue, pos, List, [], ◌∷◌, ◌++◌, length, get_or, Option, Some, None, refl, sym, ap, ◌∙◌, subst, arith}
+use Rattle.std.proofs.Common.{ℤ, ◌≡◌, ◌⊎◌, inl, inr, ℕ, zero, suc, ◌+◌, ◌<◌, Bool, true, false, not, ◌&&◌, eqb, ltb, IsTrue, pos, List, [], ◌∷◌, ◌++◌, length, get_or, Option, Some, None, refl, sym, ap, ◌∙◌, subst, arith}
 use Rattle.std.specs.Prelude.{◌↔◌, is_none, unwrap_or}
 use Rattle.std.specs.Bool.{Decides, beq}
 use Rattle.std.specs.Cmp.{booleans_Decides}
@@ -362,7 +362,7 @@ module _ (m : Model) (c : Certificate) (r : Reason) where
         | inr rest ↦ named_from_lower mode (holds_without (int_eq c.unit unit) (unit_is unit) (unit_decides m c) rest.0) rest.1
       ]
 
-  pub first_reason_is_found : first_reason m c ≡ Some r → IsFirstReason m c r
+  first_reason_is_found : first_reason m c ≡ Some r → IsFirstReason m c r
   first_reason_is_found e =
       let exact = is_exact_mode m c.horizon in
       elim (either (mode_reason m c) (first_of (unit_reason m c ∷ lower_reason m c ∷ tree_reasons m c)) r e) [
@@ -370,3 +370,147 @@ module _ (m : Model) (c : Certificate) (r : Reason) where
             subst (IsFirstReason m c) fails.1 (refl, fails.0)
         | inr rest ↦ named_from_unit (holds_without (beq c.is_exact exact) (mode_is exact) (mode_decides m c) rest.0) rest.1
       ]
+
+-- ---- what the definitions give is the first reason
+
+fails_gives : {P : Type 0} (b : Bool) (r : Reason) → Decides b P → (P → ⊥) → unless b r ≡ Some r
+fails_gives true r decides fails = absurd (fails (decides.0 refl))
+fails_gives false r decides fails = refl
+
+first_given : (r s : Option Reason) (x : Reason) → r ≡ Some x → option_or r s ≡ Some x
+first_given r s x e = ap (λ (o : Option Reason). option_or o s) e
+
+later_given : (r s : Option Reason) (x : Reason) → r ≡ None → s ≡ Some x → option_or r s ≡ Some x
+later_given r s x e f = ap (λ (o : Option Reason). option_or o s) e ∙ f
+
+module _ (m : Model) (c : Certificate) where
+  -- the reason at a node before which nothing is wrong
+  given_after : (k : ℕ) (before : List Node) (node : Node) (after : List Node) (r : Reason) → AreRightNodes (arithmetic_for m c) m c.horizon before
+      → tree_reason (arithmetic_for m c) m c.horizon (k + length before) node node.tree ≡ Some r
+      → first_of (node_reasons (arithmetic_for m c) m c.horizon k (before ++ node ∷ after) ++ last_reasons m c) ≡ Some r
+  given_after k [] node after r right e =
+      let A = arithmetic_for m c in
+      let same : k + length {A = Node} [] ≡ k = omega arith in
+      first_given (tree_reason A m c.horizon k node node.tree) (first_of (node_reasons A m c.horizon (suc k) after ++ last_reasons m c)) r
+      (ap (λ j. tree_reason A m c.horizon j node node.tree) (sym same) ∙ e)
+  given_after k (n ∷ before) node after r right e =
+      let A = arithmetic_for m c in
+      let P = IsRightNode A m c.horizon in
+      let same : suc k + length before ≡ k + length (n ∷ before) = omega arith in
+      later_given (tree_reason A m c.horizon k n n.tree) (first_of (node_reasons A m c.horizon (suc k) (before ++ node ∷ after) ++ last_reasons m c)) r
+      (none_where_right A m c.horizon k n n.tree (All-head P n before right))
+      (given_after (suc k) before node after r (All-tail P n before right) (ap (λ j. tree_reason A m c.horizon j node node.tree) same ∙ e))
+
+  given_past_head : (r : Reason) → HasRightHead m c → first_of (tree_reasons m c) ≡ Some r → first_reason m c ≡ Some r
+  given_past_head r head e =
+      later_given (mode_reason m c) (first_of (unit_reason m c ∷ lower_reason m c ∷ tree_reasons m c)) r
+      (without_where_holds (beq c.is_exact (is_exact_mode m c.horizon)) (mode_is (is_exact_mode m c.horizon)) (mode_decides m c) head.mode)
+      (later_given (unit_reason m c) (first_of (lower_reason m c ∷ tree_reasons m c)) r
+      (without_where_holds (int_eq c.unit (pos (unit_of m c.horizon))) (unit_is (pos (unit_of m c.horizon))) (unit_decides m c) head.unit)
+      (later_given (lower_reason m c) (first_of (tree_reasons m c)) r
+      (without_where_holds (int_eq c.lower (lower_of m c)) (lower_is (lower_of m c)) (lower_decides m c) head.lower) e))
+
+  given_at_node : (k : ℕ) (r : Reason) (Wrong : Node → BoundTree → Type 0)
+      → ((n : Node) (T : BoundTree) → Wrong n T → tree_reason (arithmetic_for m c) m c.horizon k n T ≡ Some r)
+      → IsFirstWrong m c k Wrong → first_reason m c ≡ Some r
+  given_at_node k r Wrong tells first =
+      let A = arithmetic_for m c in
+      let same : k ≡ 0 + length first.before = let number = first.number in omega arith in
+      let here = ap (λ j. tree_reason A m c.horizon j first.node first.node.tree) (sym same) ∙ tells first.node first.node.tree first.wrong in
+      given_past_head r first.head
+      (ap (λ ns. first_of (node_reasons A m c.horizon 0 ns ++ last_reasons m c)) first.nodes ∙ given_after 0 first.before first.node first.after r first.right here)
+
+  tells_place : (k : ℕ) (n : Node) (T : BoundTree) → ¬ MayStand (arithmetic_for m c) m c.horizon n T
+      → tree_reason (arithmetic_for m c) m c.horizon k n T ≡ Some (no_place k)
+  tells_place k n (leaf x) fails = absurd (fails tt)
+  tells_place k n (branch i k' ks) fails =
+      let count = get_or m.actions i 0 in
+      first_given (unless (may_branch m c.horizon n i k') (no_place k)) (unless (eqb (child_count ks) count) (children_are k count)) (no_place k)
+      (fails_gives (may_branch m c.horizon n i k') (no_place k) (branch_stands (arithmetic_for m c) m c.horizon n i k' ks) fails)
+  tells_place k n (merge i a b below) fails =
+      let may = may_merge (arithmetic_for m c) m c.horizon n i a b in
+      first_given (unless may (no_place k)) (unequal_reason k (first_unequal m n.front i a b)) (no_place k)
+      (fails_gives may (no_place k) (merge_stands (arithmetic_for m c) m c.horizon n i a b below) fails)
+
+  tells_children : (k count : ℕ) (n : Node) (T : BoundTree) → HasOtherChildren m c count n T
+      → tree_reason (arithmetic_for m c) m c.horizon k n T ≡ Some (children_are k count)
+  tells_children k count n (leaf x) other = absurd other
+  tells_children k count n (branch i k' ks) other =
+      let actions = get_or m.actions i 0 in
+      let may = may_branch m c.horizon n i k' in
+      let test = λ (x : ℕ). unless (eqb (child_count ks) x) (children_are k x) in
+      later_given (unless may (no_place k)) (test actions) (children_are k count)
+      (without_where_holds may (no_place k) (branch_stands (arithmetic_for m c) m c.horizon n i k' ks) other.0)
+      (ap test (sym other.1) ∙ fails_gives (eqb (child_count ks) count) (children_are k count) (Decides-eqb (child_count ks) count) other.2)
+  tells_children k count n (merge i a b below) other = absurd other
+
+  tells_unequal : (k p : ℕ) (n : Node) (T : BoundTree) → HasUnequalClasses m c p n T
+      → tree_reason (arithmetic_for m c) m c.horizon k n T ≡ Some (unequal_at k p)
+  tells_unequal k p n (leaf x) unequal = absurd unequal
+  tells_unequal k p n (branch i k' ks) unequal = absurd unequal
+  tells_unequal k p n (merge i a b below) unequal =
+      let may = may_merge (arithmetic_for m c) m c.horizon n i a b in
+      later_given (unless may (no_place k)) (unequal_reason k (first_unequal m n.front i a b)) (unequal_at k p)
+      (without_where_holds may (no_place k) (merge_stands (arithmetic_for m c) m c.horizon n i a b below) unequal.0)
+      (ap (unequal_reason k) ((first_unequal_is m n.front i a b p).1 unequal.1))
+
+  tells_bound : (k : ℕ) (x : ℤ) (n : Node) (T : BoundTree) → HasOtherBound x n T
+      → tree_reason (arithmetic_for m c) m c.horizon k n T ≡ Some (bound_is k x)
+  tells_bound k x n (leaf y) other =
+      let test = λ (z : ℤ). unless (int_eq y z) (bound_is k z) in
+      ap test (sym other.0) ∙ fails_gives (int_eq y x) (bound_is k x) (Decides-int_eq y x) other.1
+  tells_bound k x n (branch i k' ks) other = absurd other
+  tells_bound k x n (merge i a b below) other = absurd other
+
+  given_past_nodes : (r : Reason) → HasRightNodes m c → first_of (last_reasons m c) ≡ Some r → first_reason m c ≡ Some r
+  given_past_nodes r right e =
+      given_past_head r right.head (past 0 (certificate_nodes m c) right.nodes)
+    where
+      past : (k : ℕ) (ns : List Node) → AreRightNodes (arithmetic_for m c) m c.horizon ns
+          → first_of (node_reasons (arithmetic_for m c) m c.horizon k ns ++ last_reasons m c) ≡ Some r
+      past k [] all = e
+      past k (n ∷ ns) all =
+          let A = arithmetic_for m c in
+          let P = IsRightNode A m c.horizon in
+          later_given (tree_reason A m c.horizon k n n.tree) (first_of (node_reasons A m c.horizon (suc k) ns ++ last_reasons m c)) r
+          (none_where_right A m c.horizon k n n.tree (All-head P n ns all)) (past (suc k) ns (All-tail P n ns all))
+
+  found_is_first_reason : (r : Reason) → IsFirstReason m c r → first_reason m c ≡ Some r
+  found_is_first_reason (mode_is e) is =
+      let test = λ (x : Bool). unless (beq c.is_exact x) (mode_is x) in
+      first_given (mode_reason m c) (first_of (unit_reason m c ∷ lower_reason m c ∷ tree_reasons m c)) (mode_is e)
+      (ap test (sym is.0) ∙ fails_gives (beq c.is_exact e) (mode_is e) (booleans_Decides c.is_exact e) is.1)
+  found_is_first_reason (unit_is u) is =
+      let test = λ (x : ℤ). unless (int_eq c.unit x) (unit_is x) in
+      later_given (mode_reason m c) (first_of (unit_reason m c ∷ lower_reason m c ∷ tree_reasons m c)) (unit_is u)
+      (without_where_holds (beq c.is_exact (is_exact_mode m c.horizon)) (mode_is (is_exact_mode m c.horizon)) (mode_decides m c) is.0)
+      (first_given (unit_reason m c) (first_of (lower_reason m c ∷ tree_reasons m c)) (unit_is u)
+      (ap test (sym is.1) ∙ fails_gives (int_eq c.unit u) (unit_is u) (Decides-int_eq c.unit u) is.2))
+  found_is_first_reason (lower_is x) is =
+      let test = λ (y : ℤ). unless (int_eq c.lower y) (lower_is y) in
+      later_given (mode_reason m c) (first_of (unit_reason m c ∷ lower_reason m c ∷ tree_reasons m c)) (lower_is x)
+      (without_where_holds (beq c.is_exact (is_exact_mode m c.horizon)) (mode_is (is_exact_mode m c.horizon)) (mode_decides m c) is.0)
+      (later_given (unit_reason m c) (first_of (lower_reason m c ∷ tree_reasons m c)) (lower_is x)
+      (without_where_holds (int_eq c.unit (pos (unit_of m c.horizon))) (unit_is (pos (unit_of m c.horizon))) (unit_decides m c) is.1)
+      (first_given (lower_reason m c) (first_of (tree_reasons m c)) (lower_is x)
+      (ap test (sym is.2) ∙ fails_gives (int_eq c.lower x) (lower_is x) (Decides-int_eq c.lower x) is.3)))
+  found_is_first_reason (no_place k) is = given_at_node k (no_place k) _ (tells_place k) is
+  found_is_first_reason (children_are k count) is = given_at_node k (children_are k count) _ (tells_children k count) is
+  found_is_first_reason (unequal_at k p) is = given_at_node k (unequal_at k p) _ (tells_unequal k p) is
+  found_is_first_reason (bound_is k x) is = given_at_node k (bound_is k x) _ (tells_bound k x) is
+  found_is_first_reason (inner_is count) is =
+      let test = λ (x : ℕ). unless (eqb c.inner x) (inner_is x) in
+      given_past_nodes (inner_is count) is.0
+      (first_given (inner_reason m c) (first_of (upper_reason m c ∷ [])) (inner_is count)
+      (ap test (sym is.1) ∙ fails_gives (eqb c.inner count) (inner_is count) (Decides-eqb c.inner count) is.2))
+  found_is_first_reason (upper_is x) is =
+      let test = λ (y : ℤ). unless (int_eq c.upper y) (upper_is y) in
+      given_past_nodes (upper_is x) is.0
+      (later_given (inner_reason m c) (first_of (upper_reason m c ∷ [])) (upper_is x)
+      (without_where_holds (eqb c.inner (inner_count c.tree)) (inner_is (inner_count c.tree)) (inner_decides m c) is.1)
+      (first_given (upper_reason m c) None (upper_is x)
+      (ap test (sym is.2) ∙ fails_gives (int_eq c.upper x) (upper_is x) (Decides-int_eq c.upper x) is.3)))
+
+-- the first reason is the one of which the definitions say what it says
+pub first_reason_is : (m : Model) (c : Certificate) (r : Reason) → (first_reason m c ≡ Some r) ↔ IsFirstReason m c r
+first_reason_is m c r = (first_reason_is_found m c r, found_is_first_reason m c r)

@@ -11,8 +11,8 @@ pub fn valid_certificates_have_no_reason()
     ensures { NoReasonWhereValid }
 {}
 
-/// The first reason against a certificate names what the definitions give: all that is checked
-/// before it is right, and what it names is not what the certificate states.
+/// A reason against a certificate is the first exactly where the definitions find what it says: all
+/// that is checked before it is right, and what it names, which they give, is not what is stated.
 pub fn first_reason_is_what_is_found()
     ensures { FirstReasonIsFound }
 {}
