@@ -6,7 +6,7 @@ use Rattle.dp_io.specs.declared.shelf.FetchFault.{FetchFault}
 use Rattle.dp_io.specs.declared.shelf.FetchFault.TheVariants.{Failed, TooLong, Memory}
 use Rattle.dp_io.specs.Shelf.{ShelfView}
 use Rattle.dp_io.specs.Sink.{SinkView}
-use Rattle.dp_num.specs.declared.memory.Memory.{Memory as MemoryFault}
+use Rattle.dp_base.specs.declared.memory.Memory.{Memory as MemoryFault}
 use Rattle.dp_words.specs.declared.job.Job.{Job}
 use Rattle.dp_words.specs.declared.job.WordFault.{WordFault}
 use Rattle.dp_words.specs.declared.job.WordFault.TheVariants as word_faults

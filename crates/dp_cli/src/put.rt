@@ -6,10 +6,10 @@ ghost use Rattle.dp_cli.specs.Put.{PutsAnswer};
 ghost use Rattle.dp_cli.specs.Steps.{PutsOutcome, PutsRefusal};
 
 use crate::{JobFault, Refusal, Status};
+use dp_base::Memory;
 use dp_io::Sink;
 use dp_meaning::Why;
 use dp_model::TooLarge;
-use dp_num::Memory;
 use std::alloc::Global;
 
 // Puts the text, or the line that tells why there is none.

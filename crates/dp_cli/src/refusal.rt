@@ -2,10 +2,10 @@ ghost use Rattle.std.specs.Prelude.{◌≡◌};
 ghost use Rattle.dp_cli.specs.Refusal.{word_refusal, fetch_refusal};
 
 use crate::Status;
+use dp_base::Memory;
 use dp_io::FetchFault;
 use dp_meaning::Why;
 use dp_model::{Limit, TooLarge};
-use dp_num::Memory;
 use dp_reader::ModelFault;
 use dp_words::WordFault;
 

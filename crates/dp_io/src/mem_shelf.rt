@@ -5,7 +5,7 @@ ghost use Rattle.std.specs.Option.{option_copied};
 ghost use Rattle.std.specs.Str.{bytes_eq};
 
 use crate::{Ending, FetchFault, Log, Shelf, Texts};
-use dp_num::Memory;
+use dp_base::Memory;
 use std::alloc::Global;
 use std::marker::Model;
 

@@ -2,7 +2,7 @@
 ghost use Rattle.std.specs.Prelude.{◌≡◌, ◌<◌, ◌+◌, ◌++◌, ◌^◌, [], length, take, Some, None, IfOk};
 
 use crate::{Sink, SinkFailed, Texts};
-use dp_num::Memory;
+use dp_base::Memory;
 use std::alloc::Global;
 use std::marker::Model;
 

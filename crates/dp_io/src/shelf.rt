@@ -2,7 +2,7 @@
 ghost use Rattle.std.specs.Prelude.{◌<◌, ◌^◌, ◌≡◌};
 ghost use Rattle.dp_io.specs.declared.shelf.FetchFault.TheVariants as faults;
 
-use dp_num::Memory;
+use dp_base::Memory;
 use std::alloc::{AllocError, Global};
 
 /// Why a fetch gave nothing.

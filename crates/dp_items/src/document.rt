@@ -9,9 +9,9 @@ use crate::item::Item;
 use crate::item_span::{ItemSpans, items_of};
 use crate::line::{LineSpan, lines_of, without_line_ends};
 use crate::pieces::Pieces;
+use dp_base::Memory;
 use dp_lexer::Token;
 use dp_meaning::{Fault, Why};
-use dp_num::Memory;
 use std::alloc::Global;
 use std::marker::Model;
 

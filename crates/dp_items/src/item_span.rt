@@ -6,8 +6,8 @@ ghost use Rattle.dp_items.specs.ItemSpans.{AreItemsOf};
 
 use crate::line::LineSpan;
 use crate::pieces::Pieces;
+use dp_base::Memory;
 use dp_lexer::Kind;
-use dp_num::Memory;
 use std::alloc::Global;
 
 /// The lines of an item: its first, and those behind it, before `lines_past`. Its pieces end before

@@ -3,8 +3,8 @@ ghost use Rattle.std.specs.Prelude.{◌≡◌, ◌++◌, ◌^◌, ◌≤◌, fil
 ghost use Rattle.dp_items.specs.Lines.{is_no_line_end, unless_empty, AreLinesOf};
 
 use crate::pieces::Pieces;
+use dp_base::Memory;
 use dp_lexer::{Kind, Token};
-use dp_num::Memory;
 use std::alloc::{AllocError, Global};
 
 /// The pieces from `first` up to `past`, line ends aside, and where the line's end stands, or the

@@ -1,15 +1,15 @@
 -- a bound does not grow by advancing
 use Rattle.std.proofs.Common.{◌≡◌, ℕ, zero, suc, ◌+◌, ◌-◌, ◌<◌, Bool, true, false, cond, eqb, ℤ, pos, ◌+ℤ◌, ◌≤ℤ◌, List, refl, sym, ap, ◌∙◌, arith}
 use Rattle.std.proofs.lemmas.Int.{ints}
-use Rattle.dp_laws.proofs.Order.{add_le_right}
+use Rattle.dp_base.proofs.Order.{add_le_right}
 use Rattle.dp_laws.proofs.AdvancedFronts.{action_at, action_before, as_many_agents, class_in_range, counts_are_pairs, pair_weight, weight_same, weight_same_to}
-use Rattle.dp_laws.proofs.AgreeingActions.{chosen_action_agrees, chosen_joint_action}
+use Rattle.dp_laws.proofs.AgreeingActions.{chosen_action_agrees}
 use Rattle.dp_laws.proofs.JointPairs.{int_sum_pairs}
 use Rattle.dp_laws.proofs.LinearSteps.{reward_of_histories}
 use Rattle.dp_laws.proofs.LongerLook.{longer_look_le}
 use Rattle.dp_laws.proofs.ConstantPolicies.{last_action}
-use Rattle.dp_laws.proofs.Ring.{zadd_le, zle_of, zle_trans}
-use Rattle.dp_laws.proofs.Sums.{int_sum_add, int_sum_ext, int_sum_le}
+use Rattle.dp_base.proofs.Ring.{zadd_le, zle_of, zle_trans}
+use Rattle.dp_base.proofs.Sums.{int_sum_add, int_sum_ext, int_sum_le}
 use Rattle.dp_laws.proofs.WellFormedSteps.{advanced_is_front}
 use Rattle.dp_spec.specs.Bound.{agreeing_actions, bound_of}
 use Rattle.dp_spec.specs.Front.{Front, class_counts, class_weight, fixed_joint_action, joint_class}
@@ -18,12 +18,13 @@ use Rattle.dp_spec.specs.JointNumbers.{product}
 use Rattle.dp_spec.specs.LookAhead.{action_look_ahead, look_ahead, weighted_reward, weights_after}
 use Rattle.dp_spec.specs.Model.{IsModel, Model, joint_actions, joint_observations}
 use Rattle.dp_spec.specs.Steps.{advanced_front, is_complete}
-use Rattle.dp_spec.specs.Sums.{greatest, int_sum, numbers_below}
+use Rattle.dp_base.specs.Sums.{greatest, int_sum, numbers_below}
 use Rattle.dp_spec.specs.WellFormed.{IsFront}
-use Rattle.dp_laws.proofs.Members.{IsIn, filter-IsIn, some_in}
-use Rattle.dp_laws.proofs.GreatestValues.{greatest_ext, greatest_of_part, le_greatest}
+use Rattle.dp_base.proofs.Members.{IsIn, filter-IsIn, some_in}
+use Rattle.dp_base.proofs.GreatestValues.{greatest_ext, greatest_of_part, le_greatest}
 use Rattle.dp_laws.proofs.HistorySums.{int_history_sum_ext, int_history_sum_group}
 use Rattle.std.proofs.lemmas.Bool.{eqb-true}
+use Rattle.dp_spec.specs.ClassSteps.{chosen_joint_action}
 
 -- with look k + 1 a joint action earns its reward and the look-ahead with look k of what follows
 pub action_look_ahead_is : (m : Model) (r : ℕ) (w : ℕ → ℕ) (a k : ℕ)

@@ -2,7 +2,7 @@
 use Rattle.std.proofs.Common.{◌≡◌, ℕ, suc, ◌+◌, ◌<◌, Bool, true, false, ◌≤ℤ◌, get_or, refl, subst, arith}
 use Rattle.dp_laws.proofs.AdvancedBound.{advanced_bound_le}
 use Rattle.dp_laws.proofs.ChosenBound.{chosen_bound_le}
-use Rattle.dp_laws.proofs.Ring.{zle_of, zle_trans}
+use Rattle.dp_base.proofs.Ring.{zle_of, zle_trans}
 use Rattle.dp_laws.proofs.WellFormedSteps.{chosen_is_front}
 use Rattle.dp_spec.specs.Bound.{bound_of}
 use Rattle.dp_spec.specs.Front.{Front}

@@ -8,7 +8,7 @@ use Rattle.dp_spec.specs.JointNumbers.{joint_number, product}
 use Rattle.dp_spec.specs.Merge.{AreEquivalent, class_of_agent, class_of_others, class_total, place_weight, without}
 use Rattle.dp_spec.specs.Model.{Model, joint_observations}
 use Rattle.dp_spec.specs.Steps.{chosen_front, with_choice}
-use Rattle.dp_spec.specs.Sums.{nat_sum}
+use Rattle.dp_base.specs.Sums.{nat_sum}
 
 fixed_chosen : (i c a : ℕ) (ds : List AgentFront) (t : ℕ) (xs : List ℕ)
     → fixed_actions (with_choice i c a ds) t xs ≡ fixed_actions ds t xs
@@ -41,7 +41,8 @@ module _ (m : Model) (F : Front) (i c a : ℕ) where
   unfolding fixed_joint_action
   actions_chosen = λ k H. joint_number m.actions (fixed_chosen i c a F.agents (length H) (own_histories m.observations H) k)
 
-  joint_class_chosen : joint_class m G ≡ joint_class m F
+  -- the joint classes stay
+  pub joint_class_chosen : joint_class m G ≡ joint_class m F
   unfolding joint_class
   joint_class_chosen = λ k H. joint_number (counts_chosen i c a F.agents k) (classes_chosen i c a F.agents (own_histories m.observations H) k)
 

@@ -1,7 +1,7 @@
 -- constant policies are joint policies of the model, and the root's bound at horizon 1 is the greatest of their values
 use Rattle.std.proofs.Common.{◌≡◌, ℕ, zero, suc, ◌<◌, true, ℤ, pos, ◌+ℤ◌, List, [], ◌∷◌, map, length, get_or, Option, None, refl, sym, ap, ◌∙◌, arith}
 use Rattle.std.proofs.lemmas.Int.{ints}
-use Rattle.dp_laws.proofs.Sums.{int_sum_zero}
+use Rattle.dp_base.proofs.Sums.{int_sum_zero}
 use Rattle.dp_laws.proofs.EarnedValue.{policy_value_is_recursive}
 use Rattle.dp_spec.specs.Bound.{agreeing_actions, agrees, all_agree, bound_of}
 use Rattle.dp_spec.specs.ConstantPolicy.{constant_policy, constant_tree, constant_trees, repeated_tree}
@@ -12,11 +12,11 @@ use Rattle.dp_spec.specs.Model.{IsModel, Model, joint_actions, joint_observation
 use Rattle.dp_spec.specs.PolicyTree.{ArePolicyTrees, IsJointPolicy, IsPolicyOf, IsPolicyTree, PolicyTree, root_action}
 use Rattle.dp_spec.specs.PolicyTree.IsJointPolicy.{and_agent, no_agents}
 use Rattle.dp_spec.specs.Steps.{root_agent, root_front}
-use Rattle.dp_spec.specs.Sums.{greatest, int_sum, numbers_below}
+use Rattle.dp_base.specs.Sums.{greatest, int_sum, numbers_below}
 use Rattle.dp_spec.specs.Value.{joint_root_action, policy_value}
 use Rattle.dp_spec.proofs.JointNumberLaws.{AreBelow, joint_number-parts_of, parts_below}
-use Rattle.dp_laws.proofs.GreatestValues.{greatest_ext}
-use Rattle.dp_laws.proofs.Members.{below-IsIn, filter_all}
+use Rattle.dp_base.proofs.GreatestValues.{greatest_ext}
+use Rattle.dp_base.proofs.Members.{below-IsIn, filter_all}
 
 repeated_fits : (b n r c : ℕ) (q : PolicyTree) → IsPolicyTree b n r q → ArePolicyTrees b n r c (repeated_tree c q)
 repeated_fits b n r zero q h = tt

@@ -1,7 +1,7 @@
 -- The value of a joint policy by a recursion forwards, and as what is earned.
 use Rattle.std.proofs.Common.{◌≡◌, ℕ, zero, suc, ◌*◌, ◌^◌, ◌<◌, ℤ, pos, ◌+ℤ◌, ◌*ℤ◌, List, refl, sym, ap, ◌∙◌, arith}
 use Rattle.std.proofs.lemmas.Int.{ints}
-use Rattle.dp_laws.proofs.Sums.{int_sum_ext, int_sum_weigh}
+use Rattle.dp_base.proofs.Sums.{int_sum_ext, int_sum_weigh}
 use Rattle.dp_laws.proofs.ForwardValue.{forward_is_backward}
 use Rattle.dp_laws.proofs.OneStep.{one_step}
 use Rattle.dp_laws.proofs.HistorySums.{int_history_sum_ext, int_history_sum_zero}
@@ -10,10 +10,10 @@ use Rattle.dp_spec.specs.LookAhead.{look_ahead, weighted_reward, weights_after}
 use Rattle.dp_spec.specs.MdpTable.{mdp_table}
 use Rattle.dp_spec.specs.Model.{Model, joint_actions, joint_observations, obs_at, reward_at, start_at, step_scale, trans_at}
 use Rattle.dp_spec.specs.PolicyTree.{PolicyTree}
-use Rattle.dp_spec.specs.Sums.{int_sum, numbers_below}
+use Rattle.dp_base.specs.Sums.{int_sum, numbers_below}
 use Rattle.dp_spec.specs.Value.{backward_value, joint_root_action, policy_value, trees_after}
-use Rattle.dp_laws.proofs.GreatestValues.{greatest_ext}
-use Rattle.dp_spec.proofs.NaturalSumLaws.{nat_sum_ext}
+use Rattle.dp_base.proofs.GreatestValues.{greatest_ext}
+use Rattle.dp_base.proofs.NaturalSumLaws.{nat_sum_ext}
 
 -- what a recursion that pushes weights forwards returns
 abbrev pub recursive_value : Model → ℕ → (ℕ → ℕ) → List PolicyTree → ℤ

@@ -3,17 +3,17 @@ use Rattle.std.proofs.Common.{◌≡◌, ℕ, zero, suc, ◌<◌, ◌≤◌, Boo
 use Rattle.std.specs.Int.{int_min}
 use Rattle.dp_spec.specs.declared.span.Span.{Span}
 use Rattle.dp_laws.proofs.Recursion.{span_sum_ext}
-use Rattle.dp_laws.proofs.Sums.{int_sum_ext}
+use Rattle.dp_base.proofs.Sums.{int_sum_ext}
 use Rattle.dp_spec.specs.Arithmetic.{Arithmetic, span_add}
 use Rattle.dp_spec.specs.Calls.{IsPoint, size}
 use Rattle.dp_spec.specs.Model.{Model, joint_actions, joint_observations, obs_at, reward_at, trans_at}
 use Rattle.dp_spec.specs.PolicyTree.{PolicyTree}
 use Rattle.dp_spec.specs.Quantities.{look_ahead_in, mdp_table_in, recursive_worth_in, span_sum, weighted_reward_in, weighted_table_in, weights_after_in}
 use Rattle.dp_spec.specs.Sizes.{AreWeights, weight_limit}
-use Rattle.dp_spec.specs.Sums.{greatest, int_sum, numbers_below}
+use Rattle.dp_base.specs.Sums.{greatest, int_sum, numbers_below}
 use Rattle.dp_spec.specs.Value.{joint_root_action, trees_after}
-use Rattle.dp_laws.proofs.GreatestValues.{greatest_ext}
-use Rattle.dp_spec.proofs.NaturalSumLaws.{nat_sum_ext}
+use Rattle.dp_base.proofs.GreatestValues.{greatest_ext}
+use Rattle.dp_base.proofs.NaturalSumLaws.{nat_sum_ext}
 
 module _ (A : Arithmetic) (m : Model) where
   -- the next weights

@@ -5,9 +5,9 @@ use Rattle.std.proofs.lemmas.Nat.{pow-add}
 use Rattle.dp_spec.specs.declared.span.Span.{Span}
 use Rattle.dp_laws.proofs.ExactSizes.{pushed_total, reward_total}
 use Rattle.dp_laws.proofs.ExactValueSizes.{looks_most, value_most}
-use Rattle.dp_laws.proofs.ModeCondition.{reward_most}
+use Rattle.dp_spec.proofs.ModeCondition.{reward_most}
 use Rattle.dp_laws.proofs.OrderedSpans.{classes_total, total_size}
-use Rattle.dp_laws.proofs.Scales.{scale_of_first, scale_of_next, weights_times_value}
+use Rattle.dp_spec.proofs.QuantityScales.{scale_of_first, scale_of_next, weights_times_value}
 use Rattle.dp_laws.proofs.SizeSums.{action_look_le, agreeing_below}
 use Rattle.dp_spec.specs.Arithmetic.{exact}
 use Rattle.dp_spec.specs.Bound.{agreeing_actions}
@@ -20,9 +20,9 @@ use Rattle.dp_spec.specs.Quantities.{action_look_ahead_in, class_weight_in, hist
 use Rattle.dp_spec.specs.Sizes.{reward_size}
 use Rattle.dp_spec.specs.SizesOfEarnings.{IsActing, earned_size}
 use Rattle.dp_spec.specs.SizesOfFronts.{IsChoosing, advanced_size, class_look_size, class_reward_size}
-use Rattle.dp_spec.specs.Sums.{greatest, nat_sum}
-use Rattle.dp_laws.proofs.GreatestValues.{greatest_abs}
-use Rattle.dp_spec.proofs.NaturalSumLaws.{nat_sum_ext, nat_sum_le, nat_sum_times}
+use Rattle.dp_base.specs.Sums.{greatest, nat_sum}
+use Rattle.dp_base.proofs.GreatestValues.{greatest_abs}
+use Rattle.dp_base.proofs.NaturalSumLaws.{nat_sum_ext, nat_sum_le, nat_sum_times}
 use Rattle.dp_laws.proofs.HistorySums.{nat_history_sum_le, nat_history_sum_times}
 
 module _ (m : Model) (is : IsModel m) where

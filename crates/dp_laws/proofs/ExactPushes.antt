@@ -5,18 +5,18 @@ use Rattle.dp_spec.specs.declared.span.Span.{Span}
 use Rattle.dp_spec.specs.declared.scales.Scales.{Scales}
 use Rattle.dp_laws.proofs.ExactHistorySizes.{start_total}
 use Rattle.dp_laws.proofs.ExactSizes.{chance_size, later_size, next_parts, pushed_total}
-use Rattle.dp_laws.proofs.ModeCondition.{exact_condition, reward_most, reward_most_some, step_scale_some}
+use Rattle.dp_spec.proofs.ModeCondition.{exact_condition, reward_most, reward_most_some, step_scale_some}
 use Rattle.dp_laws.proofs.OrderedSpans.{IsOrdered, sum_ordered, sum_point, times_ordered, total_size, weight_ordered}
-use Rattle.dp_laws.proofs.Ring.{zle_of, zle_pos}
-use Rattle.dp_laws.proofs.Scales.{scale_of_first, scale_of_next, step_scale_is}
+use Rattle.dp_base.proofs.Ring.{zle_of, zle_pos}
+use Rattle.dp_spec.proofs.QuantityScales.{scale_of_first, scale_of_next, step_scale_is}
 use Rattle.dp_spec.specs.Arithmetic.{exact}
 use Rattle.dp_spec.specs.Calls.{IsPoint, exact_calls, size}
 use Rattle.dp_spec.specs.Mode.{is_exact_mode}
 use Rattle.dp_spec.specs.Model.{IsModel, Model, joint_actions, joint_observations, obs_at, start_at, step_scale, trans_at}
 use Rattle.dp_spec.specs.Quantities.{weights_after_in}
 use Rattle.dp_spec.specs.Sizes.{AreWeights, CanPush, IsStep}
-use Rattle.dp_spec.specs.Sums.{nat_sum}
-use Rattle.dp_spec.proofs.NaturalSumLaws.{nat_sum_at}
+use Rattle.dp_base.specs.Sums.{nat_sum}
+use Rattle.dp_base.proofs.NaturalSumLaws.{nat_sum_at}
 
 -- a weight times chances is one number where the weight is
 pub chance_point : (c : Scales) (w : Span) (p z : ℕ) → IsPoint w → IsPoint ((exact c).chance w p z)

@@ -4,9 +4,9 @@ use Rattle.std.proofs.lemmas.Int.{unsigned_abs-mul}
 use Rattle.std.proofs.Math.Nat.{pow-suc, mul-le-mul_left, mul-le-mul_right}
 use Rattle.dp_spec.specs.declared.span.Span.{Span}
 use Rattle.dp_spec.specs.declared.scales.Scales.{Scales}
-use Rattle.dp_laws.proofs.ModeCondition.{reward_at_most, reward_most}
+use Rattle.dp_spec.proofs.ModeCondition.{reward_at_most, reward_most}
 use Rattle.dp_laws.proofs.OrderedSpans.{total_size}
-use Rattle.dp_laws.proofs.Scales.{step_scale_is}
+use Rattle.dp_spec.proofs.QuantityScales.{reward_factor_is, step_scale_is}
 use Rattle.dp_laws.proofs.SizeSums.{pushed_size_le}
 use Rattle.dp_spec.specs.Arithmetic.{exact, reward_factor}
 use Rattle.dp_spec.specs.Calls.{size}
@@ -14,8 +14,8 @@ use Rattle.dp_spec.specs.LookAhead.{weights_after}
 use Rattle.dp_spec.specs.Model.{IsModel, Model, joint_actions, joint_observations, obs_at, reward_at, step_scale, trans_at}
 use Rattle.dp_spec.specs.Quantities.{weights_after_in}
 use Rattle.dp_spec.specs.Sizes.{reward_size}
-use Rattle.dp_spec.specs.Sums.{nat_sum}
-use Rattle.dp_spec.proofs.NaturalSumLaws.{nat_sum_at, nat_sum_ext, nat_sum_le, nat_sum_scale, nat_sum_swap, nat_sum_times}
+use Rattle.dp_base.specs.Sums.{nat_sum}
+use Rattle.dp_base.proofs.NaturalSumLaws.{nat_sum_at, nat_sum_ext, nat_sum_le, nat_sum_scale, nat_sum_swap, nat_sum_times}
 
 -- ---- the operations
 max_times : (a b n : ℕ) → max (a * n) (b * n) ≡ max a b * n
@@ -63,11 +63,6 @@ carry_size c v p = unsigned_abs-mul v (pos (p * c.obs * c.gain))
 pub tail_size : (c : Scales) (w : Span) (v : ℤ) → unsigned_abs ((exact c).tail w v) ≤ size w * unsigned_abs v
 unfolding exact
 tail_size c w v = let le : unsigned_abs w.low ≤ size w = omega arith in rw (unsigned_abs-mul w.low v) (mul-le-mul_right (unsigned_abs v) le)
-
--- the factor of a reward by the step scale
-pub reward_factor_is : (m : Model) (r : ℕ) → reward_factor m.scales r ≡ m.scales.discount * step_scale m ^ r
-unfolding reward_factor step_scale
-reward_factor_is m r = refl
 
 -- one weight with its chances and discount, and with its reward
 pushed_part : (c : Scales) (w : Span) (p z : ℕ)

@@ -3,10 +3,10 @@ use Rattle.std.proofs.Common.{◌≡◌, ℕ, zero, suc, ◌+◌, ◌*◌, ◌^�
 use Rattle.std.proofs.Math.Nat.{pow-suc, mul-le-mul_left, mul-le-mul_right, mul-le-mul}
 use Rattle.dp_spec.specs.declared.span.Span.{Span}
 use Rattle.dp_laws.proofs.ExactSizes.{carry_size, gained_total, pushed_total, reward_total, tail_size}
-use Rattle.dp_laws.proofs.ModeCondition.{reward_most}
+use Rattle.dp_spec.proofs.ModeCondition.{reward_most}
 use Rattle.dp_laws.proofs.OneStep.{trees_after_fit, root_joint_action_below}
 use Rattle.dp_laws.proofs.OrderedSpans.{total_size}
-use Rattle.dp_laws.proofs.Scales.{step_scale_is}
+use Rattle.dp_spec.proofs.QuantityScales.{step_scale_is}
 use Rattle.dp_laws.proofs.SizeSums.{abs_add, abs_min, int_sum_abs, reward_size_le, table_action_le}
 use Rattle.dp_spec.specs.Arithmetic.{exact}
 use Rattle.dp_spec.specs.Calls.{size}
@@ -17,11 +17,11 @@ use Rattle.dp_spec.specs.Sizes.{reward_size}
 use Rattle.dp_spec.specs.SizesOfEarnings.{worth_size}
 use Rattle.dp_spec.specs.SizesOfLookAhead.{next_look_size, weighted_table_size}
 use Rattle.dp_spec.specs.SizesOfTable.{table_later_size, table_reward_size}
-use Rattle.dp_spec.specs.Sums.{int_sum, nat_sum, numbers_below}
+use Rattle.dp_base.specs.Sums.{int_sum, nat_sum, numbers_below}
 use Rattle.dp_spec.specs.Value.{joint_root_action, trees_after}
-use Rattle.dp_laws.proofs.Members.{below-IsIn}
-use Rattle.dp_laws.proofs.GreatestValues.{greatest_abs}
-use Rattle.dp_spec.proofs.NaturalSumLaws.{nat_sum_le, nat_sum_scale, nat_sum_times}
+use Rattle.dp_base.proofs.Members.{below-IsIn}
+use Rattle.dp_base.proofs.GreatestValues.{greatest_abs}
+use Rattle.dp_base.proofs.NaturalSumLaws.{nat_sum_le, nat_sum_scale, nat_sum_times}
 
 -- a reward now and r rewards after it
 one_more : (M K r most p q : ℕ) → q ≡ p * K → M * (most * q) + M * K * (r * most * p) ≡ M * (suc r * most * q)

@@ -1,9 +1,9 @@
 -- A joint policy that follows a front with steps left is worth at most its bound.
 use Rattle.std.proofs.Common.{◌≡◌, ℕ, suc, ◌+◌, ◌<◌, Bool, true, false, cond, eqb, ℤ, pos, ◌+ℤ◌, ◌*ℤ◌, ◌≤ℤ◌, List, map, refl, sym, ap, ◌∙◌}
 use Rattle.std.proofs.Math.IntN.{zero-*ℤ}
-use Rattle.dp_laws.proofs.Order.{add_le_right}
-use Rattle.dp_laws.proofs.Ring.{zle_trans, zle_of}
-use Rattle.dp_laws.proofs.Sums.{int_sum_ext, int_sum_le, int_sum_zero}
+use Rattle.dp_base.proofs.Order.{add_le_right}
+use Rattle.dp_base.proofs.Ring.{zle_trans, zle_of}
+use Rattle.dp_base.proofs.Sums.{int_sum_ext, int_sum_le, int_sum_zero}
 use Rattle.dp_laws.proofs.OneStep.{value_le_action_look_ahead, root_joint_action_below}
 use Rattle.dp_laws.proofs.ForwardValue.{forward_is_backward}
 use Rattle.dp_laws.proofs.OwnHistories.{own_histories_within, followed_from_start}
@@ -18,11 +18,11 @@ use Rattle.dp_laws.specs.Following.{FollowsAgentFronts}
 use Rattle.dp_spec.specs.LookAhead.{action_look_ahead}
 use Rattle.dp_spec.specs.Model.{IsModel, Model, joint_actions, joint_observations}
 use Rattle.dp_spec.specs.PolicyTree.{PolicyTree, root_action}
-use Rattle.dp_spec.specs.Sums.{greatest, int_sum, numbers_below}
+use Rattle.dp_base.specs.Sums.{greatest, int_sum, numbers_below}
 use Rattle.dp_spec.specs.Value.{backward_value, joint_root_action, policy_value}
 use Rattle.dp_spec.proofs.JointNumberLaws.{joint_number_below, parts_below, parts_of-joint_number}
-use Rattle.dp_laws.proofs.GreatestValues.{le_greatest}
-use Rattle.dp_laws.proofs.Members.{IsIn-below, IsIn-filter}
+use Rattle.dp_base.proofs.GreatestValues.{le_greatest}
+use Rattle.dp_base.proofs.Members.{IsIn-below, IsIn-filter}
 use Rattle.dp_laws.proofs.HistorySums.{int_history_sum_ext, int_history_sum_group, int_history_sum_swap, int_history_sum_weigh}
 use Rattle.std.proofs.lemmas.Bool.{eqb-true}
 

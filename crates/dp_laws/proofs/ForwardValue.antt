@@ -6,7 +6,7 @@ use Rattle.dp_spec.specs.JointHistory.{IsJointHistory, earned_reward, history_we
 use Rattle.dp_spec.specs.LookAhead.{weighted_reward, weights_after}
 use Rattle.dp_spec.specs.Model.{Model, joint_observations}
 use Rattle.dp_spec.specs.PolicyTree.{PolicyTree}
-use Rattle.dp_spec.specs.Sums.{int_sum}
+use Rattle.dp_base.specs.Sums.{int_sum}
 use Rattle.dp_spec.specs.Value.{backward_value, joint_root_action, policy_value, trees_after}
 use Rattle.dp_laws.proofs.HistorySums.{int_history_sum_add, int_history_sum_ext}
 

@@ -3,7 +3,7 @@ use Rattle.std.proofs.Common.{◌≡◌, inl, inr, ℕ, zero, suc, ◌+◌, ◌*
 use Rattle.std.proofs.lemmas.Bool.Decides.{nat_tests}
 use Rattle.std.proofs.lemmas.Nat.{mod_below}
 use Rattle.std.proofs.Math.Nat.{pow-suc}
-use Rattle.dp_laws.proofs.Order.{last_or_before}
+use Rattle.dp_base.proofs.Order.{last_or_before}
 use Rattle.dp_laws.proofs.Trees.{subtree_fits}
 use Rattle.dp_laws.specs.Following.{FollowsAgentFront, FollowsAgentFronts}
 use Rattle.dp_laws.specs.Following.FollowsAgentFronts.{and_agent as and_follows, no_agents as none_follow}

@@ -5,7 +5,7 @@ use Rattle.dp_laws.proofs.OneStep.{weighted_zeros}
 use Rattle.dp_laws.proofs.ForwardValue.{forward_is_backward}
 use Rattle.dp_laws.proofs.HistorySums.{int_history_sum_ext, int_history_sum_zero}
 use Rattle.dp_laws.proofs.Keeping.{follows_of_keeps}
-use Rattle.dp_laws.proofs.Ring.{zle_trans, zle_of}
+use Rattle.dp_base.proofs.Ring.{zle_trans, zle_of}
 use Rattle.dp_laws.proofs.FollowedBound.{following_policy_le_bound, follows_fixed}
 use Rattle.dp_laws.specs.Following.{FollowsAgentFronts}
 use Rattle.dp_spec.specs.Bound.{bound_of}

@@ -21,7 +21,7 @@ use Rattle.dp_spec.specs.WellFormed.{AreAgentFronts, IsAgentFront, IsFront}
 use Rattle.dp_spec.specs.WellFormed.AreAgentFronts.{and_agent as and_front, no_agents as no_fronts}
 use Rattle.dp_spec.proofs.JointNumberLaws.{part_below, positive_right}
 use Rattle.std.proofs.lemmas.Bool.{and_parts, cases_eq}
-use Rattle.dp_laws.proofs.Order.{last_or_before}
+use Rattle.dp_base.proofs.Order.{last_or_before}
 
 -- ---- choosing
 -- a tree that does action a after one history of class c keeps the choice of a for that class

@@ -8,7 +8,7 @@ use Rattle.dp_spec.specs.JointHistory.{earned_reward, history_weight, int_histor
 use Rattle.dp_spec.specs.Keeping.{KeepsFront}
 use Rattle.dp_spec.specs.Model.{Model, joint_observations}
 use Rattle.dp_spec.specs.PolicyTree.{PolicyTree}
-use Rattle.dp_spec.specs.Sums.{int_sum}
+use Rattle.dp_base.specs.Sums.{int_sum}
 use Rattle.dp_spec.specs.Value.{backward_value, policy_value}
 
 -- the value is what is earned before the front's stage, and the weights against what remains

@@ -2,8 +2,8 @@
 use Rattle.std.proofs.Common.{ℕ, zero, suc, ◌*◌, ◌<◌, ◌≤◌, ℤ, ◌≤ℤ◌, List, get_or, refl, arith}
 use Rattle.std.specs.Int.{int_max}
 use Rattle.dp_laws.proofs.WellFormedSteps.{after_choice_is_front, merged_is_front}
-use Rattle.dp_laws.proofs.Order.{le_max_left, le_max_right, max_le}
-use Rattle.dp_laws.proofs.Ring.{zle_trans, zle_of}
+use Rattle.dp_base.proofs.Order.{le_max_left, le_max_right, max_le}
+use Rattle.dp_base.proofs.Ring.{zle_trans, zle_of}
 use Rattle.dp_spec.specs.Arithmetic.{Arithmetic}
 use Rattle.dp_spec.specs.BoundTree.{AllLeavesAtMost, BoundTree, BoundTrees, LeavesAtMost, branch, greatest_leaf, greatest_leaf_of, leaf, merge, more_bound_trees, no_bound_trees}
 use Rattle.dp_spec.specs.Fitting.{FitEachAction, FitsFront}

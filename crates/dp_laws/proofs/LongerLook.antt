@@ -1,16 +1,16 @@
 -- more look never raises the look-ahead
 use Rattle.std.proofs.Common.{◌≡◌, ℕ, zero, suc, ◌+◌, ◌-◌, ◌≤◌, pos, ◌*ℤ◌, ◌≤ℤ◌, List, refl, subst, arith}
-use Rattle.dp_laws.proofs.Order.{add_le_right}
-use Rattle.dp_laws.proofs.Ring.{zle_trans, zle_of}
-use Rattle.dp_laws.proofs.Sums.{int_sum_le}
+use Rattle.dp_base.proofs.Order.{add_le_right}
+use Rattle.dp_base.proofs.Ring.{zle_trans, zle_of}
+use Rattle.dp_base.proofs.Sums.{int_sum_le}
 use Rattle.dp_laws.proofs.TableBound.{look_ahead_le_table}
 use Rattle.dp_laws.proofs.OneStep.{value_le_action_look_ahead}
 use Rattle.dp_spec.specs.LookAhead.{action_look_ahead, look_ahead, weighted_reward, weights_after}
 use Rattle.dp_spec.specs.Model.{IsModel, Model, joint_actions, joint_observations}
 use Rattle.dp_spec.specs.PolicyTree.{IsPolicyOf, PolicyTree}
-use Rattle.dp_spec.specs.Sums.{int_sum, numbers_below}
+use Rattle.dp_base.specs.Sums.{int_sum, numbers_below}
 use Rattle.dp_spec.specs.Value.{backward_value, joint_root_action}
-use Rattle.dp_laws.proofs.GreatestValues.{greatest_mono}
+use Rattle.dp_base.proofs.GreatestValues.{greatest_mono}
 
 -- one step of look more
 one_more : (m : Model) → IsModel m → (r k : ℕ) (w : ℕ → ℕ) → look_ahead m r w (suc k) ≤ℤ look_ahead m r w k

@@ -1,12 +1,12 @@
 -- Merging two equivalent classes loses nothing.
 use Rattle.std.proofs.Common.{◌≡◌, ℕ, zero, suc, ◌+◌, ◌<◌, Bool, true, false, cond, eqb, ℤ, pos, ◌+ℤ◌, ◌*ℤ◌, ◌≤ℤ◌, List, [], ◌∷◌, get_or, refl, sym, ap, ◌∙◌, subst, arith}
 use Rattle.dp_laws.proofs.JointPlaces.{below_others}
-use Rattle.dp_laws.proofs.Sums.{int_sum_ext, int_sum_two}
+use Rattle.dp_base.proofs.Sums.{int_sum_ext, int_sum_two}
 use Rattle.dp_laws.proofs.ForwardValue.{forward_is_backward}
 use Rattle.dp_laws.proofs.OwnHistories.{own_histories_within, followed_from_start}
 use Rattle.dp_laws.proofs.FollowedFronts.{trees_of, trees_after_history_are, trees_at_stage, classes_below}
 use Rattle.dp_laws.proofs.FollowedBound.{follows_fixed}
-use Rattle.dp_laws.proofs.Order.{add_le_right}
+use Rattle.dp_base.proofs.Order.{add_le_right}
 use Rattle.dp_laws.proofs.ClassValue.{better_for_both}
 use Rattle.dp_laws.proofs.MergedTrees.{fixed_joint_action_merged, joined_trees_by_agent, joined_trees_of, merged_agents_follow, tree_for, trees_by_agent}
 use Rattle.dp_laws.proofs.MergedAgents.{replaced_trees, replaced_trees_first, replaced_trees_other, replaced_trees_second}
@@ -18,7 +18,7 @@ use Rattle.dp_spec.specs.Merge.{AreEquivalent, class_of_agent, class_of_others, 
 use Rattle.dp_spec.specs.Model.{Model, joint_observations}
 use Rattle.dp_spec.specs.PolicyTree.{IsPolicyOf, PolicyTree}
 use Rattle.dp_spec.specs.Steps.{IsUnassigned}
-use Rattle.dp_spec.specs.Sums.{int_sum}
+use Rattle.dp_base.specs.Sums.{int_sum}
 use Rattle.dp_spec.specs.Value.{backward_value, policy_value}
 use Rattle.dp_spec.proofs.JointNumberLaws.{AreBelow, joint_number_below, parts_of-joint_number}
 use Rattle.dp_laws.proofs.HistorySums.{int_history_sum_ext, int_history_sum_group}

@@ -5,12 +5,12 @@ use Rattle.std.proofs.lemmas.Nat.{pow-add}
 use Rattle.dp_laws.proofs.ExactHistorySizes.{start_total as exact_start_total}
 use Rattle.dp_laws.proofs.ExactPushes.{exact_can_push, power_grows, weight_room, whole_room}
 use Rattle.dp_laws.proofs.ExactSizes.{pushed_total, reward_total}
-use Rattle.dp_laws.proofs.ModeCondition.{reward_most}
+use Rattle.dp_spec.proofs.ModeCondition.{reward_most}
 use Rattle.dp_laws.proofs.OrderedSpans.{total_size, weight_ordered}
 use Rattle.dp_laws.proofs.OutwardModeSizes.{outward_can_push, reward_room, state_squares}
 use Rattle.dp_laws.proofs.OutwardSizes.{spread_total, start_total as outward_start_total}
 use Rattle.dp_laws.proofs.RowSizes.{next_rows_are_weights, next_rows_total, row_acts, rows_total}
-use Rattle.dp_laws.proofs.Scales.{scale_of_first, scale_of_next}
+use Rattle.dp_spec.proofs.QuantityScales.{scale_of_first, scale_of_next}
 use Rattle.dp_laws.proofs.SharedTrees.{one_joint_row}
 use Rattle.dp_spec.specs.Arithmetic.{arithmetic, exact, outward}
 use Rattle.dp_spec.specs.Calls.{exact_calls, outward_calls}
@@ -21,9 +21,9 @@ use Rattle.dp_spec.specs.SharedPolicy.{IsSharedOf, SharedPolicy}
 use Rattle.dp_spec.specs.SharedWorth.{joint_row_action, joint_row_count, row_weight_in}
 use Rattle.dp_spec.specs.Sizes.{AreWeights, reward_size}
 use Rattle.dp_spec.specs.SizesOfRows.{CanShare, rows_earn_size, rows_push_size}
-use Rattle.dp_spec.specs.Sums.{nat_sum}
+use Rattle.dp_base.specs.Sums.{nat_sum}
 use Rattle.dp_spec.proofs.ModelLaws.{some_state}
-use Rattle.dp_spec.proofs.NaturalSumLaws.{nat_sum_add, nat_sum_const, nat_sum_le, nat_sum_most, nat_sum_times}
+use Rattle.dp_base.proofs.NaturalSumLaws.{nat_sum_add, nat_sum_const, nat_sum_le, nat_sum_most, nat_sum_times}
 
 -- ---- exact mode
 

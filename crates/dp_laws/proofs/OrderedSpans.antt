@@ -3,8 +3,8 @@ use Rattle.std.proofs.Common.{◌≡◌, ℕ, zero, suc, ◌<◌, ◌≤◌, inl
 use Rattle.std.proofs.lemmas.Int.{ints}
 use Rattle.std.proofs.lemmas.Bool.Decides.{nat_tests}
 use Rattle.dp_spec.specs.declared.span.Span.{Span}
-use Rattle.dp_laws.proofs.Order.{mul_le_right}
-use Rattle.dp_laws.proofs.Ring.{zadd_le, zle_of, zle_trans}
+use Rattle.dp_base.proofs.Order.{mul_le_right}
+use Rattle.dp_base.proofs.Ring.{zadd_le, zle_of, zle_trans}
 use Rattle.dp_laws.proofs.SizeSums.{span_history_sum_size}
 use Rattle.dp_spec.specs.Arithmetic.{Arithmetic, point}
 use Rattle.dp_spec.specs.Calls.{IsPoint, size}
@@ -13,8 +13,8 @@ use Rattle.dp_spec.specs.JointHistory.{IsJointHistory, nat_history_sum}
 use Rattle.dp_spec.specs.Model.{Model, joint_observations}
 use Rattle.dp_spec.specs.Quantities.{class_weight_in, history_weight_in, span_history_sum, span_sum}
 use Rattle.dp_spec.specs.Sizes.{AreWeights}
-use Rattle.dp_spec.specs.Sums.{nat_sum}
-use Rattle.dp_spec.proofs.NaturalSumLaws.{nat_sum_cond, nat_sum_ext, nat_sum_le}
+use Rattle.dp_base.specs.Sums.{nat_sum}
+use Rattle.dp_base.proofs.NaturalSumLaws.{nat_sum_cond, nat_sum_ext, nat_sum_le}
 use Rattle.std.proofs.lemmas.Bool.{cases_eq}
 use Rattle.dp_laws.proofs.HistorySums.{nat_history_sum_ext, nat_history_sum_le, nat_history_sum_swap}
 

@@ -4,10 +4,10 @@ use Rattle.std.proofs.lemmas.Bool.{false≢true}
 use Rattle.std.proofs.lemmas.Int.{ints}
 use Rattle.std.proofs.Math.Nat.{mul-le-mul, pow-le-pow_right}
 use Rattle.dp_spec.specs.declared.span.Span.{Span}
-use Rattle.dp_laws.proofs.ModeCondition.{reward_within}
+use Rattle.dp_spec.proofs.ModeCondition.{reward_within}
 use Rattle.dp_laws.proofs.OrderedSpans.{IsOrdered, from_high, high_is_size, sum_ordered, total_size, weight_ordered}
 use Rattle.dp_laws.proofs.OutwardSizes.{carry_most, chance_ordered, chance_small, gained_total, later_ordered, next_parts, next_total, obs_part, reward_total, shares, start_ordered, start_total, trans_part}
-use Rattle.dp_laws.proofs.Ring.{zle_of, zle_trans}
+use Rattle.dp_base.proofs.Ring.{zle_of, zle_trans}
 use Rattle.dp_laws.proofs.SizeSums.{table_action_le}
 use Rattle.dp_spec.specs.Arithmetic.{outward}
 use Rattle.dp_spec.specs.Calls.{IsWeight, outward_calls, size}
@@ -15,10 +15,10 @@ use Rattle.dp_spec.specs.Model.{IsModel, Model, joint_actions, joint_observation
 use Rattle.dp_spec.specs.Quantities.{mdp_table_in, weights_after_in}
 use Rattle.dp_spec.specs.Sizes.{AreWeights, CanPush, CanReward, IsStep, reward_size}
 use Rattle.dp_spec.specs.SizesOfTable.{CanTabulate, table_later_size, table_reward_size}
-use Rattle.dp_spec.specs.Sums.{nat_sum, numbers_below}
-use Rattle.dp_laws.proofs.Members.{below-IsIn}
-use Rattle.dp_laws.proofs.GreatestValues.{greatest_abs}
-use Rattle.dp_spec.proofs.NaturalSumLaws.{nat_sum_at}
+use Rattle.dp_base.specs.Sums.{nat_sum, numbers_below}
+use Rattle.dp_base.proofs.Members.{below-IsIn}
+use Rattle.dp_base.proofs.GreatestValues.{greatest_abs}
+use Rattle.dp_base.proofs.NaturalSumLaws.{nat_sum_at}
 
 -- a span of weights of at most 2^64 may be calculated with
 pub weight_of : (w : Span) → IsOrdered w → size w ≤ 2 ^ 64 → IsWeight w

@@ -5,7 +5,7 @@ use Rattle.std.proofs.Math.Nat.{pow-suc}
 use Rattle.std.proofs.lemmas.Bool.{cases_eq}
 use Rattle.std.proofs.lemmas.Bool.Decides.{nat_tests}
 use Rattle.dp_spec.specs.declared.span.Span.{Span}
-use Rattle.dp_laws.proofs.JointPairs.{int_sum_pairs, pair_counts, pair_injective, pair_number}
+use Rattle.dp_laws.proofs.JointPairs.{int_sum_pairs, pair_injective}
 use Rattle.dp_laws.proofs.KeptActions.{history_length}
 use Rattle.dp_laws.proofs.Recursion.{span_add_none, span_equal, span_none_add, span_sum_ext, span_sum_none}
 use Rattle.dp_laws.proofs.SharedTrees.{one_joint_row, row_trees, row_trees-start}
@@ -21,9 +21,10 @@ use Rattle.dp_spec.specs.PolicyTree.{PolicyTree}
 use Rattle.dp_spec.specs.Quantities.{earned_reward_in, forward_worth_in, history_weight_in, span_history_sum, span_sum, weighted_reward_in, weights_after_in}
 use Rattle.dp_spec.specs.SharedPolicy.{AreRowsOfAgents, IsSharedOf, SharedPolicy, row_counts, unfolded}
 use Rattle.dp_spec.specs.SharedWorth.{joint_row_action, joint_row_count, next_joint_row, row_weight_in, rows_after, rows_earn_in, shared_worth_in}
-use Rattle.dp_spec.specs.Sums.{int_sum}
+use Rattle.dp_base.specs.Sums.{int_sum}
 use Rattle.dp_spec.specs.Value.{joint_root_action, trees_after}
 use Rattle.dp_spec.proofs.JointNumberLaws.{AreBelow, parts_below}
+use Rattle.dp_spec.specs.ClassSteps.{pair_counts, pair_number}
 
 -- ---- sums of spans
 

@@ -2,7 +2,7 @@
 use Rattle.std.proofs.Common.{◌≡◌, ℕ, zero, suc, ◌+◌, ◌<◌, ℤ, pos, List, [], ◌∷◌, refl, sym, ap, ◌∙◌, arith}
 use Rattle.std.proofs.Math.IntN.{+ℤ_assoc, +ℤ_idl, +ℤ_idr}
 use Rattle.dp_spec.specs.declared.span.Span.{Span}
-use Rattle.dp_laws.proofs.Ring.{zadd_swap}
+use Rattle.dp_base.proofs.Ring.{zadd_swap}
 use Rattle.dp_spec.specs.Arithmetic.{Arithmetic, point, span_add}
 use Rattle.dp_spec.specs.JointHistory.{trees_after_history}
 use Rattle.dp_spec.specs.Model.{Model, joint_observations, start_at}

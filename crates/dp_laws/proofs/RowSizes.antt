@@ -12,9 +12,9 @@ use Rattle.dp_spec.specs.SharedPolicy.AreRowsOfAgents.{and_agent, no_agents}
 use Rattle.dp_spec.specs.SharedWorth.{actions_of_rows, joint_row_action, joint_row_count, next_joint_row, row_weight_in}
 use Rattle.dp_spec.specs.Sizes.{AreWeights, CanPush, weight_limit}
 use Rattle.dp_spec.specs.SizesOfRows.{rows_push_size}
-use Rattle.dp_spec.specs.Sums.{nat_sum}
+use Rattle.dp_base.specs.Sums.{nat_sum}
 use Rattle.dp_spec.proofs.JointNumberLaws.{AreBelow, joint_number_below, parts_below}
-use Rattle.dp_spec.proofs.NaturalSumLaws.{nat_sum_at, nat_sum_ext, nat_sum_le, nat_sum_swap}
+use Rattle.dp_base.proofs.NaturalSumLaws.{nat_sum_at, nat_sum_ext, nat_sum_le, nat_sum_swap}
 
 -- the rows of a joint row do actions of their agents
 actions_below : {h : ℕ} {bs ns : List ℕ} {p : SharedPolicy} → AreRowsOfAgents h bs ns p → (t : ℕ) (rs : List ℕ)

@@ -5,9 +5,9 @@ use Rattle.std.proofs.lemmas.Bool.{cases_eq}
 use Rattle.std.proofs.lemmas.Int.{ints}
 use Rattle.dp_laws.proofs.EnclosedQuantities.{earns_same, earns_sum, weighs_same, weighs_sum, weighs_where, weights_after_enclosed, weighted_reward_enclosed}
 use Rattle.dp_laws.proofs.OneStep.{one_step, weighted_zeros}
-use Rattle.dp_laws.proofs.Scales.{scale_at_stage, scale_of_first, scale_of_next}
+use Rattle.dp_spec.proofs.QuantityScales.{scale_at_stage, scale_of_first, scale_of_next}
 use Rattle.dp_laws.proofs.SharedTrees.{one_joint_row, row_trees, row_trees-start, row_trees_act, row_trees_go_on, rows_after_below}
-use Rattle.dp_laws.proofs.Sums.{ext_two, int_sum_add, int_sum_ext, int_sum_one, int_sum_swap, int_sum_weigh, int_sum_zero, ite_other, rotate}
+use Rattle.dp_base.proofs.Sums.{ext_two, int_sum_add, int_sum_ext, int_sum_one, int_sum_swap, int_sum_weigh, int_sum_zero, ite_other, rotate}
 use Rattle.dp_spec.specs.Arithmetic.{Arithmetic}
 use Rattle.dp_spec.specs.Enclosure.{Enclosure, IsSound}
 use Rattle.dp_spec.specs.JointNumbers.{parts_of}
@@ -16,7 +16,7 @@ use Rattle.dp_spec.specs.Model.{Model, joint_observations, start_at, step_scale,
 use Rattle.dp_spec.specs.PolicyTree.{PolicyTree}
 use Rattle.dp_spec.specs.SharedPolicy.{AreRowsOfAgents, IsSharedOf, SharedPolicy, row_counts, unfolded}
 use Rattle.dp_spec.specs.SharedWorth.{joint_row_action, joint_row_count, next_joint_row, row_weight_in, rows_earn_in, shared_worth_in}
-use Rattle.dp_spec.specs.Sums.{int_sum, nat_sum}
+use Rattle.dp_base.specs.Sums.{int_sum, nat_sum}
 use Rattle.dp_spec.specs.Value.{backward_value, joint_root_action, policy_value, trees_after}
 use Rattle.dp_spec.proofs.JointNumberLaws.{joint_number_below, parts_below, parts_of-joint_number}
 
@@ -38,7 +38,7 @@ rows_earn m p h (suc f) =
 -- ---- what an arithmetic computes encloses them
 
 -- the weights of joint rows
-row_weight_enclosed : (m : Model) (A : Arithmetic) (R : Enclosure) → IsSound m A R → (p : SharedPolicy) (t j s : ℕ)
+row_weight_enclosed : (m : Model) (A : Arithmetic) (R : Enclosure) → IsSound m.scales A R → (p : SharedPolicy) (t j s : ℕ)
     → R.Weighs (m.scales.start * step_scale m ^ t) (row_weight m p t j s) (row_weight_in A m p t j s)
 row_weight_enclosed m A R ok p zero j s = weighs_same m A R ok _ _ _ _ _ (scale_of_first m) refl (ok.start (start_at m s))
 row_weight_enclosed m A R ok p (suc t) j s =
@@ -47,7 +47,7 @@ row_weight_enclosed m A R ok p (suc t) j s =
     (weighs_same m A R ok _ _ _ _ _ (scale_of_next m t) refl (weights_after_enclosed m A R ok _ _ _ (joint_row_action m p t i) o s (λ u hu. row_weight_enclosed m A R ok p t i u)))))
 
 -- what they earn
-rows_earn_enclosed : (m : Model) (A : Arithmetic) (R : Enclosure) → IsSound m A R → (p : SharedPolicy) (h f : ℕ) → f ≤ h
+rows_earn_enclosed : (m : Model) (A : Arithmetic) (R : Enclosure) → IsSound m.scales A R → (p : SharedPolicy) (h f : ℕ) → f ≤ h
     → R.Earns (value_scale m h) (rows_earn m p h f) (rows_earn_in A m p h f)
 rows_earn_enclosed m A R ok p h zero le = ok.no_gain _
 rows_earn_enclosed m A R ok p h (suc f) le =
@@ -191,7 +191,7 @@ value_of_unfolded m zero p shared = weighted_zeros m.states (start_at m)
 value_of_unfolded m (suc f) p shared = value_is_rows_earn m (suc f) p shared.agents f refl
 
 -- the worth of a shared policy encloses the value of the joint policy that its rows mean
-pub shared_worth_enclosed : (m : Model) (A : Arithmetic) (R : Enclosure) → IsSound m A R → (h : ℕ) (p : SharedPolicy)
+pub shared_worth_enclosed : (m : Model) (A : Arithmetic) (R : Enclosure) → IsSound m.scales A R → (h : ℕ) (p : SharedPolicy)
     → IsSharedOf m h p → R.Earns (value_scale m h) (policy_value m h (unfolded p)) (shared_worth_in A m h p)
 unfolding shared_worth_in
 shared_worth_enclosed m A R ok h p shared =

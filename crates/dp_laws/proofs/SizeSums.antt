@@ -16,9 +16,9 @@ use Rattle.dp_spec.specs.SizesOfEarnings.{earned_size, worth_size}
 use Rattle.dp_spec.specs.Value.{joint_root_action, trees_after}
 use Rattle.dp_spec.specs.SizesOfLookAhead.{next_look_size}
 use Rattle.dp_spec.specs.SizesOfTable.{table_later_size, table_reward_size}
-use Rattle.dp_spec.specs.Sums.{int_sum, nat_sum, numbers_below}
-use Rattle.dp_laws.proofs.Members.{IsIn, below-IsIn, filter-IsIn}
-use Rattle.dp_spec.proofs.NaturalSumLaws.{nat_sum_at, nat_sum_le, nat_sum_part}
+use Rattle.dp_base.specs.Sums.{int_sum, nat_sum, numbers_below}
+use Rattle.dp_base.proofs.Members.{IsIn, below-IsIn, filter-IsIn}
+use Rattle.dp_base.proofs.NaturalSumLaws.{nat_sum_at, nat_sum_le, nat_sum_part}
 use Rattle.dp_laws.proofs.HistorySums.{nat_history_sum_le}
 
 -- ---- sums of whole numbers
@@ -38,7 +38,7 @@ abs_min a b c p q = omega (arith, ints, clamps)
 
 -- ---- sums of spans
 -- the magnitude of a sum of two spans
-size_add : (a b : Span) → size (span_add a b) ≤ size a + size b
+pub size_add : (a b : Span) → size (span_add a b) ≤ size a + size b
 size_add a b = let low = abs_add a.low b.low in let high = abs_add a.high b.high in omega arith
 
 -- a sum of spans is no larger than its parts

@@ -1,15 +1,15 @@
 -- A longer look is no higher than the table.
 use Rattle.std.proofs.Common.{ℕ, zero, suc, ◌<◌, pos, ◌+ℤ◌, ◌*ℤ◌, ◌≤ℤ◌, refl, sym, ◌∙◌, arith}
 use Rattle.std.proofs.lemmas.Int.{ints}
-use Rattle.dp_laws.proofs.Order.{add_le_right}
-use Rattle.dp_laws.proofs.Ring.{zle_trans, zle_of, zmul_le}
-use Rattle.dp_laws.proofs.Sums.{int_sum_le, int_sum_weigh}
+use Rattle.dp_base.proofs.Order.{add_le_right}
+use Rattle.dp_base.proofs.Ring.{zle_trans, zle_of, zmul_le}
+use Rattle.dp_base.proofs.Sums.{int_sum_le, int_sum_weigh}
 use Rattle.dp_laws.proofs.OneStep.{one_step_to, step_le_table}
 use Rattle.dp_spec.specs.LookAhead.{look_ahead, weighted_reward, weights_after}
 use Rattle.dp_spec.specs.MdpTable.{mdp_table}
 use Rattle.dp_spec.specs.Model.{IsModel, Model, joint_actions, joint_observations}
-use Rattle.dp_spec.specs.Sums.{int_sum}
-use Rattle.dp_laws.proofs.GreatestValues.{greatest_below_at_most}
+use Rattle.dp_base.specs.Sums.{int_sum}
+use Rattle.dp_base.proofs.GreatestValues.{greatest_below_at_most}
 
 -- one joint action, where what comes after is at most the table
 pub action_le_table : (m : Model) → IsModel m → (r k : ℕ) (w : ℕ → ℕ) (a : ℕ) → a < joint_actions m

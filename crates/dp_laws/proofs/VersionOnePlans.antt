@@ -11,8 +11,8 @@ use Rattle.dp_laws.proofs.FullPolicies.{full_policy_keeps}
 use Rattle.dp_laws.proofs.KeptValue.{value_at_full_front}
 use Rattle.dp_laws.proofs.NodeFronts.{no_wide_node_in_one, nodes_have_room}
 use Rattle.dp_laws.proofs.QuantityLaws.{exact_quantities}
-use Rattle.dp_laws.proofs.Order.{le_total}
-use Rattle.dp_laws.proofs.Ring.{zle_of, zle_trans}
+use Rattle.dp_base.proofs.Order.{le_total}
+use Rattle.dp_base.proofs.Ring.{zle_of, zle_trans}
 use Rattle.dp_laws.proofs.SharedLaws.{plain_form_worth}
 use Rattle.dp_spec.specs.Arithmetic.{Arithmetic, arithmetic, exact}
 use Rattle.dp_spec.specs.BoundTree.{AllLeavesAtMost, BoundTree, BoundTrees, LeavesAtMost, branch, leaf, merge, more_bound_trees, no_bound_trees}

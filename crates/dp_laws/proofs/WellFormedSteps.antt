@@ -17,7 +17,7 @@ use Rattle.dp_spec.specs.WellFormed.{AreAgentFronts, IsAgentFront, IsFront, None
 use Rattle.dp_spec.specs.WellFormed.AreAgentFronts.{and_agent, no_agents}
 use Rattle.dp_spec.proofs.JointNumberLaws.{part_below, positive_right, row_below}
 use Rattle.std.proofs.lemmas.Bool.{and_parts, cases_eq, cases_lt}
-use Rattle.dp_laws.proofs.Order.{last_or_before}
+use Rattle.dp_base.proofs.Order.{last_or_before}
 
 -- ---- choosing
 chosen_agent : (b n f : ℕ) (d : AgentFront) (c a : ℕ) → IsAgentFront b n f d → c < length d.chosen → a < b

@@ -1,6 +1,6 @@
 -- The value of a joint policy, which is defined backwards, computed forwards.
 use Rattle.std.specs.Prelude.{ℕ, ◌+◌, ◌≡◌, pos, ◌+ℤ◌, ◌*ℤ◌, List}
-use Rattle.dp_spec.specs.Sums.{int_sum}
+use Rattle.dp_base.specs.Sums.{int_sum}
 use Rattle.dp_spec.specs.Model.{Model, joint_observations}
 use Rattle.dp_spec.specs.PolicyTree.{PolicyTree}
 use Rattle.dp_spec.specs.Value.{backward_value, joint_root_action, policy_value}

@@ -1,6 +1,6 @@
 -- At a horizon of one step the bound of the root front is the greatest value of a constant joint action.
 use Rattle.std.specs.Prelude.{ℕ, ◌<◌, ◌≡◌}
-use Rattle.dp_spec.specs.Sums.{greatest, numbers_below}
+use Rattle.dp_base.specs.Sums.{greatest, numbers_below}
 use Rattle.dp_spec.specs.Model.{Model, IsModel, joint_actions}
 use Rattle.dp_spec.specs.PolicyTree.{IsPolicyOf}
 use Rattle.dp_spec.specs.ConstantPolicy.{constant_policy}

@@ -1,6 +1,6 @@
 -- The table and the look-ahead bound every joint policy, and more look never raises the look-ahead.
 use Rattle.std.specs.Prelude.{ℕ, suc, ◌<◌, ◌≤◌, ◌≡◌, pos, ◌*ℤ◌, ◌≤ℤ◌, List}
-use Rattle.dp_spec.specs.Sums.{int_sum}
+use Rattle.dp_base.specs.Sums.{int_sum}
 use Rattle.dp_spec.specs.Model.{Model, IsModel}
 use Rattle.dp_spec.specs.PolicyTree.{PolicyTree, IsPolicyOf}
 use Rattle.dp_spec.specs.Value.{backward_value, joint_root_action}

@@ -5,10 +5,12 @@ mod arithmetics;
 mod certificates;
 mod choosing;
 mod class_counts;
+mod class_steps;
 mod forward_values;
 mod front_bound;
 mod front_steps;
 mod full_fronts;
+mod growth;
 mod horizon_one;
 mod look_ahead;
 mod lossless_merging;
@@ -24,7 +26,8 @@ mod tree_depth;
 mod unequal_places;
 
 pub use arithmetics::{
-    arithmetic_encloses_the_numbers, arithmetic_is_sound, exact_arithmetic_gives_the_numbers,
+    arithmetic_encloses_the_numbers, arithmetic_is_sound, arithmetic_keeps_zero,
+    exact_arithmetic_gives_the_numbers,
     exact_arithmetic_is_sound, outward_arithmetic_encloses_the_numbers,
     outward_arithmetic_is_sound, recursion_gives_forward_worth,
 };
@@ -36,10 +39,15 @@ pub use choosing::{choosing_changes_no_weight, equivalence_ignores_choices};
 pub use class_counts::{
     classes_are_at_most_own_histories, joint_classes_are_at_most_joint_histories,
 };
+pub use class_steps::{
+    advanced_earnings_are_rewards, advanced_weights_are_next_weights, apart_classes_step_as_histories, class_totals_fit, class_weights_fit, classes_step_as_histories, joined_classes_have_both_weights, joint_classes_hold_histories, kept_classes_keep_weights, place_weights_add_to_total, place_weights_are_class_weights, placed_numbers_are_by_row,
+};
 pub use forward_values::{value_is_earned, value_is_earned_and_remaining};
 pub use front_bound::{
     advancing_never_raises_bound, choice_never_raises_bound, choosing_never_raises_bound,
-    merging_never_raises_bound, no_keeping_policy_above_bound,
+    choosing_never_raises_computed_bound, merging_never_raises_bound,
+    no_keeping_policy_above_bound, no_keeping_policy_above_computed_bound, spreads_are_limited,
+    spreads_are_never_negative,
 };
 pub use front_steps::{
     advancing_keeps_well_formed, choosing_keeps_well_formed, front_after_choice_is_well_formed,
@@ -49,13 +57,17 @@ pub use front_steps::{
 pub use full_fronts::{
     full_front_earns_the_value, full_front_has_one_policy, full_policy_keeps_its_front,
 };
+pub use growth::{
+    arenas_are_counted, arenas_grow, arenas_start, full_bounds_are_values, low_trees_are_closed, search_keeps_its_promises, searched_certificates_are_planned,
+};
 pub use horizon_one::{constant_policy_is_policy, root_bound_is_best_constant_action};
 pub use look_ahead::{
     action_look_ahead_bounds_every_policy, look_ahead_bounds_every_policy, more_look_never_raises,
     more_look_never_raises_action, table_bounds_every_policy,
 };
 pub use lossless_merging::{
-    empty_classes_are_equivalent, keeping_the_merged_keeps_the_front, merging_loses_nothing,
+    empty_classes_are_equivalent, keeping_the_merged_keeps_the_front, merging_joins_members,
+    merging_keeps_other_members, merging_loses_nothing,
 };
 pub use plans::plans_of_version_one_end;
 pub use policy_trees::{
@@ -66,7 +78,8 @@ pub use reasons::{
     valid_certificates_have_no_reason,
 };
 pub use rooms::{
-    choices_keep_histories_apart, no_node_is_wide_in_version_one, nodes_have_room,
+    advancing_keeps_histories_apart, apart_fronts_have_a_class_each, choices_keep_histories_apart,
+    choosing_keeps_histories_apart, no_node_is_wide_in_version_one, nodes_have_room,
     nodes_keep_apart_without_merges, steps_keep_room, widening_is_want_of_room,
 };
 pub use root_fronts::{every_policy_keeps_the_root_front, root_front_is_well_formed};
@@ -78,8 +91,7 @@ pub use shared_policies::{
     shared_worth_encloses_the_value,
 };
 pub use sizes::{
-    history_weights_are_within_bound, mode_allows_advances, mode_allows_bounds,
-    mode_allows_class_weights, mode_allows_earnings, mode_allows_look_ahead, mode_allows_pushes,
+    history_weights_are_within_bound, mode_allows_look_ahead, mode_allows_pushes,
     mode_allows_refining, mode_allows_rewards, mode_allows_shared_worth, mode_allows_table,
     mode_allows_worth,
 };

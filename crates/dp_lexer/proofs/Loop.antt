@@ -6,7 +6,7 @@ use Rattle.std.proofs.Math.Seq.{take-add}
 use Rattle.std.proofs.lemmas.Bool.{cases_Bool, eqb-true, not-true}
 use Rattle.std.proofs.lemmas.List.{append-nil, drop_all, take_rest}
 use Rattle.std.proofs.lemmas.List.Sums.{sum_by-append, sum_by-cons}
-use Rattle.dp_num.specs.Bytes.{is_name_byte}
+use Rattle.dp_base.specs.Bytes.{is_name_byte}
 use Rattle.dp_lexer.specs.declared.Kind.{Kind}
 use Rattle.dp_lexer.specs.declared.Token.{Token}
 use Rattle.dp_lexer.specs.declared.pieces.Class.{Class}

@@ -5,9 +5,9 @@ use Rattle.std.specs.List.{flat_map, list_all, range_with_len}
 use Rattle.std.proofs.lemmas.Bool.{cases_lt, cases_order}
 use Rattle.std.proofs.lemmas.List.{append_cancel_left, drop_all, get_or-drop, get_or-take, length-drop, length-take-le}
 use Rattle.std.proofs.lemmas.List.Sums.{AllPass-from_list_all}
-use Rattle.dp_num.specs.Bytes.{is_name_byte}
-use Rattle.dp_num.specs.DecimalShape.{is_decimal}
-use Rattle.dp_num.specs.Names.{is_word}
+use Rattle.dp_base.specs.Bytes.{is_name_byte}
+use Rattle.dp_base.specs.DecimalShape.{is_decimal}
+use Rattle.dp_base.specs.Names.{is_word}
 use Rattle.dp_lexer.specs.declared.Kind.{Kind}
 use Rattle.dp_lexer.specs.declared.Kind.TheVariants.{Word, Number, Colon, Star, LineEnd}
 use Rattle.dp_lexer.specs.declared.Token.{Token}

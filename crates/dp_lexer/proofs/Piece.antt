@@ -2,7 +2,7 @@
 use Rattle.std.proofs.Common.{◌≡◌, ℕ, zero, suc, ◌+◌, ◌≤◌, ◌<◌, List, [], ◌∷◌, length, get_or, take, drop, Result, Err, refl, sym, ap, ◌∙◌, arith, add-zero, add-one, drop-cons}
 use Rattle.std.proofs.lemmas.List.{drop-drop, length-drop}
 use Rattle.std.proofs.lemmas.List.Sums.{prefix_len-le-length}
-use Rattle.dp_num.specs.Bytes.{is_name_byte}
+use Rattle.dp_base.specs.Bytes.{is_name_byte}
 use Rattle.dp_lexer.specs.declared.Token.{Token}
 use Rattle.dp_lexer.specs.declared.pieces.Class.{Class}
 use Rattle.dp_lexer.specs.declared.pieces.Class.TheVariants.{Blank, Comment, LineFeed, Run, Mark, Bad}

@@ -1,7 +1,7 @@
 -- Worked rows of the definitions, computed.
 use Rattle.std.proofs.Common.{◌≡◌, ℕ, [], ◌∷◌, Some, None, Ok, Err, refl}
 use Rattle.std.specs.Prelude.{codes}
-use Rattle.dp_num.specs.DecimalShape.{is_decimal}
+use Rattle.dp_base.specs.DecimalShape.{is_decimal}
 use Rattle.dp_lexer.specs.declared.Kind.{Kind}
 use Rattle.dp_lexer.specs.declared.Kind.TheVariants.{Word, Number, Colon, Star, LineEnd}
 use Rattle.dp_lexer.specs.declared.Token.{Token}

@@ -5,9 +5,9 @@ use Rattle.std.specs.List.{prefix_len, list_all}
 use Rattle.std.proofs.lemmas.Bool.{cases_lt, lt-ltb, not-false, not-true}
 use Rattle.std.proofs.lemmas.List.{get_or-drop, get_or_past, length-drop}
 use Rattle.std.proofs.lemmas.List.Sums.{prefix_len_passes, prefix_len_stops}
-use Rattle.dp_num.specs.Bytes.{is_name_byte}
-use Rattle.dp_num.specs.DecimalShape.{is_decimal}
-use Rattle.dp_num.specs.Names.{is_word}
+use Rattle.dp_base.specs.Bytes.{is_name_byte}
+use Rattle.dp_base.specs.DecimalShape.{is_decimal}
+use Rattle.dp_base.specs.Names.{is_word}
 use Rattle.dp_lexer.specs.declared.Kind.{Kind}
 use Rattle.dp_lexer.specs.declared.Kind.TheVariants.{Word, Number, Colon, Star, LineEnd}
 use Rattle.dp_lexer.specs.declared.pieces.Class.{Class}

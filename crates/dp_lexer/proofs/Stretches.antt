@@ -6,7 +6,7 @@ use Rattle.std.specs.Option.{option_or}
 use Rattle.std.proofs.lemmas.List.Elements.{filter-append}
 use Rattle.std.proofs.lemmas.List.Folds.{find-append}
 use Rattle.std.proofs.Math.Bool.{or-true}
-use Rattle.dp_num.specs.Bytes.{is_name_byte}
+use Rattle.dp_base.specs.Bytes.{is_name_byte}
 use Rattle.dp_lexer.specs.Bytes.{hash, is_blank, is_in_alphabet, is_line_feed}
 use Rattle.dp_lexer.specs.Comments.{is_in_comment, is_kept, is_bad}
 use Rattle.dp_lexer.proofs.Classes.{differs, name_not_blank}

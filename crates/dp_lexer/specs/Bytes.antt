@@ -1,7 +1,7 @@
 -- The bytes of a model file, and where one stands.
 use Rattle.std.specs.Prelude.{ℕ, ◌+◌, Bool, not, ◌||◌, ◌==◌, List, length, take, count_by}
 use Rattle.std.specs.List.{after_last}
-use Rattle.dp_num.specs.Bytes.{is_name_byte}
+use Rattle.dp_base.specs.Bytes.{is_name_byte}
 
 -- a tab, a blank
 abbrev pub tab : ℕ

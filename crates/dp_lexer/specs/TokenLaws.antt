@@ -2,9 +2,9 @@
 use Rattle.std.specs.Prelude.{◌≡◌, ℕ, ◌-◌, ◌<◌, ◌≤◌, ◌↔◌, true, false, List, [], ◌∷◌, length, Ok, All, AllPairs, slice_index}
 use Rattle.std.specs.List.{list_all, flat_map, range_with_len, slice_range}
 use Rattle.std.specs.Result.{result_err}
-use Rattle.dp_num.specs.Bytes.{is_name_byte}
-use Rattle.dp_num.specs.DecimalShape.{is_decimal}
-use Rattle.dp_num.specs.Names.{is_word}
+use Rattle.dp_base.specs.Bytes.{is_name_byte}
+use Rattle.dp_base.specs.DecimalShape.{is_decimal}
+use Rattle.dp_base.specs.Names.{is_word}
 use Rattle.dp_lexer.specs.declared.Kind.{Kind}
 use Rattle.dp_lexer.specs.declared.Kind.TheVariants.{Word, Number, Colon, Star, LineEnd}
 use Rattle.dp_lexer.specs.declared.Token.{Token}

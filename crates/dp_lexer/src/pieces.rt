@@ -1,12 +1,12 @@
 //! The pieces of a text: runs, comments, and single bytes.
 ghost use Rattle.std.specs.Prelude.{◌≡◌, ◌+◌, ◌^◌, ◌≤◌, length};
 ghost use Rattle.std.specs.List.{prefix_len};
-ghost use Rattle.dp_num.specs.Bytes as num;
+ghost use Rattle.dp_base.specs.Bytes as num;
 ghost use Rattle.dp_lexer.specs.Bytes as bytes;
 ghost use Rattle.dp_lexer.specs.Tokens as tokens;
 
 use crate::Kind;
-use dp_num::is_decimal;
+use dp_base::is_decimal;
 
 /// What begins at a byte that stands in no comment and in no run.
 #[derive(Clone, Copy)]

@@ -1,10 +1,10 @@
 -- Worked rows, computed: faults of a text and their places.
 use Rattle.std.proofs.Common.{◌≡◌, ℕ, List, [], ◌∷◌, ◌++◌, refl}
 use Rattle.std.specs.Prelude.{codes, map}
-use Rattle.dp_num.specs.DecimalShape.{is_decimal, is_index}
-use Rattle.dp_num.specs.Decimals.{significand, raised, lowered, decimal_of}
-use Rattle.dp_num.specs.Divisors.{gcd_of, lcm_of}
-use Rattle.dp_num.specs.Names.{is_word, is_name}
+use Rattle.dp_base.specs.DecimalShape.{is_decimal, is_index}
+use Rattle.dp_base.specs.Decimals.{significand, raised, lowered, decimal_of}
+use Rattle.dp_base.specs.Divisors.{gcd_of, lcm_of}
+use Rattle.dp_base.specs.Names.{is_word, is_name}
 use Rattle.dp_lexer.specs.Tokens.{tokens_from, tokens_of}
 use Rattle.dp_meaning.specs.Items.{lines_of, items_of}
 use Rattle.dp_meaning.specs.Numbers.{number, numbers}

@@ -1,10 +1,10 @@
 -- Worked rows, computed: limits that a text passes, and counts.
 use Rattle.std.proofs.Common.{◌≡◌, ℕ, List, [], ◌∷◌, pos, refl}
 use Rattle.std.specs.Prelude.{codes, map, replicate, Some, None, false}
-use Rattle.dp_num.specs.DecimalShape.{is_decimal, is_index}
-use Rattle.dp_num.specs.Decimals.{significand, raised, lowered, decimal_of}
-use Rattle.dp_num.specs.Divisors.{gcd_of, lcm_of}
-use Rattle.dp_num.specs.Names.{is_word, is_name}
+use Rattle.dp_base.specs.DecimalShape.{is_decimal, is_index}
+use Rattle.dp_base.specs.Decimals.{significand, raised, lowered, decimal_of}
+use Rattle.dp_base.specs.Divisors.{gcd_of, lcm_of}
+use Rattle.dp_base.specs.Names.{is_word, is_name}
 use Rattle.dp_lexer.specs.Tokens.{tokens_from, tokens_of}
 use Rattle.dp_model.specs.declared.limit.Limit.{Limit}
 use Rattle.dp_model.specs.declared.limit.Limit.TheVariants as limits

@@ -3,7 +3,7 @@ use Rattle.std.proofs.Common.{◌≡◌, ℕ, zero, suc, ◌*◌, ◌^◌, ◌<�
 use Rattle.std.specs.Prelude.{unsigned_abs, Ok}
 use Rattle.std.proofs.lemmas.List.{length-map}
 use Rattle.std.proofs.lemmas.Nat.{mul-le}
-use Rattle.dp_num.proofs.SignificandLaws.{some_tens}
+use Rattle.dp_base.proofs.SignificandLaws.{some_tens}
 use Rattle.dp_lexer.specs.Tokens.{tokens_of}
 use Rattle.dp_spec.specs.JointNumbers.{product}
 use Rattle.dp_spec.specs.Model.{joint_actions, joint_observations, AreScales, AreSizes, AreTables, IsModel}

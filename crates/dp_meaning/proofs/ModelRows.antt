@@ -2,10 +2,10 @@
 use Rattle.std.proofs.Common.{◌≡◌, ℕ, List, [], ◌∷◌, ◌++◌, ℤ, pos, negsuc, refl}
 use Rattle.std.specs.Prelude.{◌*◌, ◌^◌, codes, replicate}
 use Rattle.std.specs.List.{flat_map}
-use Rattle.dp_num.specs.DecimalShape.{is_decimal, is_index}
-use Rattle.dp_num.specs.Decimals.{significand, raised, lowered, decimal_of}
-use Rattle.dp_num.specs.Divisors.{gcd_of, lcm_of}
-use Rattle.dp_num.specs.Names.{is_word, is_name}
+use Rattle.dp_base.specs.DecimalShape.{is_decimal, is_index}
+use Rattle.dp_base.specs.Decimals.{significand, raised, lowered, decimal_of}
+use Rattle.dp_base.specs.Divisors.{gcd_of, lcm_of}
+use Rattle.dp_base.specs.Names.{is_word, is_name}
 use Rattle.dp_lexer.specs.Tokens.{tokens_from, tokens_of}
 use Rattle.dp_spec.specs.Model.{Model}
 use Rattle.dp_model.specs.Names.{NameLists, counts_of}

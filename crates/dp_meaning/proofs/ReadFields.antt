@@ -5,9 +5,9 @@ use Rattle.std.specs.List.{flat_map}
 use Rattle.std.specs.Str.{bytes_eq}
 use Rattle.std.proofs.lemmas.Bool.Decides.{nat_tests}
 use Rattle.std.proofs.lemmas.List.Quantifiers.{position-Some}
-use Rattle.dp_num.specs.declared.decimal.Decimal.{Decimal}
-use Rattle.dp_num.specs.DecimalShape.{is_index}
-use Rattle.dp_num.specs.Names.{is_name}
+use Rattle.dp_base.specs.declared.decimal.Decimal.{Decimal}
+use Rattle.dp_base.specs.DecimalShape.{is_index}
+use Rattle.dp_base.specs.Names.{is_name}
 use Rattle.dp_lexer.specs.Tokens.{tokens_of}
 use Rattle.dp_spec.specs.JointNumbers.{product}
 use Rattle.dp_model.specs.Names.{place_of}

@@ -1,7 +1,7 @@
 -- What is known of a header that is read.
 use Rattle.std.proofs.Common.{◌≡◌, ℕ, Bool, true, false, cond, List, [], ◌∷◌, length, refl, sym, ap, subst, ◌∙◌}
 use Rattle.std.specs.Prelude.{codes, Option, Some, None}
-use Rattle.dp_num.specs.declared.decimal.Decimal.{Decimal}
+use Rattle.dp_base.specs.declared.decimal.Decimal.{Decimal}
 use Rattle.dp_meaning.specs.declared.given_list.GivenList.{GivenList}
 use Rattle.dp_meaning.specs.declared.header.Start.{Start}
 use Rattle.dp_meaning.specs.declared.header.Start.TheVariants.{AnyState, OneState, StartRow}

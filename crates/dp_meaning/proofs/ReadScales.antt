@@ -6,10 +6,10 @@ use Rattle.std.proofs.lemmas.Bool.Decides.{nat_tests}
 use Rattle.std.proofs.lemmas.Int.{unsigned_abs-mul}
 use Rattle.std.proofs.lemmas.Nat.{pow-add, mul-le}
 use Rattle.std.proofs.Math.Nat.{dvd-mul_left, dvd-mul_right, mul-div_cancel, mul-pos, pos_of_dvd_of_pos}
-use Rattle.dp_num.specs.declared.decimal.Decimal.{Decimal}
-use Rattle.dp_num.specs.Divisors.{lcm_of}
-use Rattle.dp_num.proofs.DivisorLaws.{lcm_of-IsLcm}
-use Rattle.dp_num.proofs.SignificandLaws.{some_tens}
+use Rattle.dp_base.specs.declared.decimal.Decimal.{Decimal}
+use Rattle.dp_base.specs.Divisors.{lcm_of}
+use Rattle.dp_base.proofs.DivisorLaws.{lcm_of-IsLcm}
+use Rattle.dp_base.proofs.SignificandLaws.{some_tens}
 use Rattle.dp_spec.specs.JointNumbers.{joint_number}
 use Rattle.dp_meaning.specs.declared.header.Start.{Start}
 use Rattle.dp_meaning.specs.declared.header.Start.TheVariants.{AnyState, OneState, StartRow}
@@ -27,7 +27,7 @@ use Rattle.dp_meaning.proofs.Each.{Each, each_at, each_with, each_from, each_fil
 use Rattle.dp_meaning.proofs.Lists.{each_below_most, most_below}
 use Rattle.dp_meaning.proofs.ReadStatements.{numbers_in, IsStatement}
 use Rattle.std.proofs.lemmas.Bool.{leb-true}
-use Rattle.dp_spec.proofs.RoundingLaws.{unsigned_abs-neg}
+use Rattle.dp_base.proofs.RoundingLaws.{unsigned_abs-neg}
 
 -- ---- scales are not 0
 

@@ -2,7 +2,7 @@
 use Rattle.std.proofs.Common.{◌≡◌, ℕ, Bool, true, false, cond, List, [], ◌∷◌, ◌++◌, length, map, drop, subst}
 use Rattle.std.specs.Prelude.{◌&&◌, codes}
 use Rattle.std.specs.List.{flat_map}
-use Rattle.dp_num.specs.declared.decimal.Decimal.{Decimal}
+use Rattle.dp_base.specs.declared.decimal.Decimal.{Decimal}
 use Rattle.dp_spec.specs.JointNumbers.{product}
 use Rattle.dp_meaning.specs.declared.statement.Table.{Table}
 use Rattle.dp_meaning.specs.declared.statement.ItemKind.{ItemKind}

@@ -2,12 +2,12 @@
 use Rattle.std.proofs.Common.{◌≡◌, ℕ, zero, suc, ◌+◌, ◌^◌, ◌<◌, ◌≤◌, rules, Bool, true, false, cond, List, [], ◌∷◌, ◌++◌, length, refl, sym, ap, subst, ◌∙◌, arith, length-append}
 use Rattle.std.specs.Prelude.{not, ◌&&◌, nat_le, Result, Ok, Err}
 use Rattle.std.proofs.lemmas.Bool.Decides.{nat_tests}
-use Rattle.dp_num.specs.declared.decimal.Decimal.{Decimal}
-use Rattle.dp_num.specs.declared.decimal.NumFault.{NumFault}
-use Rattle.dp_num.specs.declared.decimal.NumFault.TheVariants.{Shape, Large, Digits}
-use Rattle.dp_num.specs.DecimalShape.{is_index}
-use Rattle.dp_num.specs.Decimals.{decimal_of}
-use Rattle.dp_num.specs.Names.{is_name}
+use Rattle.dp_base.specs.declared.decimal.Decimal.{Decimal}
+use Rattle.dp_base.specs.declared.decimal.NumFault.{NumFault}
+use Rattle.dp_base.specs.declared.decimal.NumFault.TheVariants.{Shape, Large, Digits}
+use Rattle.dp_base.specs.DecimalShape.{is_index}
+use Rattle.dp_base.specs.Decimals.{decimal_of}
+use Rattle.dp_base.specs.Names.{is_name}
 use Rattle.dp_model.specs.Names.{has_name, IsNameList}
 use Rattle.dp_model.proofs.NameLemmas.{with_name-kept, empty-kept}
 use Rattle.dp_meaning.specs.declared.why.Fault.{Fault}

@@ -6,13 +6,13 @@ use Rattle.std.specs.List.{position_or_len}
 use Rattle.std.proofs.lemmas.Bool.Decides.{nat_tests}
 use Rattle.std.proofs.lemmas.List.{get_or-set_same, get_or-set_other, get_or_append_left, get_or-append-add}
 use Rattle.std.proofs.lemmas.List.Sums.{sum_by-le, sum_by-set, sum_by-cons, passes_at_first}
-use Rattle.dp_spec.specs.Sums.{nat_sum}
+use Rattle.dp_base.specs.Sums.{nat_sum}
 use Rattle.dp_meaning.specs.declared.why.Why.TheVariants.{RowSum}
 use Rattle.dp_meaning.specs.Faults.{fault}
 use Rattle.dp_meaning.specs.Rows.{Row, Repaired, greatest_cell, greatest_place, repaired_cells, is_near, repair_at, row_place, repair, repair_all}
 use Rattle.dp_meaning.proofs.FaultSteps.{done, ok_same, err_not_ok, bind_ok}
 use Rattle.dp_meaning.proofs.Lists.{below_greatest, first_greatest, sum_of_places}
-use Rattle.dp_spec.proofs.NaturalSumLaws.{nat_sum_ext}
+use Rattle.dp_base.proofs.NaturalSumLaws.{nat_sum_ext}
 use Rattle.std.proofs.lemmas.Bool.{eqb-true, cases_eq}
 
 -- ---- one row

@@ -1,7 +1,7 @@
 -- The sizes and the fraction digits of a text that some file says.
 use Rattle.std.proofs.Common.{◌≡◌, ℕ, ◌^◌, ◌≤◌, List, subst, arith}
 use Rattle.std.specs.Prelude.{unsigned_abs}
-use Rattle.dp_num.specs.declared.decimal.Decimal.{Decimal}
+use Rattle.dp_base.specs.declared.decimal.Decimal.{Decimal}
 use Rattle.dp_meaning.specs.declared.header.Start.TheVariants.{StartRow}
 use Rattle.dp_meaning.specs.declared.statement.Table.{Table}
 use Rattle.dp_meaning.specs.declared.statement.Table.TheVariants.{Reward}

@@ -5,7 +5,7 @@ use Rattle.std.specs.List.{range_with_len, list_any}
 use Rattle.std.proofs.lemmas.List.{length-map, get_or-map}
 use Rattle.std.proofs.lemmas.List.FromFn.{length-map-range_with_len, get_or-map-range_with_len}
 use Rattle.dp_spec.specs.JointNumbers.{parts_of}
-use Rattle.dp_spec.specs.Sums.{nat_sum}
+use Rattle.dp_base.specs.Sums.{nat_sum}
 use Rattle.dp_meaning.specs.declared.statement.Table.{Table}
 use Rattle.dp_meaning.specs.declared.statement.Statement.{Statement}
 use Rattle.dp_meaning.specs.declared.text.Text.{Text}

@@ -1,8 +1,8 @@
 -- The values of the header entries, each read from the tokens behind its first Colon.
 use Rattle.std.specs.Prelude.{ℕ, Bool, true, false, not, ◌&&◌, ◌||◌, ◌==◌, if◌then◌else◌, List, [], ◌∷◌, length, codes, map, Result, Ok}
-use Rattle.dp_num.specs.declared.decimal.Decimal.{Decimal}
-use Rattle.dp_num.specs.DecimalShape.{is_index}
-use Rattle.dp_num.specs.Names.{is_name}
+use Rattle.dp_base.specs.declared.decimal.Decimal.{Decimal}
+use Rattle.dp_base.specs.DecimalShape.{is_index}
+use Rattle.dp_base.specs.Names.{is_name}
 use Rattle.dp_meaning.specs.declared.why.Fault.{Fault}
 use Rattle.dp_meaning.specs.declared.given_list.GivenList.{GivenList}
 use Rattle.dp_meaning.specs.declared.header.Start.{Start}

@@ -2,8 +2,8 @@
 use Rattle.std.specs.Prelude.{ℕ, zero, suc, Bool, not, ◌&&◌, ◌||◌, nat_le, nat_lt, if◌then◌else◌, List, [], ◌∷◌, ◌++◌, length, Option, Some, None, Result, Ok}
 use Rattle.std.specs.Str.{bytes_eq}
 use Rattle.std.specs.Str.Parse.{digits_value}
-use Rattle.dp_num.specs.DecimalShape.{is_index}
-use Rattle.dp_num.specs.Names.{is_name}
+use Rattle.dp_base.specs.DecimalShape.{is_index}
+use Rattle.dp_base.specs.Names.{is_name}
 use Rattle.dp_model.specs.Names.{has_name, place_of}
 use Rattle.dp_meaning.specs.declared.why.Fault.{Fault}
 use Rattle.dp_meaning.specs.declared.given_list.GivenList.{GivenList}

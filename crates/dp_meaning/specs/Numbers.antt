@@ -1,9 +1,9 @@
 -- Chances, the discount and rewards, as Numbers of the text.
 use Rattle.std.specs.Prelude.{ℕ, zero, suc, ◌+◌, ◌^◌, Bool, false, ◌&&◌, nat_le, if◌then◌else◌, List, [], ◌∷◌, ℤ, pos, negsuc, unsigned_abs, Result, Ok, Err}
-use Rattle.dp_num.specs.declared.decimal.Decimal.{Decimal}
-use Rattle.dp_num.specs.declared.decimal.NumFault.{NumFault}
-use Rattle.dp_num.specs.declared.decimal.NumFault.TheVariants.{Shape}
-use Rattle.dp_num.specs.Decimals.{decimal_of}
+use Rattle.dp_base.specs.declared.decimal.Decimal.{Decimal}
+use Rattle.dp_base.specs.declared.decimal.NumFault.{NumFault}
+use Rattle.dp_base.specs.declared.decimal.NumFault.TheVariants.{Shape}
+use Rattle.dp_base.specs.Decimals.{decimal_of}
 use Rattle.dp_meaning.specs.declared.why.Fault.{Fault}
 use Rattle.dp_meaning.specs.declared.why.Why.TheVariants.{Expected, Number}
 use Rattle.dp_meaning.specs.Faults.{◌>>=◌, fault}

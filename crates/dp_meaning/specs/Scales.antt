@@ -1,8 +1,8 @@
 -- The scales: what the numbers of each table are counted in.
 use Rattle.std.specs.Prelude.{ℕ, ◌^◌, max, Bool, true, false, if◌then◌else◌, unsigned_abs, List}
 use Rattle.std.specs.List.{fold, list_any}
-use Rattle.dp_num.specs.declared.decimal.Decimal.{Decimal}
-use Rattle.dp_num.specs.Divisors.{lcm_of}
+use Rattle.dp_base.specs.declared.decimal.Decimal.{Decimal}
+use Rattle.dp_base.specs.Divisors.{lcm_of}
 use Rattle.dp_spec.specs.declared.scales.Scales.{Scales}
 use Rattle.dp_meaning.specs.declared.header.Start.{Start}
 use Rattle.dp_meaning.specs.declared.header.Start.TheVariants.{AnyState, OneState, StartRow}

@@ -1,7 +1,7 @@
 -- The statements: one notion of table for all three.
 use Rattle.std.specs.Prelude.{ℕ, Bool, true, false, not, ◌&&◌, ◌==◌, nat_lt, if◌then◌else◌, List, [], ◌∷◌, ◌++◌, length, codes, map, drop, Result, Ok}
 use Rattle.std.specs.List.{flat_map}
-use Rattle.dp_num.specs.declared.decimal.Decimal.{Decimal}
+use Rattle.dp_base.specs.declared.decimal.Decimal.{Decimal}
 use Rattle.dp_spec.specs.JointNumbers.{product}
 use Rattle.dp_meaning.specs.declared.why.Fault.{Fault}
 use Rattle.dp_meaning.specs.declared.statement.Table.{Table}

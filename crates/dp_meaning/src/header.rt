@@ -1,7 +1,7 @@
 //! The header of a model file.
 use crate::GivenList;
+use dp_base::Decimal;
 use dp_model::Items;
-use dp_num::Decimal;
 
 /// How a run starts.
 #[derive(Drop)]

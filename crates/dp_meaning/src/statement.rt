@@ -3,8 +3,8 @@ ghost use Rattle.std.specs.Prelude.{◌≡◌};
 ghost use Rattle.dp_meaning.specs.Cells.{is_same_table};
 
 use crate::Entry;
+use dp_base::Decimal;
 use dp_model::Items;
-use dp_num::Decimal;
 
 /// The tables that statements fill.
 #[derive(Clone, Copy)]

@@ -6,8 +6,8 @@ use Rattle.std.proofs.lemmas.Bool.{le-leb, leb-true}
 use Rattle.std.proofs.lemmas.Int.{to_z_pos}
 use Rattle.std.proofs.lemmas.Nat.{mul-pow}
 use mir.Syntax.{w128}
-use Rattle.dp_laws.proofs.ModeCondition.{step_scale_some}
-use Rattle.dp_laws.proofs.Scales.{scale_of_next, step_scale_is}
+use Rattle.dp_spec.proofs.ModeCondition.{step_scale_some}
+use Rattle.dp_spec.proofs.QuantityScales.{scale_of_next, step_scale_is}
 use Rattle.dp_spec.specs.declared.scales.Scales.{Scales}
 use Rattle.dp_spec.specs.JointNumbers.{product}
 use Rattle.dp_spec.specs.Mode.{greatest_magnitude, is_exact_mode, own_history_count, unit_of}

@@ -8,7 +8,7 @@ use Rattle.std.proofs.lemmas.List.Elements.{All-push}
 use Rattle.std.proofs.lemmas.List.Quantifiers.{all_pairs_push}
 use Rattle.std.proofs.lemmas.Slice.Eq.{bytes_eq-Decides}
 use Rattle.std.proofs.Math.Bool.{or-true}
-use Rattle.dp_num.specs.Names.{is_name}
+use Rattle.dp_base.specs.Names.{is_name}
 use Rattle.dp_model.specs.Names.{IsNameList, has_name, names_of, place_of, with_name}
 
 module _ {X : Type 0} (f : X → List ℕ) where

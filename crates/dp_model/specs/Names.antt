@@ -2,7 +2,7 @@
 use Rattle.std.specs.Prelude.{ℕ, ◌^◌, ◌≤◌, ◌≡◌, ◌≢◌, Bool, IsTrue, List, [], ◌∷◌, ◌++◌, Option, length, get_or, slice_set, position, replicate, All, AllPairs, if◌then◌else◌}
 use Rattle.std.specs.List.{list_any}
 use Rattle.std.specs.Str.{bytes_eq}
-use Rattle.dp_num.specs.Names.{is_name}
+use Rattle.dp_base.specs.Names.{is_name}
 
 -- the names of each kind, in order; a list without names was given as a count
 pub record NameLists : Type 0 where

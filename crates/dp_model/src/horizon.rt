@@ -3,12 +3,12 @@ ghost use Rattle.std.specs.Prelude.{◌≡◌, ◌*◌, ◌-◌, ◌^◌, ◌<�
 ghost use Rattle.std.specs.Result.{result_err};
 ghost use Rattle.dp_spec.specs.Mode.{IsWithin, is_exact_mode, own_history_count};
 ghost use Rattle.dp_spec.specs.Model.{AreScales, joint_observations, step_scale, value_scale};
-ghost use Rattle.dp_spec.specs.Sums.{nat_sum};
+ghost use Rattle.dp_base.specs.Sums.{nat_sum};
 ghost use Rattle.dp_model.specs.Horizons.{fit_of, horizon_limits};
 ghost use Rattle.dp_model.specs.Limits.{first_passed};
 
 use crate::{Limit, Model, TooLarge};
-use dp_num::Scales;
+use dp_spec::Scales;
 
 // In exact mode no value is greater.
 const MOST_VALUE: u128 = 1 << 126;

@@ -9,7 +9,7 @@ ghost use Rattle.dp_model.specs.Tables.{AreNamesOf, model_of};
 
 use crate::numbering::Numbering;
 use crate::{Cells, Names, Sizes};
-use dp_num::Scales;
+use dp_spec::Scales;
 
 /// A decentralised POMDP (Oliehoek and Amato, A Concise Introduction to Decentralized POMDPs,
 /// chapter 2): sizes, scales and tables of whole numbers over them, with names.

@@ -2,12 +2,12 @@
 ghost use Rattle.std.specs.Prelude.{◌≡◌, ◌<◌, ◌^◌, ◌↔◌, [], IsTrue, IsNone, not, length, slice_get, IfOk};
 ghost use Rattle.std.specs.Prelude.{OnOk, OnErr, replicate};
 ghost use Rattle.std.specs.Option.{option_copied};
-ghost use Rattle.dp_num.specs.Names.{is_name};
+ghost use Rattle.dp_base.specs.Names.{is_name};
 ghost use Rattle.dp_model.specs.Names.{AreNames, counts_of, has_name, names_of, place_of, with_name};
 ghost use Rattle.dp_model.specs.Names.{with_name_of};
 
 use crate::name_list::NameList;
-use dp_num::Memory;
+use dp_base::Memory;
 use std::alloc::Global;
 use std::marker::Model;
 

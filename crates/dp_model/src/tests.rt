@@ -3,7 +3,8 @@ ghost use Rattle.dp_spec.specs.Model.{joint_actions, joint_observations};
 ghost use Rattle.dp_model.specs.Parts.{AreParts};
 
 use super::*;
-use dp_num::{Memory, Scales};
+use dp_base::Memory;
+use dp_spec::Scales;
 use std::alloc::Global;
 use std::test::Fail;
 
@@ -81,7 +82,7 @@ fn two_agents(alloc: Global) -> Result<Model, Memory>
 }
 
 #[test]
-#[tactic(auto, unfolding(dp_num::specs::Names::is_name, dp_num::specs::Names::is_word, dp_num::specs::DecimalShape::is_decimal))]
+#[tactic(auto, unfolding(dp_base::specs::Names::is_name, dp_base::specs::Names::is_word, dp_base::specs::DecimalShape::is_decimal))]
 fn a_name_is_added_once_and_found(rt: HostRuntime) -> Result<(), Fail> {
     let mut names = Names::counts(rt.alloc(), 1)?;
     let is_new = names.add_state(rt.alloc(), "left")?;

@@ -10,7 +10,7 @@ use mir.Val.{SFits}
 use Rattle.dp_spec.specs.declared.scales.Scales.{Scales}
 use Rattle.dp_spec.specs.Arithmetic.{reward_factor}
 use Rattle.dp_spec.specs.Calls.{AreInRange}
-use Rattle.dp_laws.proofs.Ring.{zmul_assoc}
+use Rattle.dp_base.proofs.Ring.{zmul_assoc}
 use Rattle.dp_num.specs.RewardFactors.{HoldsFactors}
 
 -- with no step left it is the scale of the discount

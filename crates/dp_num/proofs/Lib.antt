@@ -1,13 +1,2 @@
-pub mod DigitRuns
-pub mod DivisorLaws
 pub mod ExactSteps
-pub mod Exponents
-pub mod Grammar
-pub mod Magnitudes
-pub mod NumberRows
-pub mod Outcomes
 pub mod Parts
-pub mod Rounded
-pub mod ShapeRows
-pub mod SignificandLaws
-pub mod Shortest

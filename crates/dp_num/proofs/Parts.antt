@@ -1,9 +1,9 @@
 -- Parts of weights and values, rounded: they are no larger than the whole.
 use Rattle.std.proofs.Common.{◌≡◌, ℕ, ◌<◌, ◌≤◌, ℤ, pos, negsuc, ◌*ℤ◌, ◌≤ℤ◌, unsigned_abs, ap, ◌∙◌, arith}
 use Rattle.std.proofs.lemmas.Int.{ints}
-use Rattle.dp_spec.specs.Rounding.{ceiling_of, floor_of, mul_down, mul_up}
-use Rattle.dp_laws.proofs.Floors.{part_abs, part_down, part_up}
-use Rattle.dp_laws.proofs.Ring.{zle_of, zle_trans}
+use Rattle.dp_base.specs.Rounding.{ceiling_of, floor_of, mul_down, mul_up}
+use Rattle.dp_base.proofs.Floors.{part_abs, part_down, part_up}
+use Rattle.dp_base.proofs.Ring.{zle_of, zle_trans}
 
 -- a part of a weight, rounded down
 pub part_down_most : (a : ℤ) (p d : ℕ) (q e r : ℤ) → pos 0 ≤ℤ a → 0 < d → p ≤ d → q ≡ pos p → e ≡ pos d

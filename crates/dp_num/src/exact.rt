@@ -169,5 +169,5 @@ impl Arith for Exact {
         times(w.low, v)
     }
 
-    ghost holds = { λ a m is e. exact_holds a m e };
+    ghost holds = { λ a range. exact_holds a };
 }

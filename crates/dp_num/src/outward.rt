@@ -2,11 +2,11 @@
 ghost use Rattle.std.specs.Prelude.{◌≡◌, ◌*◌, ◌^◌, ◌<◌, ◌≤◌, pos, ◌≤ℤ◌, unsigned_abs};
 ghost use Rattle.dp_spec.specs.Arithmetic.{outward};
 ghost use Rattle.dp_spec.specs.Calls.{AreInRange, outward_calls};
-ghost use Rattle.dp_spec.specs.Rounding.{mul_down as down_of, mul_up as up_of};
+ghost use Rattle.dp_base.specs.Rounding.{mul_down as down_of, mul_up as up_of};
 ghost use Rattle.dp_laws.proofs.SoundOverScales.{outward_holds};
 
 use crate::arith::Arith;
-use crate::rounding::{mul_down, mul_up};
+use dp_base::{mul_down, mul_up};
 use dp_spec::{Scales, Span};
 use std::marker::Model;
 
@@ -45,7 +45,7 @@ impl Outward {
 
 /// A part of a weight, rounded down.
 #[inline]
-#[tactic(auto, unfolding(dp_spec::specs::Rounding::mul_down))]
+#[tactic(auto, unfolding(dp_base::specs::Rounding::mul_down))]
 fn part_down(weight: i128, part: u64, whole: u64) -> i128
     requires from { pos 0 ≤ℤ weight }
     requires to { weight ≤ℤ pos (2 ^ 64) }
@@ -61,7 +61,7 @@ fn part_down(weight: i128, part: u64, whole: u64) -> i128
 
 /// A part of a weight, rounded up.
 #[inline]
-#[tactic(auto, unfolding(dp_spec::specs::Rounding::mul_up))]
+#[tactic(auto, unfolding(dp_base::specs::Rounding::mul_up))]
 fn part_up(weight: i128, part: u64, whole: u64) -> i128
     requires from { pos 0 ≤ℤ weight }
     requires to { weight ≤ℤ pos (2 ^ 64) }
@@ -77,7 +77,7 @@ fn part_up(weight: i128, part: u64, whole: u64) -> i128
 
 /// A part of a value, rounded up.
 #[inline]
-#[tactic(auto, unfolding(dp_spec::specs::Rounding::mul_up))]
+#[tactic(auto, unfolding(dp_base::specs::Rounding::mul_up))]
 fn value_part_up(value: i128, part: u64, whole: u64) -> i128
     requires size { unsigned_abs value ≤ 2 ^ 62 }
     requires part { part ≤ whole }
@@ -91,7 +91,7 @@ fn value_part_up(value: i128, part: u64, whole: u64) -> i128
 
 /// A weight times a reward, in the unit of values, rounded down.
 #[inline]
-#[tactic(auto, unfolding(dp_spec::specs::Rounding::mul_down))]
+#[tactic(auto, unfolding(dp_base::specs::Rounding::mul_down))]
 fn gain_down(weight: i128, reward: i64, scale: u64) -> i128
     requires from { pos 0 ≤ℤ weight }
     requires to { weight ≤ℤ pos (2 ^ 64) }
@@ -104,7 +104,7 @@ fn gain_down(weight: i128, reward: i64, scale: u64) -> i128
 
 /// A weight times a reward, in the unit of values, rounded up.
 #[inline]
-#[tactic(auto, unfolding(dp_spec::specs::Rounding::mul_up))]
+#[tactic(auto, unfolding(dp_base::specs::Rounding::mul_up))]
 fn gain_up(weight: i128, reward: i64, scale: u64) -> i128
     requires from { pos 0 ≤ℤ weight }
     requires to { weight ≤ℤ pos (2 ^ 64) }
@@ -117,7 +117,7 @@ fn gain_up(weight: i128, reward: i64, scale: u64) -> i128
 
 /// A weight times a value, in the unit of values, rounded up.
 #[inline]
-#[tactic(auto, unfolding(dp_spec::specs::Rounding::mul_up))]
+#[tactic(auto, unfolding(dp_base::specs::Rounding::mul_up))]
 fn weighted_up(weight: i128, value: i128) -> i128
     requires from { pos 0 ≤ℤ weight }
     requires to { weight ≤ℤ pos (2 ^ 64) }
@@ -135,7 +135,7 @@ impl Arith for Outward {
     ghost calls = { λ a. outward_calls a };
 
     #[inline]
-    #[tactic(auto, unfolding(dp_spec::specs::Arithmetic::outward, dp_spec::specs::Rounding::mul_down, dp_spec::specs::Rounding::mul_up))]
+    #[tactic(auto, unfolding(dp_spec::specs::Arithmetic::outward, dp_base::specs::Rounding::mul_down, dp_base::specs::Rounding::mul_up))]
     fn start(&self, b: u64) -> Span {
         let scale = i128::from(self.scales.start);
         Span {
@@ -207,5 +207,5 @@ impl Arith for Outward {
         }
     }
 
-    ghost holds = { λ a m is e. outward_holds a m is e };
+    ghost holds = { λ a range. outward_holds a range };
 }

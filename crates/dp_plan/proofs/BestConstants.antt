@@ -4,7 +4,7 @@ use Rattle.std.proofs.lemmas.Int.{ints}
 use Rattle.std.specs.Int.Signed.{lt_z, lt_z_yes, lt_z_no}
 use Rattle.dp_laws.proofs.ConstantPolicies.{constant_policy_fits, root_bound_at_one}
 use Rattle.dp_laws.proofs.ExactArithmetic.{exact_sound}
-use Rattle.dp_laws.proofs.Order.{equal_of_le, last_or_before}
+use Rattle.dp_base.proofs.Order.{equal_of_le, last_or_before}
 use Rattle.dp_laws.proofs.ValidCertificates.{claims_hold}
 use Rattle.dp_laws.proofs.QuantityLaws.{exact_quantities, worth_enclosed}
 use Rattle.dp_spec.specs.declared.span.Span.{Span}
@@ -18,11 +18,11 @@ use Rattle.dp_spec.specs.Mode.{is_exact_mode}
 use Rattle.dp_spec.specs.Model.{IsModel, Model, joint_actions}
 use Rattle.dp_spec.specs.Quantities.{forward_worth_in}
 use Rattle.dp_spec.specs.Steps.{root_front}
-use Rattle.dp_spec.specs.Sums.{greatest, numbers_below}
+use Rattle.dp_base.specs.Sums.{greatest, numbers_below}
 use Rattle.dp_plan.specs.BestConstant.{IsBestConstant, IsFirstGreatest, constant_value}
 use Rattle.dp_plan.specs.ConstantCertificate.{constant_certificate}
 use Rattle.dp_plan.proofs.OneStep.{within_one_step}
-use Rattle.dp_laws.proofs.GreatestValues.{greatest_below_at_most, le_greatest_below}
+use Rattle.dp_base.proofs.GreatestValues.{greatest_below_at_most, le_greatest_below}
 
 -- ---- the first greatest, one number after the other
 
@@ -78,7 +78,7 @@ root_bound_is_best m a ok best =
 lower_is_value : (m : Model) (a : ℕ)
     → constant_value m a ≡ (forward_worth_in (exact m.scales) m 1 (constant_policy m 1 a)).low
 unfolding constant_value
-lower_is_value m a = sym (ap (λ (s : Span). s.low) (worth_enclosed m (exact m.scales) equality (exact_sound m) 1 (constant_policy m 1 a)))
+lower_is_value m a = sym (ap (λ (s : Span). s.low) (worth_enclosed m (exact m.scales) equality (exact_sound m.scales) 1 (constant_policy m 1 a)))
 
 -- in exact mode the certificate of the best constant policy is valid
 pub best_constant_is_valid : (m : Model) (a : ℕ) → IsModel m → is_exact_mode m 1 ≡ true → IsBestConstant m a

@@ -11,7 +11,7 @@ use Rattle.dp_plan.specs.ExpectedReward.{reward_from_start, reward_in_state, rew
 use Rattle.dp_plan.proofs.ExpectedRewards.{value_is_expected}
 use Rattle.dp_plan.proofs.OneStep.{power_one}
 use Rattle.dp_plan.proofs.WeighedSums.{HasRoom, weighed_abs}
-use Rattle.dp_laws.proofs.ModeCondition.{exact_condition, reward_at_most, reward_most}
+use Rattle.dp_spec.proofs.ModeCondition.{exact_condition, reward_at_most, reward_most}
 
 -- products of the scales and of the most that the mode allows for a reward, the later ones with a factor more
 record HaveRoom (b t o d k : ℕ) : Type 0 where

@@ -3,8 +3,8 @@ use Rattle.std.proofs.Common.{◌≡◌, ℕ, zero, suc, ◌+◌, ◌*◌, ◌^�
 use Rattle.std.proofs.lemmas.Int.{fits_signed_from_abs, unsigned_abs-mul, to_z-of_z}
 use Rattle.std.proofs.Math.Nat.{mul-le-mul_left, mul-le-mul_right}
 use Rattle.std.specs.Int.{w128}
-use Rattle.dp_spec.specs.Sums.{int_sum, nat_sum}
-use Rattle.dp_spec.proofs.NaturalSumLaws.{nat_sum_at, nat_sum_part}
+use Rattle.dp_base.specs.Sums.{int_sum, nat_sum}
+use Rattle.dp_base.proofs.NaturalSumLaws.{nat_sum_at, nat_sum_part}
 use Rattle.dp_laws.proofs.SizeSums.{abs_add}
 
 -- Numbers of at most `most` against weights: the sum has room in 128 bits.

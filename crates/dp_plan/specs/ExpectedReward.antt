@@ -1,6 +1,6 @@
 -- The reward that is expected of a joint action over one step, one sum inside the other.
 use Rattle.std.specs.Prelude.{ℕ, ℤ, pos, ◌*ℤ◌}
-use Rattle.dp_spec.specs.Sums.{int_sum}
+use Rattle.dp_base.specs.Sums.{int_sum}
 use Rattle.dp_spec.specs.Model.{Model, joint_observations, start_at, trans_at, obs_at, reward_at}
 
 -- where state t follows state s, over the joint observations

@@ -8,8 +8,8 @@ ghost use Rattle.dp_plan.specs.ConstantCertificate.{IsBestConstantText};
 ghost use Rattle.dp_plan.specs.ConstantPolicyText.{agent_text, agents_text, head_text, tree_text};
 
 use crate::best_constant;
+use dp_base::Memory;
 use dp_model::Model;
-use dp_num::Memory;
 use itoa::Buffer;
 use std::alloc::Global;
 

@@ -14,9 +14,10 @@ ghost use Rattle.dp_reader.specs.Reading.{ReadsModel};
 
 use crate::lists::{all_names, names_in, sizes};
 use crate::repaired::{Repaired, observations, start, transitions};
+use dp_base::Memory;
 use dp_meaning::{Header, Text};
 use dp_model::{Cells, Items, Model, Names, Sizes};
-use dp_num::{Memory, Scales};
+use dp_spec::Scales;
 use dp_tables::{rewards, states};
 use dp_text::TextFault;
 use std::alloc::Global;

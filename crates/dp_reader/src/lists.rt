@@ -3,9 +3,9 @@ ghost use Rattle.std.specs.Prelude.{◌≡◌, map, IfOk};
 ghost use Rattle.dp_meaning.specs.NameLists as spec;
 ghost use Rattle.dp_meaning.specs.NameLists.{size_of};
 
+use dp_base::Memory;
 use dp_meaning::GivenList;
 use dp_model::{Items, NameList};
-use dp_num::Memory;
 use std::alloc::Global;
 
 /// How many things each of the lists has.

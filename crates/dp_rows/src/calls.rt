@@ -3,9 +3,9 @@ use crate::files::{
     solo_with, text_of,
 };
 use crate::refusals::{FAULTS, LIMITS};
+use dp_base::Memory;
 use dp_cli::{Status, run};
 use dp_io::{FetchFault, MemShelf, MemSink, Shelf};
-use dp_num::Memory;
 use std::alloc::Global;
 use std::test::Fail;
 

@@ -1,5 +1,5 @@
 // The model files of the rows, as the pieces that they are put together from.
-use dp_num::Memory;
+use dp_base::Memory;
 use std::alloc::Global;
 
 pub fn text_of(alloc: Global, pieces: &[&str]) -> Result<String, Memory> {

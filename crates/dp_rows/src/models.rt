@@ -2,8 +2,9 @@ use crate::files::{
     ONE_STATE, SOLO_CHANCES, SOLO_LISTS, SOLO_REWARDS, TIGER, UNEVEN_CHANCES, UNEVEN_START,
     solo_with, text_of,
 };
-use dp_num::{Memory, Scales};
+use dp_base::Memory;
 use dp_reader::{ReadModel, read_model};
+use dp_spec::Scales;
 use std::alloc::Global;
 use std::test::Fail;
 

@@ -1,21 +1,21 @@
 pub mod JointNumberLaws
+pub mod ModeCondition
 pub mod ModelLaws
-pub mod NaturalSumLaws
-mod CertificateRows
-mod EquivalenceRows
-mod FittingRows
-mod KeepingRows
-mod NumberingRows
-mod OutwardRows
-mod QualityRows
-mod ReasonRows
-pub mod RoundingLaws
+pub mod CertificateRows
+pub mod EquivalenceRows
+pub mod FittingRows
+pub mod KeepingRows
+pub mod NumberingRows
+pub mod OutwardRows
+pub mod QualityRows
+pub mod ReasonRows
+pub mod QuantityScales
 pub mod ScaleRange
 pub mod SmallModels
-mod SharedPolicyRows
-mod SmallRows
+pub mod SharedPolicyRows
+pub mod SmallRows
 pub mod TextLemmas
-mod TextRows
-mod TigerRows
-mod TreeRows
-mod WideRows
+pub mod TextRows
+pub mod TigerRows
+pub mod TreeRows
+pub mod WideRows

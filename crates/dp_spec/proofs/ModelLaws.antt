@@ -1,8 +1,8 @@
 -- What is there in every model.
 use Rattle.std.proofs.Common.{◌≡◌, ◌<◌, arith}
-use Rattle.dp_spec.proofs.NaturalSumLaws.{some_of_sum}
+use Rattle.dp_base.proofs.NaturalSumLaws.{some_of_sum}
 use Rattle.dp_spec.specs.Model.{IsModel, Model, joint_observations, obs_at, start_at}
-use Rattle.dp_spec.specs.Sums.{nat_sum}
+use Rattle.dp_base.specs.Sums.{nat_sum}
 
 -- there is a state, since the start chances sum to a scale
 pub some_state : (m : Model) → IsModel m → 0 < m.states

@@ -8,7 +8,7 @@ use Rattle.dp_spec.specs.Front.{AgentFront, own_histories}
 use Rattle.dp_spec.specs.Steps.{chosen_front, unchosen_front, root_front, front_after_choice, advanced_agent}
 use Rattle.dp_spec.specs.Merge.{renumbered, merged_front}
 use Rattle.dp_spec.specs.Mode.{IsTrueFit, is_exact_mode, unit_of, own_history_count}
-use Rattle.dp_spec.specs.Rounding.{floor_of, ceiling_of}
+use Rattle.dp_base.specs.Rounding.{floor_of, ceiling_of}
 use Rattle.dp_spec.proofs.SmallModels.{blind, tiger}
 
 -- the first agent is most significant

@@ -9,7 +9,7 @@ use Rattle.dp_spec.specs.Bound.{agreeing_actions}
 use Rattle.dp_spec.specs.Steps.{IsUnassigned, root_agent, advanced_agent, front_after_choice, root_front}
 use Rattle.dp_spec.specs.LookAhead.{weights_after}
 use Rattle.dp_spec.specs.Merge.{merged_agent, merged_front}
-use Rattle.dp_spec.specs.Rounding.{ceiling_of, mul_down, mul_up}
+use Rattle.dp_base.specs.Rounding.{ceiling_of, mul_down, mul_up}
 use Rattle.dp_spec.specs.Arithmetic.{exact, outward, reward_factor}
 use Rattle.dp_spec.specs.Quantities.{action_look_ahead_in, class_weight_in, weighted_reward_in, weighted_table_in, weights_after_in}
 use Rattle.dp_spec.specs.BoundTree.{BoundTree, branch, leaf, merge, more_bound_trees, no_bound_trees}

@@ -8,7 +8,7 @@ use Rattle.dp_spec.specs.Steps.{advanced_agent, front_after_choice, root_front}
 use Rattle.dp_spec.specs.LookAhead.{weights_after}
 use Rattle.dp_spec.specs.Merge.{class_of_agent, class_of_others, class_total, place_weight}
 use Rattle.dp_spec.specs.UnequalPlaces.{first_unequal, place_count}
-use Rattle.dp_spec.specs.Rounding.{ceiling_of, mul_down, mul_up}
+use Rattle.dp_base.specs.Rounding.{ceiling_of, mul_down, mul_up}
 use Rattle.dp_spec.specs.Arithmetic.{exact, outward, reward_factor}
 use Rattle.dp_spec.specs.Quantities.{action_look_ahead_in, class_weight_in, weighted_reward_in, weighted_table_in, weights_after_in}
 use Rattle.dp_spec.specs.SharedPolicy.{AgentRows}

@@ -5,7 +5,7 @@ use Rattle.dp_spec.specs.PolicyTree.{PolicyTree, node, no_trees, more_trees}
 use Rattle.dp_spec.specs.ConstantPolicy.{constant_policy}
 use Rattle.dp_spec.specs.ConstantRows.{constant_rows}
 use Rattle.dp_spec.specs.Arithmetic.{exact, outward, point, reward_factor}
-use Rattle.dp_spec.specs.Rounding.{ceiling_of, mul_down, mul_up}
+use Rattle.dp_base.specs.Rounding.{ceiling_of, mul_down, mul_up}
 use Rattle.dp_spec.specs.Quantities.{weights_after_in, weighted_reward_in}
 use Rattle.dp_spec.specs.SharedPolicy.{AgentRows, PolicyRow, unfolded}
 use Rattle.dp_spec.specs.PlainForm.{plain_form}

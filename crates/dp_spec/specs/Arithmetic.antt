@@ -2,7 +2,7 @@
 use Rattle.std.specs.Prelude.{Bool, true, false, ℕ, ◌*◌, ◌^◌, ℤ, pos, ◌+ℤ◌, ◌*ℤ◌}
 use Rattle.dp_spec.specs.declared.span.Span.{Span}
 use Rattle.dp_spec.specs.declared.scales.Scales.{Scales}
-use Rattle.dp_spec.specs.Rounding.{mul_down, mul_up, by_sign}
+use Rattle.dp_base.specs.Rounding.{mul_down, mul_up, by_sign}
 
 -- the span that holds x alone
 abbrev pub point : ℤ → Span

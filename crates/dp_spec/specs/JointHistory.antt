@@ -1,6 +1,6 @@
 -- Joint histories, their weights, and what is earned along them (Oliehoek and Amato, chapter 3).
 use Rattle.std.specs.Prelude.{ℕ, zero, suc, ◌-◌, ◌<◌, ℤ, pos, ◌+ℤ◌, List, [], ◌∷◌}
-use Rattle.dp_spec.specs.Sums.{int_sum, nat_sum}
+use Rattle.dp_base.specs.Sums.{int_sum, nat_sum}
 use Rattle.dp_spec.specs.Model.{Model, joint_observations, start_at}
 use Rattle.dp_spec.specs.PolicyTree.{PolicyTree}
 use Rattle.dp_spec.specs.Value.{trees_after}

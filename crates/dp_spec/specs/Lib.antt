@@ -1,4 +1,3 @@
-pub mod Sums
 pub mod JointNumbers
 pub mod Model
 pub mod PolicyTree
@@ -14,7 +13,6 @@ pub mod Merge
 pub mod Pairs
 pub mod UnequalPlaces
 pub mod Primitive
-pub mod Rounding
 pub mod Arithmetic
 pub mod Quantities
 pub mod Enclosure
@@ -48,3 +46,12 @@ pub mod SizesOfTable
 pub mod SizesOfLookAhead
 pub mod SizesOfFronts
 pub mod SizesOfRows
+pub mod ClassSteps
+pub mod Zeros
+pub mod Arena
+pub mod Space
+pub mod Exploration
+pub mod SearchState
+pub mod FrontSpace
+pub mod Searched
+pub mod WholeTree

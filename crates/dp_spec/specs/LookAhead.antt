@@ -1,7 +1,7 @@
 -- Look-ahead from weights over states, as if one agent saw every joint observation (the basis of Q_POMDP; Oliehoek
 -- and Amato, chapter 4).
 use Rattle.std.specs.Prelude.{ℕ, zero, suc, ◌*◌, ◌-◌, ◌^◌, ℤ, pos, ◌+ℤ◌, ◌*ℤ◌}
-use Rattle.dp_spec.specs.Sums.{int_sum, nat_sum, greatest, numbers_below}
+use Rattle.dp_base.specs.Sums.{int_sum, nat_sum, greatest, numbers_below}
 use Rattle.dp_spec.specs.Model.{Model, joint_observations, joint_actions, trans_at, obs_at, reward_at, step_scale}
 use Rattle.dp_spec.specs.MdpTable.{mdp_table}
 

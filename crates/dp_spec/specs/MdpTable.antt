@@ -1,7 +1,7 @@
 -- The value of the underlying Markov decision process, whose agents all see the state (the basis of Q_MDP; Oliehoek
 -- and Amato, chapter 4).
 use Rattle.std.specs.Prelude.{ℕ, zero, suc, ◌*◌, ◌^◌, ℤ, pos, ◌+ℤ◌, ◌*ℤ◌}
-use Rattle.dp_spec.specs.Sums.{int_sum, greatest, numbers_below}
+use Rattle.dp_base.specs.Sums.{int_sum, greatest, numbers_below}
 use Rattle.dp_spec.specs.Model.{Model, joint_observations, joint_actions, trans_at, obs_at, reward_at, step_scale}
 
 -- the greatest value over the r steps that are left, from state s

@@ -1,6 +1,6 @@
 -- The mode of a model and a horizon, the unit in which its values are counted, and the limits of a horizon.
 use Rattle.std.specs.Prelude.{ℕ, ◌+◌, ◌*◌, ◌-◌, ◌^◌, ◌<◌, ◌≤◌, ◌≡◌, ◌⊎◌, Bool, nat_le, max, unsigned_abs, ℤ, pos, List, [], ◌∷◌, if◌then◌else◌}
-use Rattle.dp_spec.specs.Sums.{nat_sum}
+use Rattle.dp_base.specs.Sums.{nat_sum}
 use Rattle.dp_spec.specs.Model.{Model, joint_actions, joint_observations, step_scale, value_scale}
 
 -- the greatest magnitude of a list of numbers

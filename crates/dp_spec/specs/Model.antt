@@ -1,7 +1,7 @@
 -- A decentralised POMDP (Oliehoek and Amato, chapter 2), as whole numbers over scales.
 use Rattle.std.specs.Prelude.{ℕ, ◌+◌, ◌*◌, ◌^◌, ◌<◌, ◌≤◌, ◌≡◌, ℤ, pos, unsigned_abs, List, length, get_or}
 use Rattle.dp_spec.specs.declared.scales.Scales.{Scales}
-use Rattle.dp_spec.specs.Sums.{nat_sum}
+use Rattle.dp_base.specs.Sums.{nat_sum}
 use Rattle.dp_spec.specs.JointNumbers.{product}
 
 -- the sizes, the scales, and the tables one after the other by joint action, state, next state and joint observation

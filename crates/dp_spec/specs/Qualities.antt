@@ -2,7 +2,7 @@
 use Rattle.std.specs.Prelude.{ℕ, suc, ◌<◌, ◌≡◌, ◌==◌, true, false, cond, ℤ, pos, ◌+ℤ◌, neg_ℤ, ◌≤ℤ◌, ◌<ℤ◌, All, slice_get, List, [], ◌∷◌, ◌++◌, map, filter, length, get_or, Option, Some, None, is_none}
 use Rattle.std.specs.Int.{int_min}
 use Rattle.std.specs.List.{range_with_len, flat_map}
-use Rattle.dp_spec.specs.Sums.{int_sum, greatest, numbers_below}
+use Rattle.dp_base.specs.Sums.{int_sum, greatest, numbers_below}
 use Rattle.dp_spec.specs.JointNumbers.{product, parts_of}
 use Rattle.dp_spec.specs.Model.{Model}
 use Rattle.dp_spec.specs.Front.{Front, class_counts}

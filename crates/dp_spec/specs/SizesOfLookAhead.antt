@@ -1,7 +1,7 @@
 -- That look-ahead from any weights within the sum bound of a mode can be computed.
 use Rattle.std.specs.Prelude.{ℕ, suc, ◌+◌, ◌^◌, ◌<◌, ◌≡◌, unsigned_abs}
 use Rattle.dp_spec.specs.declared.span.Span.{Span}
-use Rattle.dp_spec.specs.Sums.{nat_sum}
+use Rattle.dp_base.specs.Sums.{nat_sum}
 use Rattle.dp_spec.specs.Model.{Model, joint_actions, joint_observations}
 use Rattle.dp_spec.specs.Arithmetic.{Arithmetic}
 use Rattle.dp_spec.specs.Quantities.{look_ahead_in, mdp_table_in, weights_after_in}

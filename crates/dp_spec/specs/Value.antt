@@ -1,6 +1,6 @@
 -- The value of a joint policy, computed backwards (Oliehoek and Amato, chapter 3).
 use Rattle.std.specs.Prelude.{ℕ, zero, suc, ◌*◌, ◌^◌, ℤ, pos, ◌+ℤ◌, ◌*ℤ◌, List, [], ◌∷◌, map}
-use Rattle.dp_spec.specs.Sums.{int_sum}
+use Rattle.dp_base.specs.Sums.{int_sum}
 use Rattle.dp_spec.specs.JointNumbers.{joint_number, parts_of}
 use Rattle.dp_spec.specs.Model.{Model, joint_observations, trans_at, obs_at, reward_at, step_scale, start_at}
 use Rattle.dp_spec.specs.PolicyTree.{PolicyTree, root_action, subtree}

@@ -3,10 +3,10 @@ use Rattle.std.proofs.Common.{◌≡◌, ℕ, ◌+◌, ◌*◌, ◌/◌, ◌^◌
 use Rattle.std.specs.Int.{w64, w128}
 use Rattle.std.specs.Prelude.{ℤ, pos, neg_ℤ, ◌-ℤ◌, ◌*ℤ◌, true, unsigned_abs}
 use Rattle.std.proofs.lemmas.Int.{fits_signed_from_abs, to_z-of_z, ints}
-use Rattle.dp_spec.proofs.RoundingLaws.{unsigned_abs-neg}
+use Rattle.dp_base.proofs.RoundingLaws.{unsigned_abs-neg}
 use Rattle.std.proofs.Math.Nat.{mul-le-mul_right, mul_assoc}
-use Rattle.dp_num.proofs.SignificandLaws.{tens_up}
-use Rattle.dp_num.specs.declared.decimal.Decimal.{Decimal}
+use Rattle.dp_base.proofs.SignificandLaws.{tens_up}
+use Rattle.dp_base.specs.declared.decimal.Decimal.{Decimal}
 use Rattle.dp_meaning.specs.Numbers.{is_chance, is_reward}
 use Rattle.dp_meaning.specs.Cells.{chance_over}
 use Rattle.dp_meaning.proofs.ReadScales.{chance_parts, reward_parts}

@@ -9,7 +9,7 @@ use Rattle.std.proofs.lemmas.List.FromFn.{length-map-range_with_len, get_or-map-
 use Rattle.std.proofs.lemmas.Nat.{mod_below}
 use Rattle.dp_spec.specs.JointNumbers.{product, parts_of}
 use Rattle.dp_spec.proofs.JointNumberLaws.{product-drop_above, joint_number-drop_parts}
-use Rattle.dp_num.specs.declared.decimal.Decimal.{Decimal}
+use Rattle.dp_base.specs.declared.decimal.Decimal.{Decimal}
 use Rattle.dp_meaning.specs.declared.statement.Table.{Table}
 use Rattle.dp_meaning.specs.declared.statement.Value.{Value}
 use Rattle.dp_meaning.specs.declared.statement.Value.TheVariants.{Uniform, Identity, Numbers}

@@ -2,7 +2,7 @@
 use Rattle.std.proofs.Common.{◌≡◌, ℕ, ◌+◌, ◌*◌, ◌%◌, ◌^◌, ◌<◌, ◌≤◌, Bool, true, List, [], ◌∷◌, length, get_or, map, take, drop, refl, sym, ap, subst, ◌∙◌, arith, ℤ, pos}
 use Rattle.std.specs.Prelude.{replicate}
 use Rattle.std.proofs.lemmas.List.{drop-map, length-map}
-use Rattle.dp_num.proofs.SignificandLaws.{tens_up}
+use Rattle.dp_base.proofs.SignificandLaws.{tens_up}
 use Rattle.dp_spec.specs.JointNumbers.{product, parts_of}
 use Rattle.dp_meaning.specs.declared.statement.Table.TheVariants.{Reward}
 use Rattle.dp_meaning.specs.declared.statement.Value.{Value}

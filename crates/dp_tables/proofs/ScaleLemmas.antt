@@ -2,7 +2,7 @@
 use Rattle.std.proofs.Common.{◌≡◌, ℕ, ◌*◌, ◌/◌, ◌<◌, ◌≤◌, ◌∙◌, arith}
 use Rattle.std.specs.Int.{IsGcd}
 use Rattle.std.proofs.Math.Nat.{pos_of_dvd_of_pos}
-use Rattle.dp_num.specs.Divisors.{gcd_of, lcm_of}
+use Rattle.dp_base.specs.Divisors.{gcd_of, lcm_of}
 
 pub gcd_above : (a b g : ℕ) → 1 ≤ a → IsGcd a b g → 0 < g
 gcd_above a b g some h = pos_of_dvd_of_pos h.0 (omega arith)

@@ -8,8 +8,8 @@ ghost use Rattle.dp_meaning.specs.Cells as spec;
 ghost use Rattle.dp_tables.specs.Blocks as blocks;
 ghost use Rattle.dp_tables.specs.Blocks.{IsChanceValue, IsRewardValue};
 
+use dp_base::{Decimal, Memory};
 use dp_meaning::Value;
-use dp_num::{Decimal, Memory};
 use std::alloc::Global;
 
 /// The chances of a value, in a table whose rows have so many cells.

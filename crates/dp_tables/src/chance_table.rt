@@ -18,8 +18,8 @@ use crate::blocks::chance_block;
 use crate::lists::{list_parts, list_sizes};
 use crate::sizes::{joint_actions, joint_observations, states};
 use crate::writing::write_block;
+use dp_base::Memory;
 use dp_meaning::{Statement, Table, Text};
-use dp_num::Memory;
 use std::alloc::Global;
 
 /// The chances of a table over this scale, as the statements of the text give them: by joint

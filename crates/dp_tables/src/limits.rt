@@ -15,7 +15,7 @@ use crate::sizes::{JointSizes, first_product_past_most};
 use crate::statements::count_of;
 use dp_meaning::{Table, Text};
 use dp_model::{Limit, TooLarge};
-use dp_num::Scales;
+use dp_spec::Scales;
 
 /// The scales of a text, or the first limit that it passes, with the count that passes it. The
 /// limits on sizes come first, then those on cells, on reward statements and on scales. It takes no

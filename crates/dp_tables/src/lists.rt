@@ -4,9 +4,9 @@ ghost use Rattle.dp_meaning.specs.NameLists.{size_of};
 ghost use Rattle.dp_meaning.specs.Statements.{axes_of};
 ghost use Rattle.dp_tables.specs.Writing as spec;
 
+use dp_base::Memory;
 use dp_meaning::{GivenList, Header, Part, Table};
 use dp_model::Items;
-use dp_num::Memory;
 use std::alloc::Global;
 
 /// The sizes of the lists of a table's axes: the agents' actions, the states, and the next states,

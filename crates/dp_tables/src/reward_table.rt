@@ -14,8 +14,8 @@ use crate::blocks::reward_block;
 use crate::lists::{list_parts, list_sizes};
 use crate::sizes::{joint_actions, joint_observations, states};
 use crate::writing::write_block;
+use dp_base::Memory;
 use dp_meaning::{Statement, Table, Text};
-use dp_num::Memory;
 use std::alloc::Global;
 
 /// The rewards over their scale, as the statements of the text give them: by joint action, state,

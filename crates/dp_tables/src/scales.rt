@@ -4,11 +4,11 @@ ghost use Rattle.dp_meaning.specs.Cells.{statements_for};
 ghost use Rattle.dp_meaning.specs.Meaning.{IsSaid};
 ghost use Rattle.dp_meaning.specs.Scales as spec;
 ghost use Rattle.dp_meaning.specs.Scales.{digits_of_statements, scale_of};
-ghost use Rattle.dp_num.specs.Divisors.{lcm_of};
+ghost use Rattle.dp_base.specs.Divisors.{lcm_of};
 
 use crate::statements::{digits_in_numbers, has_uniform, most_digits_of};
+use dp_base::gcd;
 use dp_meaning::{Start, Table, Text};
-use dp_num::gcd;
 
 /// The scale of the start chances of so many states.
 pub(crate) fn start_scale(text: &Text, states: u32) -> u128

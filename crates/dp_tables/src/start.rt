@@ -11,8 +11,8 @@ ghost use Rattle.dp_tables.specs.Start.{IsChanceStart};
 use crate::blocks::chance_over;
 use crate::repair::repair_rows;
 use crate::sizes::states;
+use dp_base::Memory;
 use dp_meaning::{Fault, Start, Text, Why};
-use dp_num::Memory;
 use std::alloc::Global;
 
 /// The chances to start in each state, as the text gives them over this scale.

@@ -4,8 +4,8 @@ ghost use Rattle.std.specs.List.{list_any};
 ghost use Rattle.dp_meaning.specs.Cells.{statements_for};
 ghost use Rattle.dp_meaning.specs.Scales.{digits_of_statements, digits_of_value, is_uniform, most_digits};
 
+use dp_base::Decimal;
 use dp_meaning::{Statement, Table, Value};
-use dp_num::Decimal;
 
 /// How many of the statements fill the table.
 pub(crate) fn count_of(table: Table, statements: &[Statement]) -> usize

@@ -2,7 +2,7 @@
 use Rattle.std.proofs.Common.{◌≡◌, ℕ, ◌+◌, ◌≤◌, Bool, true, false, not, List, [], ◌∷◌, ◌++◌, length, drop, Result, Ok, Err, refl, ap, ◌∙◌, sym, length-append}
 use Rattle.std.specs.Prelude.{if◌then◌else◌}
 use Rattle.std.proofs.Math.ListN.{drop_of_length-le}
-use Rattle.dp_num.specs.Names.{is_name}
+use Rattle.dp_base.specs.Names.{is_name}
 use Rattle.dp_model.specs.Names.{has_name}
 use Rattle.dp_meaning.specs.declared.why.Fault.{Fault}
 use Rattle.dp_meaning.specs.declared.why.Why.TheVariants.{Expected, DoubleName}

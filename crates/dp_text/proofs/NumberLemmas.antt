@@ -1,6 +1,6 @@
 -- Exactly so many Numbers, read one by one.
 use Rattle.std.proofs.Common.{◌≡◌, ℕ, zero, suc, ◌-◌, ◌<◌, ◌≤◌, Bool, List, [], ◌∷◌, ◌++◌, length, Result, Ok, Err, refl, arith}
-use Rattle.dp_num.specs.declared.decimal.Decimal.{Decimal}
+use Rattle.dp_base.specs.declared.decimal.Decimal.{Decimal}
 use Rattle.dp_meaning.specs.declared.why.Fault.{Fault}
 use Rattle.dp_meaning.specs.declared.why.Why.TheVariants.{Expected}
 use Rattle.dp_meaning.specs.Faults.{◌>>=◌, fault}

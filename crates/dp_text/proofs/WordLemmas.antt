@@ -11,9 +11,9 @@ use Rattle.std.proofs.lemmas.Str.Parse.{numerals_by_value, tells_all_ascii_digit
 use Rattle.std.proofs.lemmas.Bool.Decides.{nat_tests}
 use Rattle.std.proofs.lemmas.Bool.{and_parts, ltb-true}
 use Rattle.std.proofs.lemmas.Str.{IsUtf8-from_ascii}
-use Rattle.dp_num.specs.Bytes.{is_name_byte}
-use Rattle.dp_num.specs.DecimalShape.{is_decimal, is_index}
-use Rattle.dp_num.specs.Names.{is_word}
+use Rattle.dp_base.specs.Bytes.{is_name_byte}
+use Rattle.dp_base.specs.DecimalShape.{is_decimal, is_index}
+use Rattle.dp_base.specs.Names.{is_word}
 use Rattle.dp_lexer.specs.declared.Kind.{Kind}
 use Rattle.dp_lexer.specs.declared.Kind.TheVariants.{Word, Number, Colon, Star, LineEnd}
 use Rattle.dp_lexer.specs.TokenLaws.{IsOfKind}

@@ -1,6 +1,6 @@
 -- Steps of reading the values of header entries.
 use Rattle.std.specs.Prelude.{ℕ, List, Result, Ok}
-use Rattle.dp_num.specs.declared.decimal.Decimal.{Decimal}
+use Rattle.dp_base.specs.declared.decimal.Decimal.{Decimal}
 use Rattle.dp_meaning.specs.declared.given_list.GivenList.{GivenList}
 use Rattle.dp_meaning.specs.declared.header.Start.{Start}
 use Rattle.dp_meaning.specs.declared.header.Start.TheVariants.{OneState, StartRow}

@@ -1,6 +1,6 @@
 -- Steps of reading a list of names.
 use Rattle.std.specs.Prelude.{ℕ, not, if◌then◌else◌, List, [], ◌∷◌, ◌++◌, Result, Ok}
-use Rattle.dp_num.specs.Names.{is_name}
+use Rattle.dp_base.specs.Names.{is_name}
 use Rattle.dp_model.specs.Names.{has_name}
 use Rattle.dp_meaning.specs.declared.given_list.GivenList.{GivenList}
 use Rattle.dp_meaning.specs.declared.given_list.GivenList.TheVariants.{Counted}

@@ -1,6 +1,6 @@
 -- The ranges of Numbers.
 use Rattle.std.specs.Prelude.{Bool}
-use Rattle.dp_num.specs.declared.decimal.Decimal.{Decimal}
+use Rattle.dp_base.specs.declared.decimal.Decimal.{Decimal}
 use Rattle.dp_meaning.specs.Numbers.{is_chance, is_reward}
 use Rattle.dp_text.specs.declared.numbers.Range.{Range}
 use Rattle.dp_text.specs.declared.numbers.Range.TheVariants.{Chance, Reward}

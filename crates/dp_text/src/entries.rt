@@ -9,9 +9,9 @@ use crate::fault::{TextFault, fault};
 use crate::name_lists::find_in;
 use crate::numbers::{Range, ended, number, numbers};
 use crate::words::{is_index, is_name, says};
+use dp_base::Decimal;
 use dp_items::{Piece, Pieces};
 use dp_meaning::{Fault, GivenList, Start, Why};
-use dp_num::Decimal;
 use std::alloc::Global;
 
 /// The discount: one Number from 0 to 1. A missing token belongs at `next`.

@@ -1,9 +1,9 @@
 //! Why a text was not read.
 ghost use Rattle.std.specs.Prelude.{◌≡◌};
 
+use dp_base::Memory;
 use dp_lexer::TokenFault;
 use dp_meaning::{Fault, Why};
-use dp_num::Memory;
 use std::alloc::{AllocError, AllocFailed};
 
 /// Why a text was not read.

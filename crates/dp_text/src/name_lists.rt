@@ -1,6 +1,6 @@
 //! Lists of agents, states, actions and observations, as they are given and as they are looked up.
 ghost use Rattle.std.specs.Prelude.{◌≡◌, [], ◌∷◌, ◌+◌, ◌<◌, ◌^◌, drop, length, true};
-ghost use Rattle.dp_num.specs.DecimalShape.{is_index};
+ghost use Rattle.dp_base.specs.DecimalShape.{is_index};
 ghost use Rattle.dp_meaning.specs.Entries.{agent_lines};
 ghost use Rattle.dp_meaning.specs.NameLists as spec;
 ghost use Rattle.dp_text.specs.NameListSteps.{counted, with_new_name};

@@ -5,10 +5,10 @@ ghost use Rattle.dp_text.specs.Ranges.{is_in};
 ghost use Rattle.dp_text.specs.Reading.{Reads};
 
 use crate::fault::{TextFault, fault};
+use dp_base::{Decimal, NumFault, read_decimal};
 use dp_items::{Piece, Pieces};
 use dp_meaning::{Fault, Why};
 use dp_model::Items;
-use dp_num::{Decimal, NumFault, read_decimal};
 use std::alloc::Global;
 
 /// In which range a Number has to be.

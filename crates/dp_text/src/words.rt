@@ -1,8 +1,8 @@
 //! Tokens as words: names, indices and the words of the format.
 ghost use Rattle.std.specs.Prelude.{◌≡◌, ◌<◌, ◌^◌, ◌||◌, SomeIff, codes, true};
 ghost use Rattle.std.specs.Str.{bytes_eq};
-ghost use Rattle.dp_num.specs.DecimalShape.{is_index};
-ghost use Rattle.dp_num.specs.Names.{is_name, is_word};
+ghost use Rattle.dp_base.specs.DecimalShape.{is_index};
+ghost use Rattle.dp_base.specs.Names.{is_name, is_word};
 ghost use Rattle.dp_meaning.specs.NameLists.{index, says};
 
 use dp_items::Piece;
@@ -28,7 +28,7 @@ pub(crate) fn says(word: &[u8], piece: &Piece) -> bool
 }
 
 /// Whether a token is a name.
-#[tactic(auto, unfolding(dp_num::specs::Names::is_name))]
+#[tactic(auto, unfolding(dp_base::specs::Names::is_name))]
 pub(crate) fn is_name(piece: &Piece) -> bool
     ensures { result ≡ is_name piece.now.text }
 {
@@ -52,7 +52,7 @@ fn is_reserved(text: &[u8]) -> bool
 pub(crate) fn is_index(piece: &Piece) -> bool
     ensures { result ≡ is_index piece.now.text }
 {
-    dp_num::is_index(piece.text())
+    dp_base::is_index(piece.text())
 }
 
 /// The number that an index writes, where it is below `2^32`.

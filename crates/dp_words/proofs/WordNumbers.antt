@@ -7,8 +7,8 @@ use Rattle.std.specs.Str.Parse.{AllDigits, IsNumeral, without_leading_plus, digi
 use Rattle.std.proofs.lemmas.Bool.{and_parts, le-leb, lt-leb}
 use Rattle.std.proofs.lemmas.Str.{digit_value_digit}
 use Rattle.std.proofs.lemmas.Str.Parse.{without_leading_plus_none}
-use Rattle.dp_num.specs.DecimalShape.{is_index}
-use Rattle.dp_num.proofs.DigitRuns.{digit_low, digit_high}
+use Rattle.dp_base.specs.DecimalShape.{is_index}
+use Rattle.dp_base.proofs.DigitRuns.{digit_low, digit_high}
 use Rattle.dp_words.specs.Words.{is_number, number_of}
 
 digits : (word : List ℕ) → list_all is_ascii_digit word ≡ true → AllDigits 10 word

@@ -3,7 +3,7 @@ ghost use Rattle.dp_words.specs.Words.{HasSomeStep, IsReadAs, job_of, plain_plan
 
 use crate::Name;
 use crate::number::number;
-use dp_num::Memory;
+use dp_base::Memory;
 use std::alloc::Global;
 
 /// What a command is to do, with which files and options.

@@ -2,7 +2,7 @@
 ghost use Rattle.std.specs.Prelude.{◌≡◌, ◌≤◌, ◌-◌, ◌^◌, IfSome};
 ghost use Rattle.dp_words.specs.Words.{is_number, number_of};
 
-use dp_num::is_index;
+use dp_base::is_index;
 
 // Whether a word is digits that do not begin with 0, or 0 alone.
 fn is_number(word: &[u8]) -> bool

@@ -4,7 +4,7 @@ use mir.Syntax.{w128}
 use mir.Val.{SFits}
 use Rattle.dp_num.proofs.ExactSteps.{gain_fits, part_fits}
 use Rattle.dp_num.proofs.exact.gained.Goals as goal
-use Rattle.dp_laws.proofs.Ring.{zmul_assoc}
+use Rattle.dp_base.proofs.Ring.{zmul_assoc}
 
 pub times-requires : goal.times-requires
 times-requires c =

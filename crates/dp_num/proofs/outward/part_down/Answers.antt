@@ -1,7 +1,7 @@
 use Rattle.std.proofs.lemmas.Int.{to_z-of_z}
 use mir.Syntax.{w128}
 use mir.Val.{SFits}
-use Rattle.dp_laws.proofs.Ring.{zle_trans}
+use Rattle.dp_base.proofs.Ring.{zle_trans}
 use Rattle.dp_num.proofs.Parts.{part_down_most}
 use Rattle.dp_num.proofs.outward.part_down.Goals as goal
 

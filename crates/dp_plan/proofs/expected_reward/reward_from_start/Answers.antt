@@ -2,7 +2,7 @@ use Rattle.std.proofs.Common.{◌≡◌, ◌<◌, ℕ, pos, ◌*ℤ◌, to_z, of
 use Rattle.std.proofs.lemmas.Int.{to_z-of_z}
 use Rattle.std.specs.Int.{w128}
 use Rattle.dp_spec.specs.Model.{Model, start_at}
-use Rattle.dp_spec.specs.Sums.{int_sum}
+use Rattle.dp_base.specs.Sums.{int_sum}
 use Rattle.dp_plan.specs.ExpectedReward.{reward_from_start, reward_in_state}
 use Rattle.dp_plan.proofs.Rooms.{start_room}
 use Rattle.dp_plan.proofs.WeighedSums.{next_fits, next_sum, read_back, term_fits}

@@ -2,7 +2,7 @@ use Rattle.std.proofs.Common.{◌≡◌, ◌<◌, ℕ, pos, ◌*ℤ◌, to_z, of
 use Rattle.std.proofs.lemmas.Int.{to_z-of_z}
 use Rattle.std.specs.Int.{w128}
 use Rattle.dp_spec.specs.Model.{Model, trans_at}
-use Rattle.dp_spec.specs.Sums.{int_sum}
+use Rattle.dp_base.specs.Sums.{int_sum}
 use Rattle.dp_plan.specs.ExpectedReward.{reward_in_state, reward_on_arrival}
 use Rattle.dp_plan.proofs.Rooms.{state_room}
 use Rattle.dp_plan.proofs.WeighedSums.{next_fits, next_sum, read_back, term_fits}

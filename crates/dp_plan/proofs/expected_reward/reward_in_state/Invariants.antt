@@ -1,6 +1,6 @@
 use Rattle.std.proofs.Common.{◌≡◌, pos, ◌*ℤ◌}
 use Rattle.dp_spec.specs.Model.{trans_at}
-use Rattle.dp_spec.specs.Sums.{int_sum}
+use Rattle.dp_base.specs.Sums.{int_sum}
 use Rattle.dp_plan.specs.ExpectedReward.{reward_on_arrival}
 use Rattle.dp_plan.proofs.expected_reward.reward_in_state.Given as goal
 

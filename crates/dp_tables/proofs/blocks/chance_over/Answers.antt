@@ -1,5 +1,5 @@
 use Rattle.std.proofs.Common.{◌^◌, ◌≤◌, ap, ◌∙◌, arith}
-use Rattle.dp_num.proofs.SignificandLaws.{some_tens, tens_up}
+use Rattle.dp_base.proofs.SignificandLaws.{some_tens, tens_up}
 use Rattle.dp_meaning.proofs.ReadScales.{chance_parts}
 use Rattle.dp_tables.proofs.BlockLemmas.{IsOver, chance_is_over}
 use Rattle.dp_tables.proofs.blocks.chance_over.Goals as goal

@@ -1,7 +1,7 @@
 use Rattle.std.proofs.Common.{◌*◌, ◌/◌, ◌^◌, ◌≤◌, sym, ap, subst, ◌∙◌, arith}
 use Rattle.std.specs.Prelude.{neg_ℤ, unsigned_abs}
 use Rattle.dp_meaning.specs.Cells.{reward_over}
-use Rattle.dp_num.proofs.SignificandLaws.{some_tens, tens_up}
+use Rattle.dp_base.proofs.SignificandLaws.{some_tens, tens_up}
 use Rattle.dp_meaning.proofs.ReadScales.{reward_parts}
 use Rattle.dp_tables.proofs.BlockLemmas.{reward_units, reward_within, reward_is, kept_small, negated}
 use Rattle.dp_tables.proofs.blocks.reward_over.Goals as goal

@@ -1,5 +1,5 @@
 use Rattle.std.proofs.Common.{◌≤◌, arith}
-use Rattle.dp_num.proofs.SignificandLaws.{tens_up}
+use Rattle.dp_base.proofs.SignificandLaws.{tens_up}
 use Rattle.dp_meaning.proofs.SaidTexts.{discount_digits}
 use Rattle.dp_tables.proofs.scales.discount_scale.Goals as goal
 

@@ -2,7 +2,7 @@ use Rattle.std.proofs.Common.{◌≡◌, ap, ◌∙◌, arith}
 use Rattle.std.specs.Int.{w128}
 use Rattle.std.specs.Prelude.{unsigned_abs}
 use Rattle.std.proofs.lemmas.Int.{fits_signed_from_abs, to_z-of_z}
-use Rattle.dp_num.proofs.SignificandLaws.{tens_up}
+use Rattle.dp_base.proofs.SignificandLaws.{tens_up}
 use Rattle.dp_meaning.proofs.SaidTexts.{discount_digits, discount_units}
 use Rattle.dp_tables.proofs.scales.gain.Goals as goal
 

@@ -1,5 +1,5 @@
 use Rattle.std.proofs.Common.{◌≤◌, ap, arith}
-use Rattle.dp_num.proofs.SignificandLaws.{tens_up}
+use Rattle.dp_base.proofs.SignificandLaws.{tens_up}
 use Rattle.dp_meaning.specs.declared.statement.Table.TheVariants.{Reward}
 use Rattle.dp_meaning.specs.Cells.{statements_for}
 use Rattle.dp_meaning.specs.Scales.{digits_of_statements}

@@ -1,5 +1,5 @@
 use Rattle.std.proofs.Common.{◌≤◌, arith}
-use Rattle.dp_num.proofs.SignificandLaws.{some_tens, tens_up}
+use Rattle.dp_base.proofs.SignificandLaws.{some_tens, tens_up}
 use Rattle.dp_tables.proofs.scales.scale.Goals as goal
 
 pub least_common_multiple-requires-clause-some : goal.least_common_multiple-requires-clause-some

@@ -1,0 +1,9 @@
+pub mod Bytes
+pub mod DecimalGrammar
+pub mod DecimalShape
+pub mod Decimals
+pub mod Divisors
+pub mod Names
+pub mod Rounding
+pub mod Significands
+pub mod Sums

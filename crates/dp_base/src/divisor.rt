@@ -1,0 +1,40 @@
+//! Greatest common divisors and least common multiples.
+ghost use Rattle.std.specs.Prelude.{◌≡◌, ℕ, ◌*◌, ◌^◌, ◌<◌, ◌≤◌, ◌↔◌, IsNone, IfSome, nat_le, if◌then◌else◌};
+ghost use Rattle.std.specs.Int.{IsGcd};
+ghost use Rattle.dp_base.specs.Divisors.{IsLcm, gcd_of, lcm_of};
+
+/// The greatest common divisor of `a` and `b`, by Euclid's algorithm. That of 0 and `b` is `b`.
+pub fn gcd(a: u128, b: u128) -> u128
+    ensures greatest { IsGcd a b result }
+    ensures computed { result ≡ gcd_of a b }
+{
+    let mut divided = a;
+    let mut divisor = b;
+    while divisor != 0 {
+        let rest = divided % divisor;
+        divided = divisor;
+        divisor = rest;
+    }
+    divided
+}
+
+/// The greatest scale that a model may have.
+const MOST: u128 = 1 << 62;
+
+/// The least common multiple of two numbers of at least 1, or `None` where it is more than `2^62`, the
+/// greatest scale that a model may have.
+pub fn lcm(a: u128, b: u128) -> Option<u128>
+    requires some_left { 1 ≤ a }
+    requires some_right { 1 ≤ b }
+    ensures least { IfSome result (λ m. IsLcm a b m) }
+    ensures most { IfSome result (λ m. m ≤ 2 ^ 62) }
+    ensures none { IsNone result ↔ ((m : ℕ) × (IsLcm a b m × (2 ^ 62 < m))) }
+    ensures computed { result ≡ (if nat_le (lcm_of a b) (2 ^ 62) then Some (lcm_of a b) else None) }
+{
+    let factor = a / gcd(a, b);
+    if factor <= MOST / b {
+        Some(factor * b)
+    } else {
+        None
+    }
+}

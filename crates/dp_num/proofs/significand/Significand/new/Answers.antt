@@ -1,6 +1,0 @@
-use Rattle.std.proofs.Common.{refl}
-use Rattle.dp_num.proofs.SignificandLaws.{nothing_seen}
-use Rattle.dp_num.proofs.significand.Significand.new.Goals as goal
-
-pub returns-clause-seen : goal.returns-clause-seen
-returns-clause-seen c = nothing_seen _ refl refl refl
