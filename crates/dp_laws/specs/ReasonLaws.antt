@@ -26,6 +26,6 @@ NoReasonWhereValid =
     (m : Model) (c : Certificate) → IsWithinVersion m c.horizon c.version → HasPolicyOfVersion m c →
     (first_reason m c ≡ None) ↔ IsValid m c
 
--- the first reason says what the definitions find
+-- a reason is the first exactly where the definitions find what it says
 abbrev pub FirstReasonIsFound : Type 0
-FirstReasonIsFound = (m : Model) (c : Certificate) (r : Reason) → first_reason m c ≡ Some r → IsFirstReason m c r
+FirstReasonIsFound = (m : Model) (c : Certificate) (r : Reason) → (first_reason m c ≡ Some r) ↔ IsFirstReason m c r

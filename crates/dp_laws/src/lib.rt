@@ -73,7 +73,10 @@ pub use plans::plans_of_version_one_end;
 pub use policy_trees::{
     actions_are_of_the_agent, tree_of_any_actions_exists, trees_with_equal_actions_are_equal,
 };
-pub use reasons::fitting_trees_have_right_nodes;
+pub use reasons::{
+    first_reason_is_what_is_found, fitting_trees_have_right_nodes,
+    valid_certificates_have_no_reason,
+};
 pub use rooms::{
     advancing_keeps_histories_apart, apart_fronts_have_a_class_each, choices_keep_histories_apart,
     choosing_keeps_histories_apart, no_node_is_wide_in_version_one, nodes_have_room,
