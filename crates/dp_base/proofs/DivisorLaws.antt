@@ -1,8 +1,8 @@
 -- The least common multiple by the greatest common divisor.
 use Rattle.std.proofs.Common.{◌≡◌, ℕ, zero, suc, ◌+◌, ◌*◌, ◌/◌, ◌%◌, ◌<◌, ◌≤◌, refl, sym, ap, subst, arith}
 use Rattle.std.specs.Int.{◌∣◌, IsGcd}
-use Rattle.std.proofs.Math.Nat.{dvd-add_iff_left, dvd-mod_iff, dvd-mul_left, dvd-mul_right_of_dvd, mul-dvd-mul_left, mul-dvd-mul_right, div-mul_cancel, pos_of_dvd_of_pos, dvd_of_mul-dvd-mul_right, mod-add-div}
-use Rattle.std.proofs.lemmas.Nat.Gcd.{same_from_IsGcd, IsGcd-from_zero, IsGcd-from_mod, dvd_antisymm}
+use Rattle.std.proofs.Math.Nat.{dvd-add_iff_left, dvd-mod_iff, dvd-mul_left, dvd-mul_right, dvd-mul_right_of_dvd, mul-pos, mul-dvd-mul_left, mul-dvd-mul_right, div-mul_cancel, pos_of_dvd_of_pos, dvd_of_mul-dvd-mul_right, mod-add-div}
+use Rattle.std.proofs.lemmas.Nat.Gcd.{same_from_IsGcd, IsGcd-from_zero, IsGcd-from_mod, dvd_antisymm, le_of_dvd}
 use Rattle.dp_base.specs.Divisors.{IsLcm, gcd_within, gcd_of, lcm_of}
 
 -- one step of Euclid's algorithm, turned
@@ -44,6 +44,12 @@ IsLcm-from_IsGcd a b g some h =
 
     product_is : (q b g a : ℕ) → q * g ≡ a → q * b * g ≡ a * b
     product_is q b g a e = omega (arith, ap (λ n. n * b) e)
+
+-- it is at least both numbers
+pub lcm_at_least : (a b m : ℕ) → 0 < a → 0 < b → IsLcm a b m → (a ≤ m) × (b ≤ m)
+lcm_at_least a b m p q is =
+    let some : 0 < m = pos_of_dvd_of_pos (is.least (a * b) (dvd-mul_right a b) (dvd-mul_left b a)) (mul-pos p q) in
+    (le_of_dvd some is.of_left, le_of_dvd some is.of_right)
 
 -- there is only one
 pub same_from_IsLcm : (a b m k : ℕ) → IsLcm a b m → IsLcm a b k → m ≡ k

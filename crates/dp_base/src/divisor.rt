@@ -18,6 +18,17 @@ pub fn gcd(a: u128, b: u128) -> u128
     divided
 }
 
+/// The least common multiple of two numbers, of which the first is at least 1. It asks that their
+/// product fits in 128 bits.
+pub fn least_common_multiple(a: u128, b: u128) -> u128
+    requires some { 1 ≤ a }
+    requires room { a * b < 2 ^ 128 }
+    ensures least { IsLcm a b result }
+    ensures computed { result ≡ lcm_of a b }
+{
+    a / gcd(a, b) * b
+}
+
 /// The greatest scale that a model may have.
 const MOST: u128 = 1 << 62;
 
@@ -31,9 +42,12 @@ pub fn lcm(a: u128, b: u128) -> Option<u128>
     ensures none { IsNone result ↔ ((m : ℕ) × (IsLcm a b m × (2 ^ 62 < m))) }
     ensures computed { result ≡ (if nat_le (lcm_of a b) (2 ^ 62) then Some (lcm_of a b) else None) }
 {
-    let factor = a / gcd(a, b);
-    if factor <= MOST / b {
-        Some(factor * b)
+    if a > MOST || b > MOST {
+        return None;
+    }
+    let multiple = least_common_multiple(a, b);
+    if multiple <= MOST {
+        Some(multiple)
     } else {
         None
     }

@@ -8,8 +8,6 @@ use Rattle.dp_lexer.specs.declared.Kind.TheVariants.{Word, Number, Colon, Star, 
 use Rattle.dp_lexer.specs.declared.Token.{Token}
 use Rattle.dp_lexer.specs.declared.LexFault.{LexFault}
 use Rattle.dp_lexer.specs.declared.LexFault.TheVariants.{BadByte, Memory}
-use Rattle.dp_lexer.specs.declared.TokenFault.{TokenFault}
-use Rattle.dp_lexer.specs.declared.TokenFault.TheVariants as token_faults
 use Rattle.dp_lexer.specs.declared.pieces.Class.{Class}
 use Rattle.dp_lexer.specs.declared.pieces.Class.TheVariants.{Blank, Comment, Run, LineFeed, Mark, Bad}
 use Rattle.dp_lexer.specs.Comments.{first_bad}
@@ -66,11 +64,6 @@ tokens_from text zero at (b ∷ rest) =
 -- the tokens of a text, or the offset of its first bad byte
 unfoldable pub tokens_of : List ℕ → Result (List Token) ℕ
 tokens_of text = tokens_from text 0 0 text
-
--- the fault is want of memory, or it names the first bad byte by its offset
-abbrev pub IsFirstBadByte : List ℕ → TokenFault → Type 0
-IsFirstBadByte text (token_faults.BadByte at) = (tokens_of text ≡ Err at) × (first_bad text ≡ Some at)
-IsFirstBadByte text token_faults.Memory = Unit {0}
 
 -- the fault is want of memory, or it names the first bad byte by its line and column
 abbrev pub NamesFirstBadByte : List ℕ → LexFault → Type 0

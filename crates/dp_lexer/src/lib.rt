@@ -3,7 +3,7 @@
 
 ghost use Rattle.std.specs.Prelude.{◌≡◌, ◌^◌, ◌≤◌, length, Ok, IfOk, IfErr};
 ghost use Rattle.dp_lexer.specs.TokenLaws.{AreTokensOf};
-ghost use Rattle.dp_lexer.specs.Tokens.{tokens_of, IsFirstBadByte, NamesFirstBadByte};
+ghost use Rattle.dp_lexer.specs.Tokens.{tokens_of, NamesFirstBadByte};
 
 mod laws;
 mod pieces;
@@ -48,22 +48,13 @@ pub enum LexFault {
     Memory,
 }
 
-/// Why a text has no tokens, by the offset of the byte.
-#[derive(Clone, Copy, Debug, PartialEq, Eq)]
-pub enum TokenFault {
-    /// A byte as `LexFault` tells it, at this offset.
-    BadByte { at: u32 },
-    /// Memory ran out.
-    Memory,
-}
+impl<T: Drop> From<AllocFailed<T>> for LexFault {
+    ghost use Rattle.dp_lexer.specs.declared.LexFault.TheVariants as faults;
 
-impl<T: Drop> From<AllocFailed<T>> for TokenFault {
-    ghost use Rattle.dp_lexer.specs.declared.TokenFault.TheVariants as token_faults;
+    ghost from_gives = { λ _ fault. fault ≡ faults.Memory };
 
-    ghost from_gives = { λ _ fault. fault ≡ token_faults.Memory };
-
-    fn from(_: AllocFailed<T>) -> TokenFault {
-        TokenFault::Memory
+    fn from(_: AllocFailed<T>) -> LexFault {
+        LexFault::Memory
     }
 }
 
@@ -79,30 +70,14 @@ pub fn lex(alloc: Global, bytes: &[u8]) -> Result<Vec<Token>, LexFault>
     ensures described { IfOk result (λ tokens. AreTokensOf bytes.now tokens.items) }
     ensures first_bad_byte { IfErr result (NamesFirstBadByte bytes.now) }
 {
-    match tokens_or_fault(alloc, bytes) {
-        Ok(tokens) => Ok(tokens),
-        Err(TokenFault::BadByte { at }) => Err(LexFault::BadByte {
-            line: line_at(bytes, at),
-            column: column_at(bytes, at),
-        }),
-        Err(TokenFault::Memory) => Err(LexFault::Memory),
-    }
-}
-
-/// The tokens of a text, as `lex` gives them. A bad byte is told by its offset.
-pub fn tokens_or_fault(alloc: Global, bytes: &[u8]) -> Result<Vec<Token>, TokenFault>
-    requires { length bytes.now ≤ 2 ^ 26 }
-    ensures tokens { IfOk result (λ tokens. tokens_of bytes.now ≡ Ok tokens.items) }
-    ensures described { IfOk result (λ tokens. AreTokensOf bytes.now tokens.items) }
-    ensures first_bad_byte { IfErr result (IsFirstBadByte bytes.now) }
-{
     let mut tokens = Vec::new(alloc);
     let mut at: usize = 0;
     let mut line: u32 = 1;
     while at < bytes.len() {
         let class = class_of(bytes[at]);
         if let Class::Bad = class {
-            return Err(TokenFault::BadByte { at: at as u32 });
+            let column = column_at(bytes, at as u32);
+            return Err(LexFault::BadByte { line, column });
         }
         let end = at + 1 + more_of(class, &bytes[at + 1..]);
         if let Some(kind) = kind_of(class, &bytes[at..end]) {

@@ -11,6 +11,10 @@ use Rattle.dp_meaning.specs.Meaning as meaning
 use Rattle.dp_meaning.specs.Meaning.{text_of, names_given, model_of, Place, Meaning, meaning, Means, FaultAt, Passes}
 use Rattle.dp_meaning.specs.Rows as rows
 use Rattle.dp_meaning.specs.Rows.{repair_all, start_row, trans_rows, obs_rows}
+use Rattle.dp_lexer.specs.declared.LexFault.{LexFault}
+use Rattle.dp_lexer.specs.declared.LexFault.TheVariants as lexer
+use Rattle.dp_lexer.specs.Tokens.{NamesFirstBadByte}
+use Rattle.dp_meaning.proofs.FaultLaws.{bad_byte_first}
 use Rattle.dp_meaning.proofs.ModelLaws.{model_is, names_are}
 use Rattle.dp_text.specs.declared.fault.TextFault.{TextFault}
 use Rattle.dp_text.specs.declared.fault.TextFault.TheVariants.{At, Memory}
@@ -21,7 +25,7 @@ use Rattle.dp_reader.specs.declared.build.ReadModel.{ReadModel}
 use Rattle.dp_reader.specs.declared.fault.ModelFault.{ModelFault}
 use Rattle.dp_reader.specs.declared.fault.ModelFault.TheVariants as faults
 use Rattle.dp_meaning.specs.declared.why.Why.{Why}
-use Rattle.dp_reader.specs.Reading.{meant_model, ReadsModel, IsMeaning, told}
+use Rattle.dp_reader.specs.Reading.{meant_model, ReadsModel, IsMeaning, fault_of_lexer, told}
 use Rattle.dp_reader.specs.Repaired.{ReadsRows, AreAllRows, ReadsAllRows, model_of_rows}
 
 -- ---- the first rows that cannot be repaired
@@ -91,6 +95,12 @@ rows_built end text rows model are e =
     all_rows_are end text rows are ∙ ap with_model (sym e)
 
 -- ---- the answer
+
+-- a bad byte is what the file means
+pub lexer_fault : (bytes : List ℕ) (fault : LexFault) → NamesFirstBadByte bytes fault
+    → IsMeaning (meaning bytes) (Err (fault_of_lexer fault))
+lexer_fault bytes (lexer.BadByte line column) named = rw (named.1.1.1.0, named.1.1.1.1) (bad_byte_first bytes named.0 named.1.1.0)
+lexer_fault bytes lexer.Memory named = tt
 
 -- a fault of the text is what the file means
 pub text_fault : (bytes : List ℕ) (fault : TextFault) → Reads (text_of bytes) (Err fault)

@@ -1,7 +1,10 @@
 -- What reading a model file answers.
 use Rattle.std.specs.Prelude.{◌≡◌, ℕ, List, Result, Ok, Err}
+use Rattle.dp_lexer.specs.declared.LexFault.{LexFault}
+use Rattle.dp_lexer.specs.declared.LexFault.TheVariants as lexer
 use Rattle.dp_lexer.specs.Bytes.{line_at, column_at}
 use Rattle.dp_meaning.specs.declared.why.Fault.{Fault}
+use Rattle.dp_meaning.specs.declared.why.Why.TheVariants.{BadByte}
 use Rattle.dp_meaning.specs.Meaning as meaning
 use Rattle.dp_meaning.specs.Meaning.{Meaning, Means, FaultAt, Passes}
 use Rattle.dp_text.specs.declared.fault.TextFault.{TextFault}
@@ -31,3 +34,8 @@ IsMeaning meant (Err Memory) = Unit {0}
 abbrev pub told : List ℕ → TextFault → ModelFault
 told bytes (text.At fault) = At (line_at bytes fault.at) (column_at bytes fault.at) fault.why
 told bytes text.Memory = Memory
+
+-- a fault of the lexer as one of the file
+abbrev pub fault_of_lexer : LexFault → ModelFault
+fault_of_lexer (lexer.BadByte line column) = At line column BadByte
+fault_of_lexer lexer.Memory = Memory

@@ -44,22 +44,10 @@ fn all_rows(alloc: Global, text: &Text, scales: Scales, end: u32) -> Result<Rows
     requires scales { scales ≡ scales_of text.now }
     ensures { ReadsAllRows end text.now result }
 {
-    let start = match start(alloc, text, scales.start, end) {
-        Ok(rows) => rows,
-        Err(fault) => return Err(fault),
-    };
-    let transitions = match transitions(alloc, text, scales.trans, end) {
-        Ok(rows) => rows,
-        Err(fault) => return Err(fault),
-    };
-    let observations = match observations(alloc, text, scales.obs, end) {
-        Ok(rows) => rows,
-        Err(fault) => return Err(fault),
-    };
     Ok(Rows {
-        start,
-        transitions,
-        observations,
+        start: start(alloc, text, scales.start, end)?,
+        transitions: transitions(alloc, text, scales.trans, end)?,
+        observations: observations(alloc, text, scales.obs, end)?,
     })
 }
 
@@ -127,13 +115,8 @@ pub(crate) fn model_of(
     requires scales { scales ≡ scales_of text }
     ensures { ReadsModel (meaning.model_of (length bytes.now) text) result }
 {
-    let rows = match all_rows(alloc, &text, scales, bytes.len() as u32) {
-        Ok(rows) => rows,
-        Err(fault) => return Err(fault),
-    };
+    let rows = all_rows(alloc, &text, scales, bytes.len() as u32)?;
     let repaired = rows.start.count + rows.transitions.count + rows.observations.count;
-    match build(alloc, text, scales, rows) {
-        Ok(model) => Ok(ReadModel { model, repaired }),
-        Err(Memory) => Err(TextFault::Memory),
-    }
+    let model = build(alloc, text, scales, rows)?;
+    Ok(ReadModel { model, repaired })
 }

@@ -1,4 +1,5 @@
 //! Why a file was not read as a model.
+use dp_lexer::LexFault;
 use dp_meaning::Why;
 use dp_model::TooLarge;
 use thiserror::Error;
@@ -15,4 +16,33 @@ pub enum ModelFault {
     /// Memory ran out.
     #[error("memory ran out")]
     Memory,
+}
+
+impl From<LexFault> for ModelFault {
+    ghost use Rattle.std.specs.Prelude.{◌≡◌};
+    ghost use Rattle.dp_reader.specs.Reading.{fault_of_lexer};
+
+    ghost from_gives = { λ fault result. result ≡ fault_of_lexer fault };
+
+    fn from(fault: LexFault) -> ModelFault {
+        match fault {
+            LexFault::BadByte { line, column } => ModelFault::At {
+                line,
+                column,
+                why: Why::BadByte,
+            },
+            LexFault::Memory => ModelFault::Memory,
+        }
+    }
+}
+
+impl From<TooLarge> for ModelFault {
+    ghost use Rattle.std.specs.Prelude.{◌≡◌};
+    ghost use Rattle.dp_reader.specs.declared.fault.ModelFault.TheVariants as faults;
+
+    ghost from_gives = { λ passed result. result ≡ faults.TooLarge passed };
+
+    fn from(passed: TooLarge) -> ModelFault {
+        ModelFault::TooLarge(passed)
+    }
 }

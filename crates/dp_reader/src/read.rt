@@ -8,7 +8,7 @@ ghost use Rattle.dp_reader.specs.Reading.{IsMeaning, meant_model, told};
 
 use crate::build::model_of;
 use crate::{ModelFault, ReadModel};
-use dp_lexer::{column_at, line_at};
+use dp_lexer::{column_at, lex, line_at};
 use dp_meaning::Text;
 use dp_tables::scales_within_limits;
 use dp_text::{TextFault, read_text};
@@ -36,12 +36,21 @@ fn model_within_limits(alloc: Global, bytes: &[u8], text: Text) -> Result<ReadMo
     requires says { text_of bytes.now ≡ Ok text }
     ensures { IsMeaning (meaning bytes.now) result }
 {
-    let scales = match scales_within_limits(&text) {
-        Ok(scales) => scales,
-        Err(passed) => return Err(ModelFault::TooLarge(passed)),
-    };
+    let scales = scales_within_limits(&text)?;
     match model_of(alloc, bytes, text, scales) {
         Ok(model) => Ok(model),
+        Err(fault) => Err(told(bytes, fault)),
+    }
+}
+
+/// What a model file means, by its tokens and its text.
+fn read(alloc: Global, bytes: &[u8]) -> Result<ReadModel, ModelFault>
+    requires { length bytes.now ≤ 2 ^ 26 }
+    ensures { IsMeaning (meaning bytes.now) result }
+{
+    let tokens = lex(alloc, bytes)?;
+    match read_text(alloc, bytes, &tokens) {
+        Ok(text) => model_within_limits(alloc, bytes, text),
         Err(fault) => Err(told(bytes, fault)),
     }
 }
@@ -66,8 +75,5 @@ pub fn read_model(alloc: Global, bytes: &[u8]) -> Result<ReadModel, ModelFault>
     ensures limit { (passed : TooLarge) → result ≢ Err ModelFault.Memory →
         ((result ≡ Err (ModelFault.TooLarge passed)) ↔ (meaning bytes.now ≡ Passes passed)) }
 {
-    match read_text(alloc, bytes) {
-        Ok(text) => model_within_limits(alloc, bytes, text),
-        Err(fault) => Err(told(bytes, fault)),
-    }
+    read(alloc, bytes)
 }

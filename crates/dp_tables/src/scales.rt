@@ -4,10 +4,9 @@ ghost use Rattle.dp_meaning.specs.Cells.{statements_for};
 ghost use Rattle.dp_meaning.specs.Meaning.{IsSaid};
 ghost use Rattle.dp_meaning.specs.Scales as spec;
 ghost use Rattle.dp_meaning.specs.Scales.{digits_of_statements, scale_of};
-ghost use Rattle.dp_base.specs.Divisors.{lcm_of};
 
 use crate::statements::{digits_in_numbers, has_uniform, most_digits_of};
-use dp_base::gcd;
+use dp_base::least_common_multiple;
 use dp_meaning::{Start, Table, Text};
 
 /// The scale of the start chances of so many states.
@@ -67,18 +66,8 @@ fn scale(digits: u8, uniform: bool, len: u32) -> u128
 {
     let tens = 10u128.pow(u32::from(digits));
     if uniform {
-        least_common_multiple(tens, len)
+        least_common_multiple(tens, u128::from(len))
     } else {
         tens
     }
-}
-
-/// The least common multiple of two numbers, of which the first is at least 1.
-fn least_common_multiple(a: u128, b: u32) -> u128
-    requires some { 1 ≤ a }
-    requires limit { a ≤ 10 ^ 18 }
-    ensures { result ≡ lcm_of a b }
-{
-    let b = u128::from(b);
-    a / gcd(a, b) * b
 }

@@ -1,9 +1,9 @@
 -- The text of a file from its tokens.
 use Rattle.std.proofs.Common.{◌≡◌, ℕ, List, length, map, Result, Ok, Err, refl, ap, ◌∙◌}
 use Rattle.dp_lexer.specs.declared.Token.{Token}
-use Rattle.dp_lexer.specs.declared.TokenFault.{TokenFault}
-use Rattle.dp_lexer.specs.declared.TokenFault.TheVariants as lexer
-use Rattle.dp_lexer.specs.Tokens.{tokens_of, IsFirstBadByte}
+use Rattle.dp_lexer.specs.TokenLaws.{AreTokensOf}
+use Rattle.dp_lexer.specs.Tokens.{tokens_of}
+use Rattle.dp_lexer.proofs.WholeText.{tokens_are_of_text}
 use Rattle.dp_meaning.specs.declared.why.Fault.{Fault}
 use Rattle.dp_meaning.specs.declared.text.Text.{Text}
 use Rattle.dp_meaning.specs.Faults.{◌>>=◌}
@@ -11,7 +11,6 @@ use Rattle.dp_meaning.specs.Items.{Piece, piece_of, items_of_pieces}
 use Rattle.dp_meaning.specs.Header.{header_of, no_entries}
 use Rattle.dp_meaning.specs.Statements.{statements_of}
 use Rattle.dp_meaning.specs.Meaning.{pieces_of_tokens, unless_lines, text_of}
-use Rattle.dp_text.specs.Reading.{Reads, fault_of_lexer}
 use Rattle.dp_items.specs.Documents.{with_end}
 use Rattle.dp_text.specs.TextSteps.{text_of_items}
 
@@ -29,16 +28,10 @@ by_steps : (bytes : List ℕ) → text_of bytes ≡ steps bytes (pieces_of_token
 unfolding text_of
 by_steps bytes = refl
 
--- a text without tokens
-pub has_no_tokens : (bytes : List ℕ) (fault : TokenFault) → IsFirstBadByte bytes fault
-    → Reads (text_of bytes) (Err (fault_of_lexer fault))
-has_no_tokens bytes (lexer.BadByte at) named =
-    by_steps bytes ∙ ap (λ (r : Result (List Token) ℕ). steps bytes (pieces_of_tokens bytes r)) named.0
-has_no_tokens bytes lexer.Memory named = tt
-
 -- a text with these tokens
-pub by_items : (bytes : List ℕ) (tokens : List Token) → tokens_of bytes ≡ Ok tokens
+pub by_items : (bytes : List ℕ) (tokens : List Token) → AreTokensOf bytes tokens
     → text_of bytes
     ≡ text_of_items (with_end (length bytes) (items_of_pieces (length bytes) (map (piece_of bytes) tokens)))
 unfolding text_of_items
-by_items bytes tokens e = by_steps bytes ∙ ap (λ (r : Result (List Token) ℕ). steps bytes (pieces_of_tokens bytes r)) e
+by_items bytes tokens are =
+    by_steps bytes ∙ ap (λ (r : Result (List Token) ℕ). steps bytes (pieces_of_tokens bytes r)) ((tokens_are_of_text bytes tokens).1 are)

@@ -2,7 +2,6 @@
 ghost use Rattle.std.specs.Prelude.{◌≡◌};
 
 use dp_base::Memory;
-use dp_lexer::TokenFault;
 use dp_meaning::{Fault, Why};
 use std::alloc::{AllocError, AllocFailed};
 
@@ -30,23 +29,6 @@ impl From<Fault> for TextFault {
 
     fn from(fault: Fault) -> TextFault {
         TextFault::At(fault)
-    }
-}
-
-impl From<TokenFault> for TextFault {
-    ghost use Rattle.std.specs.Prelude.{◌≡◌};
-    ghost use Rattle.dp_text.specs.Reading.{fault_of_lexer};
-
-    ghost from_gives = { λ fault result. result ≡ fault_of_lexer fault };
-
-    fn from(fault: TokenFault) -> TextFault {
-        match fault {
-            TokenFault::BadByte { at } => TextFault::At(Fault {
-                at,
-                why: Why::BadByte,
-            }),
-            TokenFault::Memory => TextFault::Memory,
-        }
     }
 }
 

@@ -26,10 +26,7 @@ pub(crate) fn read_header(alloc: Global, document: &Document) -> Result<(Header,
         let item = document.item(place);
         match kind_of(&item) {
             ItemKind::HeaderEntry(entry) => {
-                entries = match with_entry(alloc, entry, &item, entries) {
-                    Ok(more) => more,
-                    Err(fault) => return Err(fault),
-                };
+                entries = with_entry(alloc, entry, &item, entries)?;
             }
             ItemKind::StatementOf(_) => return header_behind(item.at(), entries, place),
             ItemKind::NoItem => return Err(TextFault::At(fault(Why::Expected, item.at()))),

@@ -62,10 +62,7 @@ fn names(alloc: Global, pieces: &Pieces) -> Result<NameList, TextFault>
     let mut names = NameList::new(alloc);
     for place in 0..pieces.len() {
         let piece = piece_at(pieces, place);
-        names = match with_name(alloc, names, &piece) {
-            Ok(names) => names,
-            Err(fault) => return Err(fault),
-        };
+        names = with_name(alloc, names, &piece)?;
     }
     Ok(names)
 }
@@ -111,18 +108,13 @@ pub(crate) fn name_lists(
             Some(line) => line,
             None => return Err(TextFault::At(fault(Why::Expected, item.next()))),
         };
-        match name_list(alloc, item.next(), &line) {
-            Ok(list) => lists.push(list)?,
-            Err(fault) => return Err(fault),
-        }
+        let list = name_list(alloc, item.next(), &line)?;
+        lists.push(list)?;
     }
-    match item.agent_line(agents as usize) {
-        None => Ok(Items::of(lists)),
-        Some(line) => match ended(&line) {
-            Ok(()) => Ok(Items::of(lists)),
-            Err(fault) => Err(TextFault::At(fault)),
-        },
+    if let Some(line) = item.agent_line(agents as usize) {
+        ended(&line)?;
     }
+    Ok(Items::of(lists))
 }
 
 /// The number of the thing of a list that a token names, by an index or by a name.

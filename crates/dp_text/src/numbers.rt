@@ -95,15 +95,11 @@ pub(crate) fn numbers(
             Some(parts) => parts,
             None => return Err(TextFault::At(fault(Why::Expected, next))),
         };
-        match number(range, &piece) {
-            Ok(value) => values.push(value)?,
-            Err(fault) => return Err(TextFault::At(fault)),
-        }
+        let value = number(range, &piece)?;
+        values.push(value)?;
         rest = behind;
         left -= 1;
     }
-    match ended(&rest) {
-        Ok(()) => Ok(Items::of(values)),
-        Err(fault) => Err(TextFault::At(fault)),
-    }
+    ended(&rest)?;
+    Ok(Items::of(values))
 }

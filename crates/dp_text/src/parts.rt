@@ -68,10 +68,8 @@ fn parts_in(alloc: Global, axis: &[GivenList], field: &Field) -> Result<Items<Pa
             Some(piece) => piece,
             None => return Err(TextFault::At(fault(Why::Expected, field.colon()))),
         };
-        match part_of(list, &piece) {
-            Ok(part) => parts.push(part)?,
-            Err(fault) => return Err(TextFault::At(fault)),
-        }
+        let part = part_of(list, &piece)?;
+        parts.push(part)?;
     }
     match field.pieces().get(axis.len()) {
         None => Ok(Items::of(parts)),
@@ -115,10 +113,8 @@ pub(crate) fn line_fields(
         if parts.len() == axis_count(table) {
             return Err(TextFault::At(fault(Why::Expected, field.colon())));
         }
-        match field_parts(alloc, axis_at(header, table, parts.len()), &field) {
-            Ok(of_field) => parts.push(of_field)?,
-            Err(fault) => return Err(fault),
-        }
+        let of_field = field_parts(alloc, axis_at(header, table, parts.len()), &field)?;
+        parts.push(of_field)?;
         rest = rest.from(field.pieces().len() + 1);
     }
     Ok(LineFields {

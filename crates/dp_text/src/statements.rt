@@ -32,24 +32,19 @@ fn statement(
 ) -> Result<Statement, TextFault>
     ensures { Reads (spec.statement header.now table item.now) result }
 {
-    let line = match line_fields(alloc, header, table, &item.after_colon()) {
-        Ok(line) => line,
-        Err(fault) => return Err(fault),
-    };
+    let line = line_fields(alloc, header, table, &item.after_colon())?;
     let count = line.parts.as_slice().len();
     if count < least_fields(table) {
         return Err(TextFault::At(fault(Why::Expected, item.ends())));
     }
     let rest = item.value().from(line.taken);
-    match value_of(alloc, header, table, count, item.next(), &rest) {
-        Ok(value) => Ok(Statement {
-            at: item.at(),
-            table,
-            fields: line.parts,
-            value,
-        }),
-        Err(fault) => Err(fault),
-    }
+    let value = value_of(alloc, header, table, count, item.next(), &rest)?;
+    Ok(Statement {
+        at: item.at(),
+        table,
+        fields: line.parts,
+        value,
+    })
 }
 
 /// The statement that an item is. Behind the header there are only statements.
@@ -75,10 +70,8 @@ pub(crate) fn read_statements(
 {
     let mut statements = Vec::new(alloc);
     for place in first..document.len() {
-        match statement_of_item(alloc, header, &document.item(place)) {
-            Ok(statement) => statements.push(statement)?,
-            Err(fault) => return Err(fault),
-        }
+        let statement = statement_of_item(alloc, header, &document.item(place))?;
+        statements.push(statement)?;
     }
     Ok(Items::of(statements))
 }

@@ -2,8 +2,8 @@ use Rattle.std.proofs.Common.{refl, sym, ap, ◌∙◌}
 use Rattle.std.specs.Result.{result_err}
 use Rattle.dp_lexer.proofs.Loop.{IsPiece, starts, keeps_token, keeps_none, next_line_feed, next_line_other, is_bad, is_done}
 use Rattle.dp_lexer.proofs.WholeText.{first_bad_byte_is_named, tokens_are_of_text}
-use Rattle.dp_lexer.proofs.tokens_or_fault.Goals as goal
-use Rattle.dp_lexer.proofs.tokens_or_fault.Goals.{After-kind_of, in-Some+in_ok-push, in_default-kind_of}
+use Rattle.dp_lexer.proofs.lex.Goals as goal
+use Rattle.dp_lexer.proofs.lex.Goals.{After-kind_of, in-Some+in_ok-push, in_default-kind_of}
 
 pub loop-at-init : goal.loop-at-init
 loop-at-init c = rw c.new-tokens.ensures.items (starts c.args.bytes.now)
@@ -11,7 +11,7 @@ loop-at-init c = rw c.new-tokens.ensures.items (starts c.args.bytes.now)
 pub returns-in-Bad-clause-first_bad_byte : goal.returns-in-Bad-clause-first_bad_byte
 returns-in-Bad-clause-first_bad_byte c =
     let bad = is_bad c.loop-at.invariant c.loop-at-test.true (sym c.class_of-class.ensures ∙ c.in-Bad.is) in
-    (bad, sym (first_bad_byte_is_named c.args.bytes.now) ∙ ap result_err bad)
+    (c.loop-at.at, bad, sym (first_bad_byte_is_named c.args.bytes.now) ∙ ap result_err bad, c.loop-at.invariant.line_is, c.column_at-column.ensures)
 
 -- what an iteration learns
 piece : (c : After-kind_of)

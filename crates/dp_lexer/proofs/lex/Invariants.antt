@@ -1,6 +1,6 @@
 use Rattle.std.proofs.Common.{length, ◌-◌}
 use Rattle.dp_lexer.proofs.Loop.{IsAt}
-use Rattle.dp_lexer.proofs.tokens_or_fault.Given as goal
+use Rattle.dp_lexer.proofs.lex.Given as goal
 
 abbrev pub invariant-loop-at : goal.invariant-loop-at
 invariant-loop-at l = IsAt l.bytes l.tokens.items l.at l.line
