@@ -104,3 +104,4 @@ pub mod LowTrees
 pub mod SearchPlans
 pub mod UnequalPlaces
 pub mod RightNodes
+pub mod PrimitiveVectors

@@ -97,4 +97,7 @@ pub use tree_depth::{
     fitting_branches_are_small, paths_below_a_front_are_short, paths_below_the_root_are_limited,
     paths_below_the_root_are_short, paths_of_valid_trees_are_short,
 };
-pub use unequal_places::{first_unequal_place_is_found, least_pair_is_unique};
+pub use unequal_places::{
+    first_unequal_place_is_found, least_pair_is_unique, primitive_vector_is_unique,
+    primitive_vectors_decide_equivalence,
+};
