@@ -62,6 +62,7 @@ pub use growth::{
 };
 pub use horizon_one::{constant_policy_is_policy, root_bound_is_best_constant_action};
 pub use look_ahead::{
+    action_look_ahead_scales, exact_action_look_ahead_scales, exact_look_ahead_scales, look_ahead_scales,
     action_look_ahead_bounds_every_policy, look_ahead_bounds_every_policy, more_look_never_raises,
     more_look_never_raises_action, table_bounds_every_policy,
 };
