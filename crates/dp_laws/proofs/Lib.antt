@@ -104,4 +104,6 @@ pub mod LowTrees
 pub mod SearchPlans
 pub mod UnequalPlaces
 pub mod RightNodes
+pub mod PrimitiveVectors
+pub mod ScaledWeights
 pub mod FirstReasons

@@ -62,6 +62,7 @@ pub use growth::{
 };
 pub use horizon_one::{constant_policy_is_policy, root_bound_is_best_constant_action};
 pub use look_ahead::{
+    action_look_ahead_scales, exact_action_look_ahead_scales, exact_look_ahead_scales, look_ahead_scales,
     action_look_ahead_bounds_every_policy, look_ahead_bounds_every_policy, more_look_never_raises,
     more_look_never_raises_action, table_bounds_every_policy,
 };
@@ -100,4 +101,7 @@ pub use tree_depth::{
     fitting_branches_are_small, paths_below_a_front_are_short, paths_below_the_root_are_limited,
     paths_below_the_root_are_short, paths_of_valid_trees_are_short,
 };
-pub use unequal_places::{first_unequal_place_is_found, least_pair_is_unique};
+pub use unequal_places::{
+    first_unequal_place_is_found, least_pair_is_unique, primitive_vector_is_unique,
+    primitive_vectors_decide_equivalence,
+};
