@@ -105,3 +105,4 @@ pub mod SearchPlans
 pub mod UnequalPlaces
 pub mod RightNodes
 pub mod FirstReasons
+pub mod PrimitiveVectors

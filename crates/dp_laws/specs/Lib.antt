@@ -22,3 +22,4 @@ pub mod ClassStepLaws
 pub mod GrowthLaws
 pub mod UnequalPlaceLaws
 pub mod ReasonLaws
+pub mod PrimitiveVectorLaws

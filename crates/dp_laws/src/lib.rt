@@ -16,6 +16,7 @@ mod look_ahead;
 mod lossless_merging;
 mod plans;
 mod policy_trees;
+mod primitive_vectors;
 mod reasons;
 mod rooms;
 mod root_fronts;
@@ -73,6 +74,7 @@ pub use plans::plans_of_version_one_end;
 pub use policy_trees::{
     actions_are_of_the_agent, tree_of_any_actions_exists, trees_with_equal_actions_are_equal,
 };
+pub use primitive_vectors::primitive_vectors_tell_equivalence;
 pub use reasons::{
     first_reason_is_what_is_found, fitting_trees_have_right_nodes,
     valid_certificates_have_no_reason,
