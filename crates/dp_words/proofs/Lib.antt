@@ -1,3 +1,4 @@
+mod WordRows
 pub mod WordNumbers
 pub mod Walks
 pub mod Rows

@@ -280,7 +280,7 @@ module _ (ns : List Text) (all : AreApart ns) where
       fails : run [] (uses (rules ns) words None) ≡ None → fault_of (app ns) words ≡ [] → ⊥
       fails none passes =
           ends_none walk_kinds end_kinds rows_at_end (end_rows-is words kinds ∙ none)
-              (sym (fault_is ns words) ∙ passes)
+          (sym (fault_is ns words) ∙ passes)
 
       tell : (after : List Row) → is_well_given ns os ≡ true → HaveValues [] os (plain_words [] words) after
           → RowsTell ns os (plain_words [] words) (with_default after built_flag)

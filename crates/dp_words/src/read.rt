@@ -1,6 +1,6 @@
 // The job of the words.
 ghost use Rattle.std.specs.Prelude.{◌≡◌, ◌∷◌, IfOk, map, true, string_bytes};
-ghost use Rattle.dp_words.specs.Words.{HasSomeStep, IsReadAs, all_hold, command_job, job_of, plan_row, row_job, job_of_values};
+ghost use Rattle.dp_words.specs.Words.{HasSomeStep, IsReadAs, all_hold, command_job, job_of, job_of_values, plan_row, row_job};
 ghost use Rattle.dp_words.specs.Command.{merging_off, plain_words, values_of};
 
 use crate::job::{Job, OrderWord, PlanJob, WordFault};
@@ -17,9 +17,11 @@ const HORIZON: Setting = Setting {
     default: None,
 };
 
+// The options that take a value, in the order of the table.
 static SETTINGS: [Setting; 1] = [HORIZON];
 
-static HORIZON_ALONE: [&str; 1] = ["horizon"];
+// The options of `plan`, all of which it requires.
+static PLAN: [&str; 1] = ["horizon"];
 
 // What a plan does where the words do not say.
 const DEFAULT_VERSION: u32 = 1;
@@ -44,7 +46,7 @@ fn plan(alloc: Global, given: &ArgMatches<'_>, files: &[&str]) -> Result<Job, Wo
     let [model] = files else {
         return Err(WordFault::Usage);
     };
-    if !fits(given, HORIZON_ALONE.as_slice(), HORIZON_ALONE.as_slice()) {
+    if !fits(given, PLAN.as_slice(), PLAN.as_slice()) {
         return Err(WordFault::Usage);
     }
     Ok(Job::Plan(PlanJob {
