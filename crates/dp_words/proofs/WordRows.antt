@@ -71,7 +71,8 @@ given_twice : job_of (codes "plan" ∷ codes "m" ∷ codes "--horizon=1" ∷ cod
 unfolding is_index
 given_twice = refl
 
-option_of_no_command : job_of (codes "plan" ∷ codes "m" ∷ codes "--horizon" ∷ codes "1" ∷ codes "--no-merge" ∷ []) ≡ None
+option_of_no_command : job_of (codes "plan" ∷ codes "m" ∷ codes "--horizon" ∷ codes "1" ∷ codes "--no-merge" ∷ [])
+    ≡ None
 unfolding is_index
 option_of_no_command = refl
 
