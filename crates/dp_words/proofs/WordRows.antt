@@ -1,5 +1,5 @@
 -- Worked rows, computed: lists of words with the job that they ask for, or none.
-use Rattle.std.proofs.Common.{◌≡◌, ℕ, true, List, [], ◌∷◌, Option, Some, None, codes, refl}
+use Rattle.std.proofs.Common.{◌≡◌, ℕ, true, [], ◌∷◌, Option, Some, None, codes, refl}
 use Rattle.dp_base.specs.DecimalShape.{is_index}
 use Rattle.dp_words.specs.declared.job.Job.{Job}
 use Rattle.dp_words.specs.declared.job.Job.TheVariants.{Plan}
@@ -71,7 +71,8 @@ given_twice : job_of (codes "plan" ∷ codes "m" ∷ codes "--horizon=1" ∷ cod
 unfolding is_index
 given_twice = refl
 
-option_of_no_command : job_of (codes "plan" ∷ codes "m" ∷ codes "--horizon" ∷ codes "1" ∷ codes "--no-merge" ∷ []) ≡ None
+option_of_no_command : job_of (codes "plan" ∷ codes "m" ∷ codes "--horizon" ∷ codes "1" ∷ codes "--no-merge" ∷ [])
+    ≡ None
 unfolding is_index
 option_of_no_command = refl
 
