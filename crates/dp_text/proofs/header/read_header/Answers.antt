@@ -1,4 +1,5 @@
 use Rattle.std.proofs.Common.{refl, drop, ap, sym, ◌∙◌, arith}
+use Rattle.std.proofs.lemmas.Result.{err_from_is_err_and}
 use Rattle.dp_meaning.specs.Header.{header_of, no_entries}
 use Rattle.dp_text.specs.HeaderSteps.{header_and}
 use Rattle.dp_text.proofs.HeaderLemmas.{entry_one, entry_wrong, statement_one, no_item, header_last, reads_header_along}
@@ -9,14 +10,16 @@ loop-place-preserved c =
     let text = c.args.document.now in
     entry_one text.end c.loop-place.entries (header_of text.end no_entries text.items) text.items c.loop-place.place c.item-item.result
     c.item-item.ensures c.loop-place.invariant
-    c.in-HeaderEntry.entry c.in-Ok.more c.in-HeaderEntry.ensures c.in-Ok.ensures
+    c.in-HeaderEntry.entry c.in_ok-entries-in-HeaderEntry.entries c.in-HeaderEntry.ensures c.in_ok-entries-in-HeaderEntry.ensures
 
-pub returns-in-Err : goal.returns-in-Err
-returns-in-Err c =
+pub returns-in_err-entries-in-HeaderEntry : goal.returns-in_err-entries-in-HeaderEntry
+returns-in_err-entries-in-HeaderEntry c =
     let text = c.args.document.now in
-    entry_wrong text.end c.loop-place.entries (header_of text.end no_entries text.items) text.items c.loop-place.place c.item-item.result
+    let exit = err_from_is_err_and c.from_residual.result c.from_residual.ensures.1 in
+    rw (exit.1, exit.2)
+    (entry_wrong text.end c.loop-place.entries (header_of text.end no_entries text.items) text.items c.loop-place.place c.item-item.result
     c.item-item.ensures c.loop-place.invariant
-    c.in-HeaderEntry.entry c.in-Err.fault c.in-HeaderEntry.ensures c.in-Err.ensures
+    c.in-HeaderEntry.entry c.in_err-entries-in-HeaderEntry.field-0.0 c.in-HeaderEntry.ensures c.in_err-entries-in-HeaderEntry.ensures)
 
 pub returns-in-StatementOf : goal.returns-in-StatementOf
 returns-in-StatementOf c =

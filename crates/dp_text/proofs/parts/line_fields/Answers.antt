@@ -1,4 +1,5 @@
 use Rattle.std.proofs.Common.{◌≡◌, ◌<◌, length, arith}
+use Rattle.std.proofs.lemmas.Result.{err_from_is_err_and}
 use Rattle.dp_meaning.specs.Statements.{axes_of}
 use Rattle.dp_text.proofs.FieldLemmas.{none_read, field_read, field_fault, too_many, fields_end}
 use Rattle.dp_text.proofs.parts.line_fields.Goals as goal
@@ -12,16 +13,19 @@ loop-field-preserved c =
     let within : length c.loop-field.parts.items < length (axes_of c.args.header.now c.args.table) = omega arith in
     let len : c.len-in-Some.result ≡ length c.loop-field.parts.items = omega arith in
     let axis = rw len at c.axis_at.ensures in
-    rw (c.in_ok-push-in-Ok.ensures.items, c.from-rest-in-Some.ensures, c.len-in-Some-2.ensures.is, c.pieces.ensures)
-    (field_read c.loop-field.invariant c.in-Some.field c.axis_at.result.now c.in-Ok.of_field c.in-Some.ensures.is c.in-Some.ensures.within within axis c.in-Ok.ensures)
+    rw (c.in_ok-push.ensures.items, c.from-rest-in-Some.ensures, c.len-in-Some-2.ensures.is, c.pieces.ensures)
+    (field_read c.loop-field.invariant c.in-Some.field c.axis_at.result.now c.in_ok-of_field.of_field c.in-Some.ensures.is c.in-Some.ensures.within within axis c.in_ok-of_field.ensures)
 
-pub returns-in-Err : goal.returns-in-Err
-returns-in-Err c =
+pub returns-in_err-of_field : goal.returns-in_err-of_field
+returns-in_err-of_field c =
     let count = c.axis_count.ensures.is c.args.header.now in
     let within : length c.loop-field.parts.items < length (axes_of c.args.header.now c.args.table) = omega arith in
     let len : c.len-in-Some.result ≡ length c.loop-field.parts.items = omega arith in
     let axis = rw len at c.axis_at.ensures in
-    field_fault c.loop-field.invariant c.in-Some.field c.axis_at.result.now c.in-Err.fault c.in-Some.ensures.is within axis c.in-Err.ensures
+    let exit = err_from_is_err_and c.from_residual.result c.from_residual.ensures.1 in
+    rw (exit.1, exit.2)
+    (field_fault c.loop-field.invariant c.in-Some.field c.axis_at.result.now c.in_err-of_field.field-0.0 c.in-Some.ensures.is within axis
+    c.in_err-of_field.ensures)
 
 pub returns-then-len-axis_count : goal.returns-then-len-axis_count
 returns-then-len-axis_count c =
