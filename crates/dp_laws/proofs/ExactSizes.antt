@@ -16,17 +16,15 @@ use Rattle.dp_spec.specs.Quantities.{weights_after_in}
 use Rattle.dp_spec.specs.Sizes.{reward_size}
 use Rattle.dp_base.specs.Sums.{nat_sum}
 use Rattle.dp_base.proofs.NaturalSumLaws.{nat_sum_at, nat_sum_ext, nat_sum_le, nat_sum_scale, nat_sum_swap, nat_sum_times}
+use Rattle.std.proofs.lemmas.Bool.{cases_lt}
 
 -- ---- the operations
 max_times : (a b n : ℕ) → max (a * n) (b * n) ≡ max a b * n
 max_times a b n =
-    elim (either a b) [
-      | inl le ↦ let more = mul-le-mul_right n le in let e : max a b ≡ b = omega arith in rw e (omega arith)
+    elim (cases_lt a b) [
+      | inl lt ↦ let le : a ≤ b = omega arith in let more = mul-le-mul_right n le in let e : max a b ≡ b = omega arith in rw e (omega arith)
       | inr le ↦ let more = mul-le-mul_right n le in let e : max a b ≡ a = omega arith in rw e (omega arith)
     ]
-  where
-    either : (a b : ℕ) → (a ≤ b) ⊎ (b ≤ a)
-    either a b = grind arith
 
 -- a span whose ends are multiplied
 size_times : (w v : Span) (n : ℕ) → unsigned_abs v.low ≡ unsigned_abs w.low * n

@@ -10,7 +10,6 @@ use Rattle.std.proofs.Math.Nat.{mul-le-mul, mul-le-mul_left, pow-suc, pow-zero}
 use Rattle.dp_laws.proofs.ClassCounts.{classes-le-members, joint_classes_within_histories}
 use Rattle.dp_laws.proofs.CompleteFronts.{new_class}
 use Rattle.dp_laws.proofs.Keeping.{last_member, last_member_is}
-use Rattle.dp_laws.proofs.KeptSteps.{same_parts}
 use Rattle.dp_laws.proofs.MergedAgents.{length-without}
 use Rattle.dp_laws.proofs.TreeDepth.{choice_assigns_one, complete_has_none}
 use Rattle.dp_spec.specs.Front.{AgentFront, Front, class_counts}
@@ -21,7 +20,7 @@ use Rattle.dp_spec.specs.Steps.{IsUnassigned, advanced_agent, advanced_agents, a
 use Rattle.dp_spec.specs.WellFormed.{AreAgentFronts, AreApart, IsAgentFront, IsFront, KeepsHistoriesApart}
 use Rattle.dp_spec.specs.WellFormed.AreAgentFronts.{and_agent, no_agents}
 use Rattle.dp_spec.specs.Wide.{has_room, is_room, is_wide, next_class_counts, unassigned_count, widens}
-use Rattle.dp_spec.proofs.JointNumberLaws.{part_below, positive_right}
+use Rattle.dp_spec.proofs.JointNumberLaws.{part_below, positive_right, same_parts}
 
 -- ---- tests
 

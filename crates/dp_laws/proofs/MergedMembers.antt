@@ -6,11 +6,7 @@ use Rattle.std.proofs.Math.ListN.{length-map}
 use Rattle.dp_spec.specs.Front.{AgentFront}
 use Rattle.dp_spec.specs.Merge.{class_members, kept_class, merged_agent, renumbered}
 use Rattle.dp_laws.proofs.MergedAgents.{get_or-renumbered}
-
--- tests that agree keep the same
-filter_same : (p q : ℕ → Bool) (xs : List ℕ) → ((x : ℕ) → p x ≡ q x) → filter p xs ≡ filter q xs
-filter_same p q [] h = refl
-filter_same p q (x ∷ xs) h = let rest = filter_same p q xs h in λ j. cond (h x j) (x ∷ rest j) (rest j)
+use Rattle.dp_base.proofs.Members.{filter_same}
 
 -- the members of a class of the merged agent, by the classes before
 members_merged : (a b : ℕ) (d : AgentFront) (c : ℕ) → a < b →

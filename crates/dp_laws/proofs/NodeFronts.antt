@@ -30,6 +30,7 @@ use Rattle.dp_spec.specs.WellFormed.AreAgentFronts.{and_agent, no_agents}
 use Rattle.dp_spec.specs.Wide.{has_room, is_room, is_wide, next_class_counts, none_count, unassigned_count, widens}
 use Rattle.dp_spec.proofs.JointNumberLaws.{positive_left}
 use Rattle.dp_spec.proofs.ModelLaws.{some_joint_observation}
+use Rattle.dp_base.proofs.AllOfLists.{all_weaker}
 
 -- ---- what every step keeps
 module _ (A : Arithmetic) (m : Model) (is : IsModel m) (h look : ℕ) (Kept : Front → ℕ → Type 0)
@@ -86,10 +87,6 @@ nodes_have_room A m h look T is fits =
     T fits (root_has_room m h is)
 
 -- ---- histories apart
-
--- a fact of all is one of all where it follows
-all_weaker : {X : Type 0} (P Q : X → Type 0) (xs : List X) → ((x : X) → P x → Q x) → All P xs → All Q xs
-all_weaker P Q xs f all = λ i x e. f (get_or xs i x) (all i x e)
 
 pub nodes_keep_apart : (A : Arithmetic) (m : Model) (h look : ℕ) (T : BoundTree) → IsModel m → FitsRoot A m h look T → A.is_exact ≡ false →
     All (λ n. KeepsHistoriesApart m n.front) (nodes_of A m h look 0 T (root_front m) (front_bound A m h look (root_front m)))

@@ -13,7 +13,7 @@ use Rattle.dp_spec.specs.Model.{Model}
 use Rattle.dp_spec.specs.Qualities.{Node, nodes_of, nodes_of_choices}
 use Rattle.dp_spec.specs.RightNodes.{AreRightNodes, IsRightNode}
 use Rattle.dp_spec.specs.Steps.{front_after_choice, root_front}
-use Rattle.dp_laws.proofs.VersionOnePlans.{all_left, all_right}
+use Rattle.dp_base.proofs.AllOfLists.{all_left, all_right}
 
 module _ (A : Arithmetic) (m : Model) (h look : ℕ) where
   -- the bound of a front, or that of its path where it is less

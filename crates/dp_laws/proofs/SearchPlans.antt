@@ -14,12 +14,10 @@ use Rattle.dp_spec.specs.Searched.{IsSearched}
 use Rattle.dp_spec.specs.SharedWorth.{low_worth}
 use Rattle.dp_spec.specs.Wide.{is_wide}
 use Rattle.dp_laws.specs.GrowthLaws.{IsPromised, StatesSearch}
+use Rattle.dp_base.proofs.AllOfLists.{all_weaker}
+use Rattle.dp_base.proofs.Ring.{zle_trans}
 use Rattle.dp_laws.proofs.Modes.{arithmetic_says}
 use Rattle.dp_laws.proofs.SearchPromises.{promises_hold}
-
--- what follows of each node
-each_node : (P Q : Node → Type 0) (ns : List Node) → ((n : Node) → P n → Q n) → All P ns → All Q ns
-each_node P Q ns step all = λ i d h. step (get_or ns i d) (all i d h)
 
 less_or_not : (x y : ℤ) → x ≤ℤ y → y <ℤ x → ⊥
 less_or_not x y p q = omega (arith, ints)
@@ -44,14 +42,8 @@ past_all P w best cap (leaf x) most given = tt
 past_all P w best cap (branch i c Ts) most given = λ a p. let le = most a p in omega (arith, ints)
 past_all P w best cap (merge i a b T) most given = λ c p. let le = most c p in omega (arith, ints)
 
-transitive : (x y z : ℤ) → x ≤ℤ y → y ≤ℤ z → x ≤ℤ z
-transitive x y z p q = omega (arith, ints)
-
 module _ (m : Model) (May : List Place → ℕ → Type 0) (h : ℕ) (asked : PlanOptions) (best : ℕ) (c : Certificate) (states : StatesSearch m h asked best c)
     (done : IsSearched (front_space (arithmetic_for m c) m c.horizon c.look asked.merge May (λ F. low_worth (arithmetic_for m c) m c.version c.horizon (full_policy m F))) asked.nodes (constant_worth m c best) c.lower c.inner c.tree) where
-  worth : Front → ℤ
-  worth F = low_worth (arithmetic_for m c) m c.version c.horizon (full_policy m F)
-
   kept : IsPromised (arithmetic_for m c) m c.horizon c.look asked.nodes asked.merge May (λ F. low_worth (arithmetic_for m c) m c.version c.horizon (full_policy m F)) (constant_worth m c best) c.lower c.inner c.tree
   kept = promises_hold (arithmetic_for m c) m c.horizon c.look asked.nodes asked.merge May (λ F. low_worth (arithmetic_for m c) m c.version c.horizon (full_policy m F)) (constant_worth m c best) c.lower c.inner c.tree done
 
@@ -72,18 +64,18 @@ module _ (m : Model) (May : List Place → ℕ → Type 0) (h : ℕ) (asked : Pl
     nodes = kept.within_budget;
     ended = elim kept.stop [
       | inl spent ↦ inr (inl spent)
-      | inr none ↦ inr (inr (each_node (λ n. IfNarrowLeaf m c.horizon n (λ x. x ≤ℤ c.lower)) (λ n. IfOpenLeaf c.horizon n (λ x. c.lower <ℤ x → is_wide m c.horizon n.above n.front ≡ true)) (certificate_nodes m c)
+      | inr none ↦ inr (inr (all_weaker (λ n. IfNarrowLeaf m c.horizon n (λ x. x ≤ℤ c.lower)) (λ n. IfOpenLeaf c.horizon n (λ x. c.lower <ℤ x → is_wide m c.horizon n.above n.front ≡ true)) (certificate_nodes m c)
             (λ n given. refined_leaf m c.horizon c.lower n n.tree (is_wide m c.horizon n.above n.front) given) none))
     ];
     lean = kept.lean;
     merged = λ on exact. record { exact = exact; branches = kept.merged on (arithmetic_says c.is_exact m.scales exact) };
     unmerged = kept.unmerged;
-    constants = λ a p. transitive _ (constant_worth m c best) _ (states.best_constant.greatest a p) kept.constants_below;
-    inner_nodes = each_node (λ n. IfInner n.tree (constant_worth m c best <ℤ n.cap)) (λ n. IfInner n.tree ((a : ℕ) → a < joint_actions m → constant_worth m c a <ℤ n.cap)) (certificate_nodes m c)
+    constants = λ a p. zle_trans _ (constant_worth m c best) _ (states.best_constant.greatest a p) kept.constants_below;
+    inner_nodes = all_weaker (λ n. IfInner n.tree (constant_worth m c best <ℤ n.cap)) (λ n. IfInner n.tree ((a : ℕ) → a < joint_actions m → constant_worth m c a <ℤ n.cap)) (certificate_nodes m c)
         (λ n given. past_all (λ a. a < joint_actions m) (constant_worth m c) (constant_worth m c best) n.cap n.tree states.best_constant.greatest given) kept.inner_nodes;
     best_constant = λ none. (best, states.best_constant, states.constant none);
     ruled = kept.ruled;
-    full_leaves = each_node (λ n. IfLeaf n.tree (λ x. c.horizon ≤ n.front.stage → low_worth (arithmetic_for m c) m c.version c.horizon (full_policy m n.front) ≤ℤ c.lower)) (λ n. IfFullLeaf c.horizon n (low_worth (arithmetic_for m c) m c.version c.horizon (full_policy m n.front) ≤ℤ c.lower)) (certificate_nodes m c)
+    full_leaves = all_weaker (λ n. IfLeaf n.tree (λ x. c.horizon ≤ n.front.stage → low_worth (arithmetic_for m c) m c.version c.horizon (full_policy m n.front) ≤ℤ c.lower)) (λ n. IfFullLeaf c.horizon n (low_worth (arithmetic_for m c) m c.version c.horizon (full_policy m n.front) ≤ℤ c.lower)) (certificate_nodes m c)
         (λ n given. full_leaf c.horizon n.front.stage (low_worth (arithmetic_for m c) m c.version c.horizon (full_policy m n.front) ≤ℤ c.lower) n.tree given) kept.full_leaves;
     version = states.version;
     shared_form = states.shared_form;

@@ -17,6 +17,7 @@ use Rattle.dp_spec.specs.SearchState.{OpenLeaf, held_at, IsOpenLeaf, IsOpenAt, I
 use Rattle.dp_laws.proofs.HeldLeaves.{held_cons, is_at_same, is_at_other, held_none, held_some, none_held}
 use Rattle.dp_laws.proofs.Growing as grow
 use Rattle.dp_laws.proofs.Growing.{AreCaps, more_labels}
+use Rattle.dp_base.proofs.Order.{last_or_before}
 
 -- ---- one step
 
@@ -202,9 +203,6 @@ module _ (S : Space) (constants lower : ℤ) (ns : List ArenaNode) (L : Labels) 
     not_wide = is.not_wide;
   }
 
-  last_or_before : (j : ℕ) → j < k + 1 → (j ≡ k) ⊎ (j < k)
-  last_or_before j h = elim (cases_lt j k) [ inl b ↦ inr b | inr b ↦ inl (omega arith) ]
-
   -- a node that is not to be grown: it is no open leaf above the lower end, and if it is full, its policy was tried
   pub search_passes : ((x : ℤ) → IsOpenAt S ns L k x → lower <ℤ x → ⊥) → (S.is_full (L.front k) ≡ true → S.worth (L.front k) ≤ℤ lower)
       → IsSearch S constants lower ns L (k + 1) es
@@ -214,12 +212,12 @@ module _ (S : Space) (constants lower : ℤ) (ns : List ArenaNode) (L : Labels) 
     held = λ i d h. still_open (get_or es i d) (state.held i d h);
     once = state.once;
     covered = λ j x below is over.
-        elim (last_or_before j below) [
+        elim (last_or_before j k (omega arith)) [
           | inl e ↦ absurd (closed x (subst (λ (z : ℕ). IsOpenAt S ns L z x) e is) over)
           | inr b ↦ state.covered j x b is over
         ];
     tried = λ j x below leaf full.
-        elim (last_or_before j below) [
+        elim (last_or_before j k (omega arith)) [
           | inl e ↦ subst (λ (z : ℕ). S.worth (L.front z) ≤ℤ lower) (sym e) (tried (ap (λ z. S.is_full (L.front z)) (sym e) ∙ full))
           | inr b ↦ state.tried j x b leaf full
         ];
@@ -250,12 +248,12 @@ module _ (S : Space) (constants lower : ℤ) (ns : List ArenaNode) (L : Labels) 
             ];
         covered = λ j x below open_there over.
             let sum = held_cons j o es in
-            elim (last_or_before j below) [
+            elim (last_or_before j k (omega arith)) [
               | inl e ↦ let one' = is_at_same j o (same ∙ sym e) in omega arith
               | inr b ↦ let h = state.covered j x b open_there over in omega arith
             ];
         tried = λ j x below leaf full.
-            elim (last_or_before j below) [
+            elim (last_or_before j k (omega arith)) [
               | inl e ↦
                   let open_front : S.is_full (L.front k) ≡ false = ap (λ z. S.is_full (L.front z)) (sym same) ∙ ap S.is_full is.front ∙ is.not_full in
                   let full' : S.is_full (L.front k) ≡ true = ap (λ z. S.is_full (L.front z)) (sym e) ∙ full in

@@ -23,6 +23,13 @@ positive_left (suc n) k o h = omega arith
 pub row_below : (p n k j : ℕ) → p < n → j < k → p * k + j < n * k
 row_below p n k j h g = omega (arith, mul-le-mul_right k h)
 
+-- equal numbers have equal rows and places
+pub same_parts : (n p j p' j' : ℕ) → j < n → j' < n → p * n + j ≡ p' * n + j' → (p ≡ p') × (j ≡ j')
+same_parts n p j p' j' lt lt' e = (
+  sym (div-mul-add p n j lt) ∙ ap (λ (z : ℕ). z / n) e ∙ div-mul-add p' n j' lt',
+  sym (mod-mul-add p n j lt) ∙ ap (λ (z : ℕ). z % n) e ∙ mod-mul-add p' n j' lt',
+)
+
 -- the row of a number
 pub part_below : (n k o : ℕ) → o < n * k → o / k < n
 part_below n k o h = (div-lt_iff_lt-mul (positive_right n k o h)).1 h
