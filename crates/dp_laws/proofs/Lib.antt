@@ -106,3 +106,5 @@ pub mod UnequalPlaces
 pub mod RightNodes
 pub mod FirstReasons
 pub mod PrimitiveVectors
+pub mod TrueFits
+pub mod ChoicesTakenBack

@@ -23,3 +23,5 @@ pub mod GrowthLaws
 pub mod UnequalPlaceLaws
 pub mod ReasonLaws
 pub mod PrimitiveVectorLaws
+pub mod TrueFitLaws
+pub mod UnchoosingLaws
