@@ -137,7 +137,7 @@ module _ (w v : ℕ → ℕ) (n g f : ℕ) (first : IsGcdOf (map w (range_with_l
       → (i : ℕ) → i < n → w i * nat_sum n v ≡ v i * nat_sum n w
   proportional_of_parts same i lt =
       let parts : (j : ℕ) → j < n → w j / g ≡ v j / f = λ j below.
-          sym (part_at w g n 0 j below ∙ from_start w g j) ∙ ap (λ (xs : List ℕ). get_or xs j 0) same ∙ part_at v f n 0 j below ∙ from_start v f j in
+      sym (part_at w g n 0 j below ∙ from_start w g j) ∙ ap (λ (xs : List ℕ). get_or xs j 0) same ∙ part_at v f n 0 j below ∙ from_start v f j in
       in_proportion (w i) (v i) (w i / g) (v i / f) g f (nat_sum n (λ j. w j / g)) (nat_sum n (λ j. v j / f)) (nat_sum n w) (nat_sum n v)
       (part_times w n g first i lt) (part_times v n f second i lt) (parts i lt)
       (sum_of_parts w n g first) (sum_of_parts v n f second)

@@ -53,9 +53,9 @@ module _ (m : Model) (k : ℕ) where
       let O = joint_observations m in
       let L = λ (o : ℕ). look_ahead m r (weights_after m w a o) look in
       let later : int_sum O (λ o. look_ahead m r (weights_after m (λ s. k * w s) a o) look) ≡ pos k *ℤ int_sum O L =
-          int_sum_ext O _ (λ o. pos k *ℤ L o) (λ o p.
-          ap (λ (u : ℕ → ℕ). look_ahead m r u look) (λ j t. scaled_next w a o t j) ∙ scales (weights_after m w a o))
-          ∙ int_sum_mul (pos k) O L in
+      int_sum_ext O _ (λ o. pos k *ℤ L o) (λ o p.
+      ap (λ (u : ℕ → ℕ). look_ahead m r u look) (λ j t. scaled_next w a o t j) ∙ scales (weights_after m w a o))
+      ∙ int_sum_mul (pos k) O L in
       (λ j. scaled_reward r w a j +ℤ later j) ∙ sym (zmul_add (pos k) (weighted_reward m r w a) (int_sum O L))
 
   -- look-ahead

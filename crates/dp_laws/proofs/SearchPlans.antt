@@ -65,7 +65,7 @@ module _ (m : Model) (May : List Place → ℕ → Type 0) (h : ℕ) (asked : Pl
     ended = elim kept.stop [
       | inl spent ↦ inr (inl spent)
       | inr none ↦ inr (inr (all_weaker (λ n. IfNarrowLeaf m c.horizon n (λ x. x ≤ℤ c.lower)) (λ n. IfOpenLeaf c.horizon n (λ x. c.lower <ℤ x → is_wide m c.horizon n.above n.front ≡ true)) (certificate_nodes m c)
-            (λ n given. refined_leaf m c.horizon c.lower n n.tree (is_wide m c.horizon n.above n.front) given) none))
+          (λ n given. refined_leaf m c.horizon c.lower n n.tree (is_wide m c.horizon n.above n.front) given) none))
     ];
     lean = kept.lean;
     merged = λ on exact. record { exact = exact; branches = kept.merged on (arithmetic_says c.is_exact m.scales exact) };

@@ -65,7 +65,7 @@ bound_in_abs A m h r look F can e =
     let n = product (class_counts F.agents) in
     let E = (earned_reward_in A m (fixed_joint_action m F) (F.stage + suc r) F.stage).high in
     let earned : unsigned_abs E ≤ earned_size A m (fixed_joint_action m F) h F.stage =
-        subst (λ (k : ℕ). unsigned_abs (earned_reward_in A m (fixed_joint_action m F) k F.stage).high ≤ earned_size A m (fixed_joint_action m F) h F.stage) (sym e) (high_abs A m F h) in
+    subst (λ (k : ℕ). unsigned_abs (earned_reward_in A m (fixed_joint_action m F) k F.stage).high ≤ earned_size A m (fixed_joint_action m F) h F.stage) (sym e) (high_abs A m F h) in
     let looks = int_sum_abs n best in
     let both = abs_add E (int_sum n best) in
     let room = can.bound r look e in
@@ -98,7 +98,7 @@ spread_to m is h some le e mode look F i c front lt free cells =
     let n = get_or m.actions i 0 in
     let here = front_bound_abs A m h look F (mode_can_refine m is h some le e mode F front lt cells) lt in
     let chosen : (a : ℕ) → a < n → unsigned_abs (B a) ≤ 2 ^ 126 =
-        λ a p. front_bound_abs A m h look (chosen_front F i c a)
-        (mode_can_refine m is h some le e mode (chosen_front F i c a) (chosen_is_front m h F i c a front lt free p) lt cells) lt in
+    λ a p. front_bound_abs A m h look (chosen_front F i c a)
+    (mode_can_refine m is h some le e mode (chosen_front F i c a) (chosen_is_front m h F i c a front lt free p) lt cells) lt in
     let least = greatest_abs (λ a. neg_ℤ (B a)) (2 ^ 126) (numbers_below n) (λ a p. neg_abs (B a) (2 ^ 126) (chosen a (below-IsIn n a p))) in
     together (front_bound A m h look F) (greatest (λ a. neg_ℤ (B a)) (numbers_below n)) here least

@@ -22,3 +22,5 @@ pub mod ClassStepLaws
 pub mod GrowthLaws
 pub mod UnequalPlaceLaws
 pub mod ReasonLaws
+pub mod TrueFitLaws
+pub mod UnchoosingLaws

@@ -54,7 +54,7 @@ solo_plain = and_plain (record { counts = λ t lt. rw (no_more t lt) refl; nexts
 solo_policy : (version : ℕ) → (version ≡ 1) ⊎ (version ≡ 2) → HasPolicyOfVersion solo (solo_certificate version)
 solo_policy version known = record { version = known; shared = solo_shared; plain = λ e. solo_plain }
 
-solo_tree : FitsFront (exact solo.scales) solo 1 1 0 both_actions (root_front solo) (front_bound (exact solo.scales) solo 1 1 (root_front solo))
+pub solo_tree : FitsFront (exact solo.scales) solo 1 1 0 both_actions (root_front solo) (front_bound (exact solo.scales) solo 1 1 (root_front solo))
 unfolding solo front_bound exact reward_factor weights_after_in weighted_reward_in weighted_table_in action_look_ahead_in class_weight_in joint_class fixed_joint_action agreeing_actions joint_observations joint_actions trans_at obs_at reward_at start_at step_scale root_front front_after_choice advanced_agent is_wide widens is_room
 solo_tree = (omega arith, (omega arith, refl), (refl, (refl, refl)), refl)
 

@@ -7,6 +7,7 @@ pub mod FittingRows
 pub mod KeepingRows
 pub mod NumberingRows
 pub mod OutwardRows
+pub mod PromiseRows
 pub mod QualityRows
 pub mod ReasonRows
 pub mod QuantityScales

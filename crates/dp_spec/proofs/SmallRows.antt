@@ -4,7 +4,9 @@ use Rattle.dp_spec.specs.Model.{joint_actions, joint_observations, start_at, tra
 use Rattle.dp_spec.specs.PolicyTree.{PolicyTree, node, no_trees, more_trees}
 use Rattle.dp_spec.specs.Value.{joint_root_action, trees_after, policy_value}
 use Rattle.dp_spec.specs.MdpTable.{mdp_table}
-use Rattle.dp_spec.specs.LookAhead.{weights_after, weighted_reward}
+use Rattle.dp_spec.specs.LookAhead.{look_ahead, weights_after, weighted_reward}
+use Rattle.dp_spec.specs.Arithmetic.{exact, point, reward_factor}
+use Rattle.dp_spec.specs.Quantities.{forward_worth_in, mdp_table_in, weighted_reward_in, weights_after_in}
 use Rattle.dp_spec.specs.JointHistory.{earned_reward}
 use Rattle.dp_spec.specs.Front.{Front, fixed_joint_action, joint_class, class_weight}
 use Rattle.dp_spec.specs.Steps.{root_front, front_after_choice, advanced_agent}
@@ -39,6 +41,27 @@ twice = node 0 (more_trees (node 0 no_trees) (more_trees (node 0 no_trees) no_tr
 value_of_drift : policy_value drift 2 (twice ∷ []) ≡ pos 430980
 unfolding drift policy_value joint_root_action trees_after joint_observations joint_actions trans_at obs_at reward_at start_at step_scale
 value_of_drift = refl
+
+-- the same in the table, along weights, and in an arithmetic
+table_of_drift : mdp_table drift 2 0 ≡ pos 97980
+unfolding drift joint_actions joint_observations trans_at obs_at reward_at step_scale
+table_of_drift = refl
+
+weights_of_drift : weights_after drift (start_at drift) 0 1 0 ≡ 126
+unfolding drift joint_observations start_at trans_at obs_at weights_after
+weights_of_drift = refl
+
+look_of_drift : look_ahead drift 2 (start_at drift) 1 ≡ pos 430980
+unfolding drift joint_actions joint_observations start_at trans_at obs_at reward_at step_scale weights_after weighted_reward
+look_of_drift = refl
+
+table_in_of_drift : mdp_table_in (exact drift.scales) drift 2 0 ≡ pos 97980
+unfolding drift exact reward_factor joint_actions joint_observations trans_at obs_at reward_at step_scale
+table_in_of_drift = refl
+
+worth_in_of_drift : forward_worth_in (exact drift.scales) drift 2 (twice ∷ []) ≡ point (pos 430980)
+unfolding drift exact reward_factor forward_worth_in weights_after_in weighted_reward_in joint_root_action trees_after joint_actions joint_observations start_at trans_at obs_at reward_at step_scale
+worth_in_of_drift = refl
 
 -- ---- two equivalent classes, and the weight of the merged class
 abbrev pub waited : Front
