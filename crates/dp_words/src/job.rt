@@ -1,5 +1,5 @@
 ghost use Rattle.std.specs.Prelude.{◌≡◌, ◌≤◌, IfOk, Some, map, string_bytes};
-ghost use Rattle.dp_words.specs.Words.{HasSomeStep, IsReadAs, job_of, plain_plan};
+ghost use Rattle.dp_words.specs.Words.{HasLook, HasSomeStep, IsReadAs, job_of, plain_plan};
 
 use crate::Name;
 use crate::number::number;
@@ -68,6 +68,7 @@ const DEFAULT_LOOK: u32 = 1;
 pub fn read_words(alloc: Global, words: &[String]) -> Result<Job, WordFault>
     ensures read { IsReadAs (job_of (map string_bytes words.now)) result }
     ensures some_step { IfOk result HasSomeStep }
+    ensures look { IfOk result HasLook }
 {
     let [command, model, option, horizon] = words else {
         return Err(WordFault::Usage);
@@ -89,6 +90,7 @@ fn plain_plan(alloc: Global, model: &str, horizon: u32) -> Result<Job, WordFault
     requires { 1 ≤ horizon }
     ensures read { IsReadAs (Some (plain_plan model.now horizon)) result }
     ensures some_step { IfOk result HasSomeStep }
+    ensures look { IfOk result HasLook }
 {
     Ok(Job::Plan(PlanJob {
         model: Name::of(alloc, model)?,
