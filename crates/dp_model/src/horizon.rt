@@ -1,10 +1,10 @@
 //! The limits of a horizon, its mode and its unit.
 ghost use Rattle.std.specs.Prelude.{◌≡◌, ◌*◌, ◌-◌, ◌^◌, ◌<◌, ◌≤◌, true, IfOk, OnOk, IfSome, SomeIff};
 ghost use Rattle.std.specs.Result.{result_err};
-ghost use Rattle.dp_spec.specs.Mode.{IsWithin, is_exact_mode, own_history_count};
+ghost use Rattle.dp_spec.specs.Mode.{IsWithin, IsWithinVersion, is_exact_mode, own_history_count};
 ghost use Rattle.dp_spec.specs.Model.{AreScales, joint_observations, step_scale, value_scale};
 ghost use Rattle.dp_base.specs.Sums.{nat_sum};
-ghost use Rattle.dp_model.specs.Horizons.{fit_of, horizon_limits};
+ghost use Rattle.dp_model.specs.Horizons.{fit_of, horizon_limits, long_horizon_passed};
 ghost use Rattle.dp_model.specs.Limits.{first_passed};
 
 use crate::{Limit, Model, TooLarge};
@@ -14,6 +14,9 @@ use dp_spec::Scales;
 const MOST_VALUE: u128 = 1 << 126;
 
 const OUTWARD_UNIT: i128 = 1_000_000_000;
+
+// The most steps of a policy in version 2 of certificates.
+const LONGEST_HORIZON: u32 = 24;
 
 /// A horizon that keeps every limit of a model, with its mode and its unit.
 #[derive(Clone, Copy, Debug, PartialEq, Eq)]
@@ -37,6 +40,23 @@ pub fn fits(model: &Model, horizon: u32) -> Result<Fit, TooLarge>
     ensures fit { IfOk result (λ fit. fit ≡ fit_of model.now.model horizon) }
 {
     within_limits(model, horizon)?;
+    Ok(mode_and_unit(model, horizon))
+}
+
+/// The mode and the unit of a horizon of at least 1 in version 2 of certificates, or the limit
+/// `Horizon` with the horizon where it is more than 24. No other limit is tried. It takes no memory.
+pub fn fits_two(model: &Model, horizon: u32) -> Result<Fit, TooLarge>
+    requires { 1 ≤ horizon }
+    ensures passed { result_err result ≡ long_horizon_passed horizon }
+    ensures within { OnOk result (IsWithinVersion model.now.model horizon 2) }
+    ensures fit { IfOk result (λ fit. fit ≡ fit_of model.now.model horizon) }
+{
+    if horizon > LONGEST_HORIZON {
+        return Err(TooLarge {
+            what: Limit::Horizon,
+            count: u128::from(horizon),
+        });
+    }
     Ok(mode_and_unit(model, horizon))
 }
 

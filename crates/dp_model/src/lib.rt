@@ -10,7 +10,7 @@ mod names;
 mod numbering;
 mod sizes;
 
-pub use horizon::{Fit, fits};
+pub use horizon::{Fit, fits, fits_two};
 pub use items::Items;
 pub use limit::{Limit, TooLarge};
 pub use model::Model;

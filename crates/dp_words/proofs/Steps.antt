@@ -1,5 +1,5 @@
--- A plan of the words is over at least one step.
-use Rattle.std.proofs.Common.{◌≡◌, ◌≤◌, ◌-◌, ◌^◌, ◌&&◌, ◌||◌, not, Bool, cond, codes, true, false, refl, ap, sym, ◌∙◌, subst, List, [], ◌∷◌, length, Option, Some, None, Result, Ok, Err, IfOk, is_some}
+-- A plan of the words is over at least one step, and its look is from 1 to 16.
+use Rattle.std.proofs.Common.{◌≡◌, arith, ◌≤◌, ◌-◌, ◌^◌, ◌&&◌, ◌||◌, not, Bool, cond, codes, true, false, refl, ap, sym, ◌∙◌, subst, List, [], ◌∷◌, length, Option, Some, None, Result, Ok, Err, IfOk, is_some}
 use Rattle.std.specs.Prelude.{◌==◌, find, nat_le, option_and_then}
 use Rattle.std.specs.List.{list_all, list_any}
 use Rattle.std.specs.Option.{option_map_or}
@@ -9,7 +9,7 @@ use Rattle.std.proofs.lemmas.Bool.{leb-true, and_parts}
 use Rattle.dp_words.specs.declared.job.Job.{Job}
 use Rattle.dp_words.specs.declared.job.WordFault.{WordFault}
 use Rattle.dp_words.specs.Line.{Given, Text, is_given, is_well_given, may_be_value, options_of, plain_of, value_in}
-use Rattle.dp_words.specs.Words.{CommandRow, HasSomeStep, IsReadAs, Values, all_hold, command_job, commands, file_at, fits, holds, horizon, is_allowed, is_number, job_of, no_merge, number_option, plan_row, read, row_job, job_of_values, value_names}
+use Rattle.dp_words.specs.Words.{CommandRow, HasLook, HasSomeStep, IsReadAs, Values, all_hold, command_job, commands, file_at, fits, holds, horizon, is_allowed, is_number, job_of, no_merge, number_option, plan_row, read, row_job, job_of_values, value_names}
 use Rattle.dp_words.proofs.Ranges.{options_hold}
 use Rattle.dp_words.proofs.Rows.{same_text}
 use Rattle.dp_words.proofs.Rules.{is_in}
@@ -27,10 +27,14 @@ at_least_one (Some t) holds there =
     by true false e d some = cc
     by false false e d some = cc
 
--- the job of a row has some step, where its options fit
+-- the job has what a command asks of its numbers
+abbrev IsRunnable : Job → Type 0
+IsRunnable job = HasSomeStep job × HasLook job
+
+-- the job of a row is so, where its options fit
 abbrev HasStep : Values → CommandRow → Type 0
 HasStep v c = (off : Bool) (files : List Text) → fits c.options c.required v off ≡ true
-    → HasSomeStep (c.job (read v off) (file_at files))
+    → IsRunnable (c.job (read v off) (file_at files))
 
 abbrev EachHas : Values → List CommandRow → Type 0
 EachHas v [] = Unit {0}
@@ -59,7 +63,8 @@ required (m ∷ ms) v n is all =
 
 -- one entry for each command of the table
 commands_have : (v : Values) → holds v (number_option horizon) ≡ true → EachHas v commands
-commands_have v holds = (horizon_of plan_row.options plan_row.required refl, tt)
+commands_have v holds =
+    ((λ off files ok. (horizon_of plan_row.options plan_row.required refl off files ok, (omega arith, omega arith))), tt)
   where
     horizon_of : (options names : List Text) → is_in (codes "horizon") names ≡ true
         → (off : Bool) (files : List Text) → fits options names v off ≡ true
@@ -70,7 +75,7 @@ commands_have v holds = (horizon_of plan_row.options plan_row.required refl, tt)
 
 find_has : (v : Values) (cs : List CommandRow) → EachHas v cs
     → (p : CommandRow → Bool) (off : Bool) (files : List Text)
-    (job : Job) → option_and_then (row_job v off files) (find p cs) ≡ Some job → HasSomeStep job
+    (job : Job) → option_and_then (row_job v off files) (find p cs) ≡ Some job → IsRunnable job
 find_has v [] each p off files job is = cc
 find_has v (c ∷ cs) each p off files job is = by (p c) is (find_has v cs each.1 p off files job)
   where
@@ -78,8 +83,8 @@ find_has v (c ∷ cs) each p off files job is = by (p c) is (find_has v cs each.
     asked = c.job (read v off) (file_at files)
 
     made : (b : Bool) → fits c.options c.required v off ≡ b → (e : Bool)
-        → cond (e && b) (Some asked) None ≡ Some job → HasSomeStep job
-    made true ok true is = subst HasSomeStep (same is) (each.0 off files ok)
+        → cond (e && b) (Some asked) None ≡ Some job → IsRunnable job
+    made true ok true is = subst IsRunnable (same is) (each.0 off files ok)
       where
         same : Some asked ≡ Some job → asked ≡ job
         same e = cc
@@ -88,23 +93,23 @@ find_has v (c ∷ cs) each p off files job is = by (p c) is (find_has v cs each.
     made false ok false is = cc
 
     by : (b : Bool) → option_and_then (row_job v off files) (cond b (Some c) (find p cs)) ≡ Some job
-        → (option_and_then (row_job v off files) (find p cs) ≡ Some job → HasSomeStep job) → HasSomeStep job
+        → (option_and_then (row_job v off files) (find p cs) ≡ Some job → IsRunnable job) → IsRunnable job
     by true is next = made (fits c.options c.required v off) refl (length files == c.files) is
     by false is next = next is
 
 values_have : (v : Values) (off : Bool) (plain : List Text) (job : Job) → job_of_values v off plain ≡ Some job
-    → HasSomeStep job
+    → IsRunnable job
 values_have v off plain job is = by (all_hold v) refl plain is
   where
     by : (b : Bool) → all_hold v ≡ b → (ps : List Text) → cond b (command_job v off ps) None ≡ Some job
-        → HasSomeStep job
+        → IsRunnable job
     by false e ps is = cc
     by true e [] is = cc
     by true e (word ∷ files) is =
         find_has v commands (commands_have v (options_hold v e).0) (λ c. bytes_eq c.word word) off files job is
 
--- the job of the words has some step
-pub job_has : (words : List Text) (job : Job) → job_of words ≡ Some job → HasSomeStep job
+-- the job of the words is so
+pub job_has : (words : List Text) (job : Job) → job_of words ≡ Some job → IsRunnable job
 job_has words job is = by (is_well_given value_names os) is
   where
     os : List Given
@@ -112,10 +117,14 @@ job_has words job is = by (is_well_given value_names os) is
 
     by : (b : Bool) → cond b (job_of_values (value_in os) (is_given os no_merge) (plain_of may_be_value words)) None
         ≡ Some job
-        → HasSomeStep job
+        → IsRunnable job
     by true is = values_have (value_in os) (is_given os no_merge) (plain_of may_be_value words) job is
     by false is = cc
 
 pub read_has : (words : List Text) (r : Result Job WordFault) → IsReadAs (job_of words) r → IfOk r HasSomeStep
-read_has words (Ok job) is = job_has words job is
+read_has words (Ok job) is = (job_has words job is).0
 read_has words (Err e) is = tt
+
+pub read_looks : (words : List Text) (r : Result Job WordFault) → IsReadAs (job_of words) r → IfOk r HasLook
+read_looks words (Ok job) is = (job_has words job is).1
+read_looks words (Err e) is = tt

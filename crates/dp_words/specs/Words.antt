@@ -164,3 +164,7 @@ IsReadAs job (Err faults.Memory) = Unit {0}
 -- a plan is over at least one step
 abbrev pub HasSomeStep : Job → Type 0
 HasSomeStep (Plan job) = 1 ≤ job.horizon
+
+-- the look of a plan is from 1 to 16
+abbrev pub HasLook : Job → Type 0
+HasLook (Plan job) = (1 ≤ job.look) × (job.look ≤ 16)

@@ -1,6 +1,6 @@
 // The job of the words.
 ghost use Rattle.std.specs.Prelude.{◌≡◌, ◌∷◌, IfOk, map, true, string_bytes};
-ghost use Rattle.dp_words.specs.Words.{HasSomeStep, IsReadAs, all_hold, command_job, job_of, job_of_values, plan_row, row_job};
+ghost use Rattle.dp_words.specs.Words.{HasLook, HasSomeStep, IsReadAs, all_hold, command_job, job_of, job_of_values, plan_row, row_job};
 ghost use Rattle.dp_words.specs.Command.{merging_off, plain_words, values_of};
 
 use crate::job::{Job, OrderWord, PlanJob, WordFault};
@@ -105,6 +105,7 @@ fn matches_job(alloc: Global, given: &ArgMatches<'_>) -> Result<Job, WordFault>
 pub fn read_words(alloc: Global, words: &[String]) -> Result<Job, WordFault>
     ensures read { IsReadAs (job_of (map string_bytes words.now)) result }
     ensures some_step { IfOk result HasSomeStep }
+    ensures look { IfOk result HasLook }
 {
     let given = parsed(alloc, words)?;
     matches_job(alloc, &given)

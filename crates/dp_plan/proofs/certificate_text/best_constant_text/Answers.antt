@@ -19,8 +19,8 @@ returns c =
       action = a;
       best = best;
       spelled =
-          three_pushed _ _ _ _ (head_text c.unit.result (to_z w128 (of_z w128 c.best_constant-best.result.value))) (agents_text 0 (parts_of m.actions a))
+          three_pushed _ _ _ _ (head_text c.args.look c.unit.result (to_z w128 (of_z w128 c.best_constant-best.result.value))) (agents_text 0 (parts_of m.actions a))
           (tree_text (to_z w128 (of_z w128 c.best_constant-best.result.value))) c.new-text.ensures.items c.in_ok-push_head.ensures c.in_ok-push_agents.ensures c.in_ok-push_tree.ensures
-          ∙ (λ i. head_text (c.unit.ensures i) (value i) ++ (agents_text 0 (parts_of m.actions a) ++ tree_text (value i)))
-          ∙ sym (constant_text m a c.kept.ensures.model c.requires.exact);
+          ∙ (λ i. head_text c.args.look (c.unit.ensures i) (value i) ++ (agents_text 0 (parts_of m.actions a) ++ tree_text (value i)))
+          ∙ sym (constant_text m c.args.look a c.kept.ensures.model best.below c.requires.exact);
     }
