@@ -49,12 +49,12 @@ chosen_bound_in_le A m ok h (suc r) look F i c a front lt free p =
     let chosen = chosen_is_front m h F i c a front lt free p in
     let earned = ap (λ act. (earned_reward_in A m act (F.stage + suc r) F.stage).high) (actions_chosen m F i c a) in
     let each : (C : ℕ) → C < N → best C ≤ℤ greatest (λ x. action_look_ahead_in A m r (class_weight_in A m F C) x look) (agreeing_actions m F C) =
-        λ C q.
-        let q' : C < product (class_counts G.agents) = subst (λ (n : ℕ). C < n) (sym as_many) q in
-        let same = ap (λ w. greatest (λ x. action_look_ahead_in A m r (w C) x look) (agreeing_actions m G C)) (weight_chosen_in A m F i c a) in
-        let some = some_in _ _ (chosen_action_agrees m ok h G chosen C q') in
-        zle_trans _ _ _ (zle_of _ _ same)
-        (greatest_of_part _ (agreeing_actions m G C) (agreeing_actions m F C) some (λ x here. still_agrees m F i c a C x free here)) in
+    λ C q.
+    let q' : C < product (class_counts G.agents) = subst (λ (n : ℕ). C < n) (sym as_many) q in
+    let same = ap (λ w. greatest (λ x. action_look_ahead_in A m r (w C) x look) (agreeing_actions m G C)) (weight_chosen_in A m F i c a) in
+    let some = some_in _ _ (chosen_action_agrees m ok h G chosen C q') in
+    zle_trans _ _ _ (zle_of _ _ same)
+    (greatest_of_part _ (agreeing_actions m G C) (agreeing_actions m F C) some (λ x here. still_agrees m F i c a C x free here)) in
     zadd_le _ _ _ _ (zle_of _ _ earned)
     (zle_trans _ _ _ (zle_of _ _ (ap (λ (n : ℕ). int_sum n best) as_many)) (int_sum_le N _ _ each))
 

@@ -1,10 +1,10 @@
 -- The weights of a class at the places of the other agents: those of joint classes, and together the total of the class.
-use Rattle.std.proofs.Common.{◌≡◌, ℕ, zero, suc, ◌+◌, ◌*◌, ◌^◌, ◌<◌, ◌≤◌, Bool, true, false, cond, eqb, pos, List, length, get_or, refl, sym, ap, ◌∙◌, arith}
+use Rattle.std.proofs.Common.{◌≡◌, ℕ, suc, ◌^◌, ◌<◌, ◌≤◌, Bool, true, false, cond, eqb, pos, List, length, get_or, sym, ap, ◌∙◌, arith}
 use Rattle.std.proofs.lemmas.Bool.Decides.{nat_tests}
 use Rattle.dp_spec.specs.Arithmetic.{Arithmetic, exact, point}
 use Rattle.dp_spec.specs.Calls.{size}
-use Rattle.dp_spec.specs.Front.{Front, class_counts, class_weight, fixed_joint_action}
-use Rattle.dp_spec.specs.JointHistory.{IsJointHistory, history_weight, nat_history_sum}
+use Rattle.dp_spec.specs.Front.{Front, class_counts, fixed_joint_action}
+use Rattle.dp_spec.specs.JointHistory.{history_weight, nat_history_sum}
 use Rattle.dp_spec.specs.JointNumbers.{product}
 use Rattle.dp_spec.specs.Merge.{class_of_agent, class_of_others, class_total, place_weight, placed_number, without}
 use Rattle.dp_spec.specs.Mode.{is_exact_mode}
@@ -83,6 +83,6 @@ total_fits m is h some mode F front lt i c =
     let W = λ (H : List ℕ). nat_sum m.states (λ s. w H s) in
     let le = nat_history_sum_le O F.stage (λ H. cond (eqb (class_of_agent m F i H) c) (W H) 0) W (λ H p. at_most_all (eqb (class_of_agent m F i H) c) (W H)) in
     let sizes = nat_history_sum_ext O F.stage (λ H. nat_sum m.states (λ s. size (history_weight_in (exact m.scales) m (fixed_joint_action m F) H s))) W
-        (λ H p. nat_sum_ext m.states _ _ (λ s q. ap size ((exact_quantities m is).history_weights (fixed_joint_action m F) F.stage H s p) ∙ size_of_point (w H s))) in
+    (λ H p. nat_sum_ext m.states _ _ (λ s q. ap size ((exact_quantities m is).history_weights (fixed_joint_action m F) F.stage H s p) ∙ size_of_point (w H s))) in
     let all = (exact_can_refine m is h some mode F front lt).classify in
     omega arith

@@ -1,5 +1,5 @@
 -- Classes of totals above 0 are equivalent exactly where their primitive vectors are equal.
-use Rattle.std.proofs.Common.{◌≡◌, ◌↔◌, inl, inr, ℕ, zero, suc, ◌+◌, ◌*◌, ◌/◌, ◌%◌, ◌<◌, ◌≤◌, List, [], ◌∷◌, map, length, get_or, All, refl, sym, ap, ◌∙◌, subst, arith}
+use Rattle.std.proofs.Common.{◌≡◌, ◌↔◌, inl, inr, ℕ, zero, suc, ◌+◌, ◌*◌, ◌/◌, ◌%◌, ◌<◌, ◌≤◌, List, ◌∷◌, map, length, get_or, refl, sym, ap, ◌∙◌, subst, arith}
 use Rattle.std.specs.Int.{◌∣◌}
 use Rattle.std.specs.List.{range_with_len}
 use Rattle.std.proofs.Math.Nat.{div-mul_cancel, mul-div_cancel, mul-dvd-mul_left, mul-dvd-mul_right, mul-pos, mul_comm}
@@ -16,7 +16,7 @@ use Rattle.dp_spec.specs.JointNumbers.{product}
 use Rattle.dp_spec.specs.Merge.{AreEquivalent, class_total, place_weight, without}
 use Rattle.dp_spec.specs.Model.{Model}
 use Rattle.dp_spec.specs.Primitive.{IsGcdOf, IsPrimitiveOf}
-use Rattle.dp_spec.specs.UnequalPlaces.{AgreeAt, class_vector, place_count, weight_at}
+use Rattle.dp_spec.specs.UnequalPlaces.{class_vector, place_count, weight_at}
 use Rattle.dp_spec.specs.WellFormed.{IsFront}
 use Rattle.dp_laws.proofs.PlaceWeights.{places_total}
 use Rattle.dp_laws.proofs.UnequalPlaces.{agreement_is}
@@ -137,7 +137,7 @@ module _ (w v : ℕ → ℕ) (n g f : ℕ) (first : IsGcdOf (map w (range_with_l
       → (i : ℕ) → i < n → w i * nat_sum n v ≡ v i * nat_sum n w
   proportional_of_parts same i lt =
       let parts : (j : ℕ) → j < n → w j / g ≡ v j / f = λ j below.
-          sym (part_at w g n 0 j below ∙ from_start w g j) ∙ ap (λ (xs : List ℕ). get_or xs j 0) same ∙ part_at v f n 0 j below ∙ from_start v f j in
+      sym (part_at w g n 0 j below ∙ from_start w g j) ∙ ap (λ (xs : List ℕ). get_or xs j 0) same ∙ part_at v f n 0 j below ∙ from_start v f j in
       in_proportion (w i) (v i) (w i / g) (v i / f) g f (nat_sum n (λ j. w j / g)) (nat_sum n (λ j. v j / f)) (nat_sum n w) (nat_sum n v)
       (part_times w n g first i lt) (part_times v n f second i lt) (parts i lt)
       (sum_of_parts w n g first) (sum_of_parts v n f second)

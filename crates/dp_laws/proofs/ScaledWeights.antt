@@ -1,10 +1,10 @@
 -- Weights times a factor have that many times the look-ahead, in exact numbers.
-use Rattle.std.proofs.Common.{◌≡◌, ℕ, zero, suc, ◌+◌, ◌-◌, ◌*◌, ◌<◌, ℤ, pos, ◌+ℤ◌, ◌*ℤ◌, refl, sym, ap, ◌∙◌, arith}
+use Rattle.std.proofs.Common.{◌≡◌, ℕ, zero, suc, ◌-◌, ◌*◌, ◌<◌, ℤ, pos, ◌+ℤ◌, ◌*ℤ◌, sym, ap, ◌∙◌, arith}
 use Rattle.dp_base.proofs.GreatestValues.{greatest_ext, greatest_times}
 use Rattle.dp_base.proofs.NaturalSumLaws.{nat_sum_ext, nat_sum_times}
 use Rattle.dp_base.proofs.Ring.{v, nat, ◌⊗◌, by_ring, zmul_add}
 use Rattle.dp_base.proofs.Sums.{int_sum_ext, int_sum_mul}
-use Rattle.dp_base.specs.Sums.{greatest, int_sum, nat_sum, numbers_below}
+use Rattle.dp_base.specs.Sums.{int_sum, nat_sum, numbers_below}
 use Rattle.dp_spec.specs.declared.span.Span.{Span}
 use Rattle.dp_spec.specs.Arithmetic.{exact, point}
 use Rattle.dp_spec.specs.LookAhead.{action_look_ahead, look_ahead, weighted_reward, weights_after}
@@ -53,9 +53,9 @@ module _ (m : Model) (k : ℕ) where
       let O = joint_observations m in
       let L = λ (o : ℕ). look_ahead m r (weights_after m w a o) look in
       let later : int_sum O (λ o. look_ahead m r (weights_after m (λ s. k * w s) a o) look) ≡ pos k *ℤ int_sum O L =
-          int_sum_ext O _ (λ o. pos k *ℤ L o) (λ o p.
-          ap (λ (u : ℕ → ℕ). look_ahead m r u look) (λ j t. scaled_next w a o t j) ∙ scales (weights_after m w a o))
-          ∙ int_sum_mul (pos k) O L in
+      int_sum_ext O _ (λ o. pos k *ℤ L o) (λ o p.
+      ap (λ (u : ℕ → ℕ). look_ahead m r u look) (λ j t. scaled_next w a o t j) ∙ scales (weights_after m w a o))
+      ∙ int_sum_mul (pos k) O L in
       (λ j. scaled_reward r w a j +ℤ later j) ∙ sym (zmul_add (pos k) (weighted_reward m r w a) (int_sum O L))
 
   -- look-ahead

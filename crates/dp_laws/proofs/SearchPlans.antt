@@ -1,10 +1,9 @@
 -- The certificate of a search keeps the promises of a plan.
-use Rattle.std.proofs.Common.{◌≡◌, ◌⊎◌, ℕ, ◌<◌, ◌≤◌, Bool, true, false, ℤ, ◌≤ℤ◌, ◌<ℤ◌, List, get_or, refl, sym, ap, subst, ◌∙◌, arith, inl, inr, All, length}
+use Rattle.std.proofs.Common.{◌≡◌, ℕ, ◌<◌, ◌≤◌, Bool, true, false, ℤ, ◌≤ℤ◌, ◌<ℤ◌, List, refl, arith, inl, inr}
 use Rattle.std.specs.Prelude.{IsTrue}
 use Rattle.std.proofs.lemmas.Int.{ints}
 use Rattle.dp_spec.specs.BoundTree.{BoundTree, branch, leaf, merge}
 use Rattle.dp_spec.specs.Certificate.{Certificate, arithmetic_for}
-use Rattle.dp_spec.specs.Front.{Front}
 use Rattle.dp_spec.specs.FrontSpace.{front_space}
 use Rattle.dp_spec.specs.FullPolicy.{full_policy}
 use Rattle.dp_spec.specs.Model.{Model, joint_actions}
@@ -65,7 +64,7 @@ module _ (m : Model) (May : List Place → ℕ → Type 0) (h : ℕ) (asked : Pl
     ended = elim kept.stop [
       | inl spent ↦ inr (inl spent)
       | inr none ↦ inr (inr (all_weaker (λ n. IfNarrowLeaf m c.horizon n (λ x. x ≤ℤ c.lower)) (λ n. IfOpenLeaf c.horizon n (λ x. c.lower <ℤ x → is_wide m c.horizon n.above n.front ≡ true)) (certificate_nodes m c)
-            (λ n given. refined_leaf m c.horizon c.lower n n.tree (is_wide m c.horizon n.above n.front) given) none))
+          (λ n given. refined_leaf m c.horizon c.lower n n.tree (is_wide m c.horizon n.above n.front) given) none))
     ];
     lean = kept.lean;
     merged = λ on exact. record { exact = exact; branches = kept.merged on (arithmetic_says c.is_exact m.scales exact) };

@@ -1,5 +1,5 @@
 -- How far a choice may lower the bound of a front: never below 0, and at most 2^127.
-use Rattle.std.proofs.Common.{◌≡◌, ℕ, zero, suc, ◌+◌, ◌-◌, ◌*◌, ◌^◌, ◌<◌, ◌≤◌, Bool, false, ℤ, pos, ◌+ℤ◌, ◌≤ℤ◌, neg_ℤ, unsigned_abs, get_or, sym, ap, subst, arith}
+use Rattle.std.proofs.Common.{◌≡◌, ℕ, suc, ◌+◌, ◌-◌, ◌*◌, ◌^◌, ◌<◌, ◌≤◌, Bool, false, ℤ, pos, ◌+ℤ◌, ◌≤ℤ◌, neg_ℤ, unsigned_abs, get_or, sym, subst, arith}
 use Rattle.std.proofs.lemmas.Int.{ints}
 use Rattle.dp_laws.proofs.ChosenBound.{chosen_bound_in_le}
 use Rattle.dp_base.proofs.GreatestValues.{greatest_abs, le_greatest_below}
@@ -10,7 +10,6 @@ use Rattle.dp_laws.proofs.SizeSums.{abs_add, earned_size_le, int_sum_abs}
 use Rattle.dp_laws.proofs.WellFormedSteps.{chosen_is_front}
 use Rattle.dp_spec.specs.Arithmetic.{Arithmetic, arithmetic}
 use Rattle.dp_spec.specs.Bound.{agreeing_actions}
-use Rattle.dp_spec.specs.Calls.{size}
 use Rattle.dp_spec.specs.Fitting.{front_bound}
 use Rattle.dp_spec.specs.Front.{Front, class_counts, fixed_joint_action}
 use Rattle.dp_spec.specs.JointNumbers.{product}
@@ -65,7 +64,7 @@ bound_in_abs A m h r look F can e =
     let n = product (class_counts F.agents) in
     let E = (earned_reward_in A m (fixed_joint_action m F) (F.stage + suc r) F.stage).high in
     let earned : unsigned_abs E ≤ earned_size A m (fixed_joint_action m F) h F.stage =
-        subst (λ (k : ℕ). unsigned_abs (earned_reward_in A m (fixed_joint_action m F) k F.stage).high ≤ earned_size A m (fixed_joint_action m F) h F.stage) (sym e) (high_abs A m F h) in
+    subst (λ (k : ℕ). unsigned_abs (earned_reward_in A m (fixed_joint_action m F) k F.stage).high ≤ earned_size A m (fixed_joint_action m F) h F.stage) (sym e) (high_abs A m F h) in
     let looks = int_sum_abs n best in
     let both = abs_add E (int_sum n best) in
     let room = can.bound r look e in
@@ -98,7 +97,7 @@ spread_to m is h some le e mode look F i c front lt free cells =
     let n = get_or m.actions i 0 in
     let here = front_bound_abs A m h look F (mode_can_refine m is h some le e mode F front lt cells) lt in
     let chosen : (a : ℕ) → a < n → unsigned_abs (B a) ≤ 2 ^ 126 =
-        λ a p. front_bound_abs A m h look (chosen_front F i c a)
-        (mode_can_refine m is h some le e mode (chosen_front F i c a) (chosen_is_front m h F i c a front lt free p) lt cells) lt in
+    λ a p. front_bound_abs A m h look (chosen_front F i c a)
+    (mode_can_refine m is h some le e mode (chosen_front F i c a) (chosen_is_front m h F i c a front lt free p) lt cells) lt in
     let least = greatest_abs (λ a. neg_ℤ (B a)) (2 ^ 126) (numbers_below n) (λ a p. neg_abs (B a) (2 ^ 126) (chosen a (below-IsIn n a p))) in
     together (front_bound A m h look F) (greatest (λ a. neg_ℤ (B a)) (numbers_below n)) here least

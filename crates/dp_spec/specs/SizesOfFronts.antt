@@ -1,17 +1,16 @@
 -- That a front can be bounded and advanced.
-use Rattle.std.specs.Prelude.{ℕ, suc, ◌+◌, ◌^◌, ◌<◌, ◌≤◌, ◌≡◌, unsigned_abs, List}
+use Rattle.std.specs.Prelude.{ℕ, suc, ◌+◌, ◌^◌, ◌<◌, ◌≤◌, ◌≡◌, unsigned_abs}
 use Rattle.dp_base.specs.Sums.{greatest, nat_sum}
 use Rattle.dp_spec.specs.JointNumbers.{product}
 use Rattle.dp_spec.specs.Model.{Model, joint_actions, joint_observations}
 use Rattle.dp_spec.specs.JointHistory.{nat_history_sum}
 use Rattle.dp_spec.specs.Front.{Front, class_counts, fixed_joint_action}
 use Rattle.dp_spec.specs.Bound.{agreeing_actions}
-use Rattle.dp_spec.specs.WellFormed.{IsFront}
 use Rattle.dp_spec.specs.Arithmetic.{Arithmetic}
 use Rattle.dp_spec.specs.Quantities.{action_look_ahead_in, class_weight_in, history_weight_in, weights_after_in}
 use Rattle.dp_spec.specs.Calls.{size}
 use Rattle.dp_spec.specs.Sizes.{AreWeights, reward_size}
-use Rattle.dp_spec.specs.SizesOfEarnings.{IsActing, earned_size}
+use Rattle.dp_spec.specs.SizesOfEarnings.{earned_size}
 
 -- act gives a joint action for each joint class of a front
 abbrev pub IsChoosing : Model → Front → (ℕ → ℕ) → Type 0
