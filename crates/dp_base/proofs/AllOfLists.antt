@@ -1,5 +1,5 @@
 -- What holds of each item of a list.
-use Rattle.std.proofs.Common.{ℕ, ◌+◌, ◌<◌, All, List, ◌++◌, length, get_or, subst, arith}
+use Rattle.std.proofs.Common.{◌+◌, All, List, ◌++◌, length, get_or, subst, arith}
 use Rattle.std.proofs.lemmas.List.{get_or_append_left, get_or-append-add, length-append}
 
 -- of two lists one behind the other it holds of each item of the first ..

@@ -1,10 +1,10 @@
 -- The weights of a class at the places of the other agents: those of joint classes, and together the total of the class.
-use Rattle.std.proofs.Common.{◌≡◌, ℕ, zero, suc, ◌+◌, ◌*◌, ◌^◌, ◌<◌, ◌≤◌, Bool, true, false, cond, eqb, pos, List, length, get_or, refl, sym, ap, ◌∙◌, arith}
+use Rattle.std.proofs.Common.{◌≡◌, ℕ, suc, ◌^◌, ◌<◌, ◌≤◌, Bool, true, false, cond, eqb, pos, List, length, get_or, sym, ap, ◌∙◌, arith}
 use Rattle.std.proofs.lemmas.Bool.Decides.{nat_tests}
 use Rattle.dp_spec.specs.Arithmetic.{Arithmetic, exact, point}
 use Rattle.dp_spec.specs.Calls.{size}
-use Rattle.dp_spec.specs.Front.{Front, class_counts, class_weight, fixed_joint_action}
-use Rattle.dp_spec.specs.JointHistory.{IsJointHistory, history_weight, nat_history_sum}
+use Rattle.dp_spec.specs.Front.{Front, class_counts, fixed_joint_action}
+use Rattle.dp_spec.specs.JointHistory.{history_weight, nat_history_sum}
 use Rattle.dp_spec.specs.JointNumbers.{product}
 use Rattle.dp_spec.specs.Merge.{class_of_agent, class_of_others, class_total, place_weight, placed_number, without}
 use Rattle.dp_spec.specs.Mode.{is_exact_mode}

@@ -1,5 +1,5 @@
 -- Classes of totals above 0 are equivalent exactly where their primitive vectors are equal.
-use Rattle.std.proofs.Common.{◌≡◌, ◌↔◌, inl, inr, ℕ, zero, suc, ◌+◌, ◌*◌, ◌/◌, ◌%◌, ◌<◌, ◌≤◌, List, [], ◌∷◌, map, length, get_or, All, refl, sym, ap, ◌∙◌, subst, arith}
+use Rattle.std.proofs.Common.{◌≡◌, ◌↔◌, inl, inr, ℕ, zero, suc, ◌+◌, ◌*◌, ◌/◌, ◌%◌, ◌<◌, ◌≤◌, List, ◌∷◌, map, length, get_or, refl, sym, ap, ◌∙◌, subst, arith}
 use Rattle.std.specs.Int.{◌∣◌}
 use Rattle.std.specs.List.{range_with_len}
 use Rattle.std.proofs.Math.Nat.{div-mul_cancel, mul-div_cancel, mul-dvd-mul_left, mul-dvd-mul_right, mul-pos, mul_comm}
@@ -16,7 +16,7 @@ use Rattle.dp_spec.specs.JointNumbers.{product}
 use Rattle.dp_spec.specs.Merge.{AreEquivalent, class_total, place_weight, without}
 use Rattle.dp_spec.specs.Model.{Model}
 use Rattle.dp_spec.specs.Primitive.{IsGcdOf, IsPrimitiveOf}
-use Rattle.dp_spec.specs.UnequalPlaces.{AgreeAt, class_vector, place_count, weight_at}
+use Rattle.dp_spec.specs.UnequalPlaces.{class_vector, place_count, weight_at}
 use Rattle.dp_spec.specs.WellFormed.{IsFront}
 use Rattle.dp_laws.proofs.PlaceWeights.{places_total}
 use Rattle.dp_laws.proofs.UnequalPlaces.{agreement_is}

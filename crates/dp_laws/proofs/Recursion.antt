@@ -1,8 +1,8 @@
 -- The recursion that pushes weights forwards along the trees gives the forward worth, in any arithmetic.
-use Rattle.std.proofs.Common.{◌≡◌, ℕ, zero, suc, ◌+◌, ◌<◌, ℤ, pos, List, [], ◌∷◌, refl, sym, ap, ◌∙◌, arith}
+use Rattle.std.proofs.Common.{◌≡◌, ℕ, zero, suc, ◌+◌, List, ◌∷◌, sym, ap, ◌∙◌, arith}
 use Rattle.dp_spec.specs.declared.span.Span.{Span}
 use Rattle.dp_laws.proofs.SpanSums.{span_add_assoc, span_add_none, span_history_sum_add, span_history_sum_zero, span_none_add}
-use Rattle.dp_spec.specs.Arithmetic.{Arithmetic, point, span_add}
+use Rattle.dp_spec.specs.Arithmetic.{Arithmetic, span_add}
 use Rattle.dp_spec.specs.JointHistory.{trees_after_history}
 use Rattle.dp_spec.specs.Model.{Model, joint_observations, start_at}
 use Rattle.dp_spec.specs.PolicyTree.{PolicyTree}

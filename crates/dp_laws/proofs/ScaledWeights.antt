@@ -1,10 +1,10 @@
 -- Weights times a factor have that many times the look-ahead, in exact numbers.
-use Rattle.std.proofs.Common.{◌≡◌, ℕ, zero, suc, ◌+◌, ◌-◌, ◌*◌, ◌<◌, ℤ, pos, ◌+ℤ◌, ◌*ℤ◌, refl, sym, ap, ◌∙◌, arith}
+use Rattle.std.proofs.Common.{◌≡◌, ℕ, zero, suc, ◌-◌, ◌*◌, ◌<◌, ℤ, pos, ◌+ℤ◌, ◌*ℤ◌, sym, ap, ◌∙◌, arith}
 use Rattle.dp_base.proofs.GreatestValues.{greatest_ext, greatest_times}
 use Rattle.dp_base.proofs.NaturalSumLaws.{nat_sum_ext, nat_sum_times}
 use Rattle.dp_base.proofs.Ring.{v, nat, ◌⊗◌, by_ring, zmul_add}
 use Rattle.dp_base.proofs.Sums.{int_sum_ext, int_sum_mul}
-use Rattle.dp_base.specs.Sums.{greatest, int_sum, nat_sum, numbers_below}
+use Rattle.dp_base.specs.Sums.{int_sum, nat_sum, numbers_below}
 use Rattle.dp_spec.specs.declared.span.Span.{Span}
 use Rattle.dp_spec.specs.Arithmetic.{exact, point}
 use Rattle.dp_spec.specs.LookAhead.{action_look_ahead, look_ahead, weighted_reward, weights_after}

@@ -1,10 +1,9 @@
 -- The certificate of a search keeps the promises of a plan.
-use Rattle.std.proofs.Common.{◌≡◌, ◌⊎◌, ℕ, ◌<◌, ◌≤◌, Bool, true, false, ℤ, ◌≤ℤ◌, ◌<ℤ◌, List, get_or, refl, sym, ap, subst, ◌∙◌, arith, inl, inr, All, length}
+use Rattle.std.proofs.Common.{◌≡◌, ℕ, ◌<◌, ◌≤◌, Bool, true, false, ℤ, ◌≤ℤ◌, ◌<ℤ◌, List, refl, arith, inl, inr}
 use Rattle.std.specs.Prelude.{IsTrue}
 use Rattle.std.proofs.lemmas.Int.{ints}
 use Rattle.dp_spec.specs.BoundTree.{BoundTree, branch, leaf, merge}
 use Rattle.dp_spec.specs.Certificate.{Certificate, arithmetic_for}
-use Rattle.dp_spec.specs.Front.{Front}
 use Rattle.dp_spec.specs.FrontSpace.{front_space}
 use Rattle.dp_spec.specs.FullPolicy.{full_policy}
 use Rattle.dp_spec.specs.Model.{Model, joint_actions}

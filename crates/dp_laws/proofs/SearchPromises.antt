@@ -22,7 +22,6 @@ use Rattle.dp_spec.specs.Space.{Space}
 use Rattle.dp_spec.specs.Exploration.{Labels, IsInnerNode, IsExploration}
 use Rattle.dp_spec.specs.SearchState.{IsOpenAt}
 use Rattle.dp_spec.specs.Fitting.{FitEachAction, FitsFront, front_bound}
-use Rattle.dp_spec.specs.Certificate.{FitsRoot}
 use Rattle.dp_spec.specs.Wide.{is_wide}
 use Rattle.dp_spec.specs.Promises.{HasNoMerge, HaveNoMerge}
 use Rattle.dp_spec.specs.FrontSpace.{front_space, IsPicked}

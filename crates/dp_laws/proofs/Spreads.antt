@@ -1,5 +1,5 @@
 -- How far a choice may lower the bound of a front: never below 0, and at most 2^127.
-use Rattle.std.proofs.Common.{◌≡◌, ℕ, zero, suc, ◌+◌, ◌-◌, ◌*◌, ◌^◌, ◌<◌, ◌≤◌, Bool, false, ℤ, pos, ◌+ℤ◌, ◌≤ℤ◌, neg_ℤ, unsigned_abs, get_or, sym, ap, subst, arith}
+use Rattle.std.proofs.Common.{◌≡◌, ℕ, suc, ◌+◌, ◌-◌, ◌*◌, ◌^◌, ◌<◌, ◌≤◌, Bool, false, ℤ, pos, ◌+ℤ◌, ◌≤ℤ◌, neg_ℤ, unsigned_abs, get_or, sym, subst, arith}
 use Rattle.std.proofs.lemmas.Int.{ints}
 use Rattle.dp_laws.proofs.ChosenBound.{chosen_bound_in_le}
 use Rattle.dp_base.proofs.GreatestValues.{greatest_abs, le_greatest_below}
@@ -10,7 +10,6 @@ use Rattle.dp_laws.proofs.SizeSums.{abs_add, earned_size_le, int_sum_abs}
 use Rattle.dp_laws.proofs.WellFormedSteps.{chosen_is_front}
 use Rattle.dp_spec.specs.Arithmetic.{Arithmetic, arithmetic}
 use Rattle.dp_spec.specs.Bound.{agreeing_actions}
-use Rattle.dp_spec.specs.Calls.{size}
 use Rattle.dp_spec.specs.Fitting.{front_bound}
 use Rattle.dp_spec.specs.Front.{Front, class_counts, fixed_joint_action}
 use Rattle.dp_spec.specs.JointNumbers.{product}

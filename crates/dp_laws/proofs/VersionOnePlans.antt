@@ -1,39 +1,31 @@
 -- A plan of version 1 is closed or has as many branches and merges as were allowed, since none of its nodes is wide and
 -- in exact mode a full leaf states no more than the value of the policy that its front fixes.
-use Rattle.std.proofs.Common.{◌≡◌, ◌⊎◌, inl, inr, ℕ, suc, ◌+◌, ◌-◌, ◌<◌, Bool, true, false, ℤ, ◌≤ℤ◌, List, [], ◌∷◌, ◌++◌, length, get_or, refl, sym, ap, ◌∙◌, subst, arith}
+use Rattle.std.proofs.Common.{◌≡◌, ◌⊎◌, inl, inr, ℕ, ◌<◌, Bool, true, false, ℤ, ◌≤ℤ◌, List, get_or, refl, sym, ap, ◌∙◌, subst, arith}
 use Rattle.std.specs.Prelude.{◌<ℤ◌, All, IsTrue}
-use Rattle.std.specs.Int.{int_min}
 use Rattle.std.proofs.lemmas.Bool.{cases_lt}
-use Rattle.std.proofs.lemmas.Int.{clamps, ints}
-use Rattle.std.proofs.lemmas.List.{length-append}
+use Rattle.std.proofs.lemmas.Int.{ints}
 use Rattle.dp_spec.specs.declared.span.Span.{Span}
 use Rattle.dp_laws.proofs.FullPolicies.{full_policy_keeps}
-use Rattle.dp_laws.proofs.KeptValue.{value_at_full_front}
 use Rattle.dp_laws.proofs.NodeFronts.{no_wide_node_in_one, nodes_have_room}
 use Rattle.dp_laws.proofs.QuantityLaws.{exact_quantities}
 use Rattle.dp_base.proofs.Order.{le_total}
 use Rattle.dp_base.proofs.Ring.{zle_of, zle_trans}
 use Rattle.dp_laws.proofs.SharedLaws.{plain_form_worth}
-use Rattle.dp_spec.specs.Arithmetic.{Arithmetic, arithmetic, exact}
-use Rattle.dp_spec.specs.BoundTree.{AllLeavesAtMost, BoundTree, BoundTrees, LeavesAtMost, branch, leaf, merge, more_bound_trees, no_bound_trees}
+use Rattle.dp_spec.specs.Arithmetic.{arithmetic, exact}
+use Rattle.dp_spec.specs.BoundTree.{BoundTree, branch, leaf, merge}
 use Rattle.dp_spec.specs.Certificate.{Certificate, arithmetic_for}
-use Rattle.dp_spec.specs.Fitting.{FitEachAction, FitsFront, front_bound}
-use Rattle.dp_spec.specs.Front.{Front, fixed_joint_action}
+use Rattle.dp_spec.specs.Fitting.{front_bound}
+use Rattle.dp_spec.specs.Front.{Front}
 use Rattle.dp_spec.specs.FullPolicy.{full_policy}
-use Rattle.dp_spec.specs.JointHistory.{earned_reward}
-use Rattle.dp_spec.specs.Merge.{merged_front}
 use Rattle.dp_spec.specs.Mode.{IsWithin}
 use Rattle.dp_spec.specs.Model.{IsModel, Model}
 use Rattle.dp_spec.specs.Promises.{IsPlanned, PlanOptions}
-use Rattle.dp_spec.specs.Qualities.{IfLeaf, IfOpenLeaf, IsClosed, IsRefined, Node, Place, certificate_nodes, nodes_of, nodes_of_choices}
-use Rattle.dp_spec.specs.Quantities.{bound_in}
+use Rattle.dp_spec.specs.Qualities.{IfLeaf, IfOpenLeaf, IsClosed, IsRefined, Node, Place, certificate_nodes}
 use Rattle.dp_spec.specs.SharedWorth.{form_in, low_worth}
-use Rattle.dp_spec.specs.Steps.{front_after_choice, root_front}
+use Rattle.dp_spec.specs.Steps.{root_front}
 use Rattle.dp_spec.specs.Value.{policy_value}
 use Rattle.dp_spec.specs.WellFormed.{IsFront}
 use Rattle.dp_spec.specs.Wide.{has_room, is_wide}
-use Rattle.dp_base.proofs.AllOfLists.{all_left, all_right}
-use Rattle.std.proofs.lemmas.List.Elements.{All-head}
 use Rattle.dp_laws.proofs.FullBounds.{full_bound_is_value}
 use Rattle.dp_laws.proofs.LowTrees.{low_leaves}
 

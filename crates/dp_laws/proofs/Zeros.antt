@@ -2,11 +2,10 @@
 use Rattle.std.proofs.Common.{◌≡◌, ℕ, ◌*◌, ◌^◌, Bool, true, false, ℤ, pos, negsuc, ◌*ℤ◌, refl}
 use Rattle.std.proofs.Math.IntN.{zero-*ℤ, *ℤ-zero}
 use Rattle.std.proofs.Math.Nat.{zero-div, zero-mul, mul-zero}
-use Rattle.dp_spec.specs.declared.span.Span.{Span}
 use Rattle.dp_spec.specs.declared.scales.Scales.{Scales}
 use Rattle.dp_spec.specs.Arithmetic.{arithmetic, exact, outward, reward_factor}
 use Rattle.dp_base.specs.Rounding.{by_sign, ceiling_of, mul_down, mul_up}
-use Rattle.dp_spec.specs.Zeros.{KeepsZero, nothing}
+use Rattle.dp_spec.specs.Zeros.{KeepsZero}
 
 -- ---- the exact arithmetic
 
