@@ -37,6 +37,6 @@ fn plan_model(alloc: Global, job: &PlanJob, model: &Model) -> Result<Vec<u8>, Re
     if !fit.exact {
         return Err(Refusal::from(JobFault::Unbuilt(UnbuiltPart::Outward)));
     }
-    model.kept();
+    model.invariant();
     Ok(best_constant_text(alloc, model, job.look)?)
 }

@@ -4,7 +4,7 @@ use Rattle.std.proofs.Math.Nat.{le-mul_of_pos_right, mul-le-mul_left, mul-le-mul
 use Rattle.std.proofs.lemmas.Nat.{pow-add}
 use Rattle.dp_spec.specs.declared.span.Span.{Span}
 use Rattle.dp_laws.proofs.ExactHistorySizes.{advanced_most, class_rewards_most, class_looks_most, earned_most, front_total, histories_total}
-use Rattle.dp_laws.proofs.ExactPushes.{exact_can_push, chance_point, chances_step, power_grows, weight_room, whole_room}
+use Rattle.dp_laws.proofs.ExactWeightUpdates.{exact_can_update_weights, chance_point, chances_step, power_grows, weight_room, whole_room}
 use Rattle.dp_laws.proofs.ExactSizes.{chance_size, gained_total, reward_total, tail_size}
 use Rattle.dp_laws.proofs.ExactValueSizes.{looks_most, one_size, table_most, table_parts_most, value_most, weighted_table_most, worth_most}
 use Rattle.dp_laws.proofs.ActingHistories.{class_weights, front_acting}
@@ -220,7 +220,7 @@ module _ (m : Model) (is : IsModel m) (h : ℕ) (some : 0 < h) (mode : true ≡ 
   weights_of_class : (F : Front) (C : ℕ) → IsFront m h F → F.stage < h
       → AreWeights true m F.stage (class_weight_in (exact m.scales) m F C)
   unfolding exact
-  weights_of_class F C front lt = class_weights (exact m.scales) (exact_calls m.scales) m h (exact_can_push m is h some mode) F C front lt (class_limit F C front)
+  weights_of_class F C front lt = class_weights (exact m.scales) (exact_calls m.scales) m h (exact_can_update_weights m is h some mode) F C front lt (class_limit F C front)
 
   -- all next weights of a front's joint classes
   advanced_fits : (F : Front) (act : ℕ → ℕ) → IsFront m h F → F.stage < h → IsChoosing m F act

@@ -19,7 +19,7 @@ pub mod EqualWeights
 pub mod ExactArithmetic
 pub mod ExactHistorySizes
 pub mod ExactModeSizes
-pub mod ExactPushes
+pub mod ExactWeightUpdates
 pub mod ExactSizes
 pub mod ExactValueSizes
 pub mod FittingTrees

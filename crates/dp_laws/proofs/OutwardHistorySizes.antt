@@ -8,7 +8,7 @@ use Rattle.dp_laws.proofs.ActingHistories.{class_weights, front_acting, history_
 use Rattle.dp_laws.proofs.OneStep.{trees_after_fit, root_joint_action_below}
 use Rattle.dp_laws.proofs.OrderedSpans.{classes_total, total_size, weight_ordered}
 use Rattle.dp_laws.proofs.OutwardLookSizes.{looks_room}
-use Rattle.dp_laws.proofs.OutwardModeSizes.{limit_room, next_weights, outward_can_push, reward_room, state_squares}
+use Rattle.dp_laws.proofs.OutwardModeSizes.{limit_room, next_weights, outward_can_update_weights, reward_room, state_squares}
 use Rattle.dp_laws.proofs.OutwardSizes.{next_total, start_total}
 use Rattle.dp_laws.proofs.SizeSums.{action_look_le, agreeing_below}
 use Rattle.dp_spec.specs.Arithmetic.{outward}
@@ -93,7 +93,7 @@ module _ (m : Model) (is : IsModel m) (h : ℕ) (horizon : h ≤ 24) (k : ℕ) (
       → IsJointHistory (joint_observations m) t H
       → AreWeights false m t (history_weight_in (outward m.scales) m act H)
   unfolding outward
-  weights_of act t H le acts hist = history_weights (outward m.scales) (outward_calls m.scales) m h (outward_can_push m is h horizon) act t H le acts hist
+  weights_of act t H le acts hist = history_weights (outward m.scales) (outward_calls m.scales) m h (outward_can_update_weights m is h horizon) act t H le acts hist
 
   -- what is earned by the time
   earned_room : (act : List ℕ → ℕ) (f : ℕ) → f ≤ h → f ≤ suc k → IsActing m f act
@@ -167,7 +167,7 @@ module _ (m : Model) (is : IsModel m) (h : ℕ) (horizon : h ≤ 24) (k : ℕ) (
   weights_of_class : (F : Front) (C : ℕ) → IsFront m h F → F.stage < h → F.stage ≤ k
       → AreWeights false m F.stage (class_weight_in (outward m.scales) m F C)
   unfolding outward
-  weights_of_class F C front lt few = class_weights (outward m.scales) (outward_calls m.scales) m h (outward_can_push m is h horizon) F C front lt (class_limit F C front lt few)
+  weights_of_class F C front lt few = class_weights (outward m.scales) (outward_calls m.scales) m h (outward_can_update_weights m is h horizon) F C front lt (class_limit F C front lt few)
 
   -- all weights of a time fit
   weights_fit : (act : List ℕ → ℕ) (t : ℕ) → t ≤ h → t ≤ suc k → IsActing m t act

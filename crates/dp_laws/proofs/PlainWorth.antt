@@ -158,10 +158,10 @@ module _ (m : Model) (h : ℕ) (p : SharedPolicy) (are : AreRowsOfAgents h m.act
     rows_as_histories (suc t) lt v =
         let O = joint_observations m in
         let W = row_weight_in A m p in
-        let push = λ (j : ℕ) (w : ℕ → Span). span_sum O (λ o. v (next_joint_row m p t j o) (weights_after_in A m w (joint_row_action m p t j) o)) in
+        let update = λ (j : ℕ) (w : ℕ → Span). span_sum O (λ o. v (next_joint_row m p t j o) (weights_after_in A m w (joint_row_action m p t j) o)) in
         span_sum_over_pairs t lt (λ j. v j (W (suc t) j))
-        ∙ span_sum_ext (joint_row_count p t) _ (λ j. push j (W t j)) (λ j hj. span_sum_ext O _ _ (λ o ho. ap (v (next_joint_row m p t j o)) (next_weight t j o lt hj ho)))
-        ∙ rows_as_histories t (omega arith) push
+        ∙ span_sum_ext (joint_row_count p t) _ (λ j. update j (W t j)) (λ j hj. span_sum_ext O _ _ (λ o ho. ap (v (next_joint_row m p t j o)) (next_weight t j o lt hj ho)))
+        ∙ rows_as_histories t (omega arith) update
         ∙ span_history_sum_ext O t _ _ (λ H is.
         let n = history_length O t H is in
         let acts = row_of_acts t H (omega arith) is in

@@ -1,4 +1,4 @@
--- The recursion that pushes weights forwards along the trees gives the forward worth, in any arithmetic.
+-- The recursion that updates weights along the trees gives the forward worth, in any arithmetic.
 use Rattle.std.proofs.Common.{◌≡◌, ℕ, zero, suc, ◌+◌, List, ◌∷◌, sym, ap, ◌∙◌, arith}
 use Rattle.dp_spec.specs.declared.span.Span.{Span}
 use Rattle.dp_laws.proofs.SpanSums.{span_add_assoc, span_add_none, span_history_sum_add, span_history_sum_zero, span_none_add}

@@ -128,12 +128,12 @@ module _ (m : Model) (h : ℕ) (p : SharedPolicy) (are : AreRowsOfAgents h m.act
   rows_reward f r = int_sum (joint_row_count p f) (λ j. weighted_reward m r (row_weight m p f j) (joint_row_action m p f j))
 
   -- the weights one step on
-  abbrev row_push : ℕ → ℕ → ℕ → ℕ → ℕ
-  row_push f j o s = weights_after m (row_weight m p f j) (joint_row_action m p f j) o s
+  abbrev row_update : ℕ → ℕ → ℕ → ℕ → ℕ
+  row_update f j o s = weights_after m (row_weight m p f j) (joint_row_action m p f j) o s
 
   -- one step from the joint rows of a stage
   rows_step : (f r : ℕ) → rows_left f (suc r)
-      ≡ rows_reward f r +ℤ int_sum (joint_row_count p f) (λ j. int_sum (joint_observations m) (λ o. int_sum m.states (λ s. pos (row_push f j o s) *ℤ backward_value m r s (trees_after m (trees_at_row f j) o))))
+      ≡ rows_reward f r +ℤ int_sum (joint_row_count p f) (λ j. int_sum (joint_observations m) (λ o. int_sum m.states (λ s. pos (row_update f j o s) *ℤ backward_value m r s (trees_after m (trees_at_row f j) o))))
   rows_step f r =
       int_sum_ext (joint_row_count p f) _ _ (λ j hj.
       one_step m r (row_weight m p f j) (trees_at_row f j)
@@ -146,15 +146,15 @@ module _ (m : Model) (h : ℕ) (p : SharedPolicy) (are : AreRowsOfAgents h m.act
       rows_step f r
       ∙ ap (λ x. rows_reward f r +ℤ x)
       (int_sum_ext (joint_row_count p f) _ _ (λ j hj. int_sum_ext (joint_observations m) _ _ (λ o ho.
-      ap (λ (qs : List PolicyTree). int_sum m.states (λ s. pos (row_push f j o s) *ℤ backward_value m r s qs)) (trees_after_row f j o step hj ho)))
-      ∙ sym (sum_by_target (joint_row_count p (suc f)) (joint_row_count p f) (joint_observations m) m.states (next_joint_row m p f) (row_push f) (λ J s. backward_value m r s (trees_at_row (suc f) J)) (λ i o hi ho. next_below f i o step hi ho)))
+      ap (λ (qs : List PolicyTree). int_sum m.states (λ s. pos (row_update f j o s) *ℤ backward_value m r s qs)) (trees_after_row f j o step hj ho)))
+      ∙ sym (sum_by_target (joint_row_count p (suc f)) (joint_row_count p f) (joint_observations m) m.states (next_joint_row m p f) (row_update f) (λ J s. backward_value m r s (trees_at_row (suc f) J)) (λ i o hi ho. next_below f i o step hi ho)))
 
   -- at the last stage nothing is left after it
   rows_end : (f : ℕ) → rows_left f 1 ≡ rows_reward f 0
   rows_end f =
       rows_step f 0
       ∙ ap (λ x. rows_reward f 0 +ℤ x)
-      (ext_two (joint_row_count p f) (joint_observations m) _ (λ j o. pos 0) (λ j o hj ho. weighted_zeros m.states (row_push f j o))
+      (ext_two (joint_row_count p f) (joint_observations m) _ (λ j o. pos 0) (λ j o hj ho. weighted_zeros m.states (row_update f j o))
       ∙ int_sum_ext (joint_row_count p f) _ (λ j. pos 0) (λ j hj. int_sum_zero (joint_observations m)) ∙ int_sum_zero (joint_row_count p f))
       ∙ omega (arith, ints)
 

@@ -7,7 +7,7 @@ use Rattle.std.proofs.lemmas.Bool.Decides.{Decides-and, Decides-eqb, Decides-or,
 use Rattle.std.proofs.Math.Nat.{mul-le-mul_left, pow-le-pow_right}
 use Rattle.dp_spec.specs.Front.{Front, class_counts}
 use Rattle.dp_spec.specs.JointNumbers.{product}
-use Rattle.dp_spec.specs.Mode.{IsTrueFit, IsWithin, IsWithinVersion, is_exact_mode, unit_of}
+use Rattle.dp_spec.specs.Mode.{IsTrueFit, IsWithinLimits, IsWithinVersion, is_exact_mode, unit_of}
 use Rattle.dp_spec.specs.Model.{IsModel, Model, joint_actions, joint_observations}
 use Rattle.dp_spec.specs.WellFormed.{IsFront}
 use Rattle.dp_spec.specs.Wide.{has_room, is_room}
@@ -46,7 +46,7 @@ room_is_within m h F =
     Decides-or (eqb F.stage h) (is_room m (product (class_counts F.agents))) (Decides-eqb F.stage h) (room_decides m (product (class_counts F.agents)))
 
 -- within the limits of version 1 every front has room
-pub version_one_has_room : (m : Model) (h : ℕ) (F : Front) → IsModel m → IsWithin m h → IsFront m h F → has_room m h F ≡ true
+pub version_one_has_room : (m : Model) (h : ℕ) (F : Front) → IsModel m → IsWithinLimits m h → IsFront m h F → has_room m h F ≡ true
 version_one_has_room m h F is limits front =
     elim (cases_eq F.stage h) [
       | inl full ↦ (room_is_within m h F).1 (inl full)

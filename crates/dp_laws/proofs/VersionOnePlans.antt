@@ -17,7 +17,7 @@ use Rattle.dp_spec.specs.Certificate.{Certificate, arithmetic_for}
 use Rattle.dp_spec.specs.Fitting.{front_bound}
 use Rattle.dp_spec.specs.Front.{Front}
 use Rattle.dp_spec.specs.FullPolicy.{full_policy}
-use Rattle.dp_spec.specs.Mode.{IsWithin}
+use Rattle.dp_spec.specs.Mode.{IsWithinLimits}
 use Rattle.dp_spec.specs.Model.{IsModel, Model}
 use Rattle.dp_spec.specs.Promises.{IsPlanned, PlanOptions}
 use Rattle.dp_spec.specs.Qualities.{IfLeaf, IfOpenLeaf, IsClosed, IsRefined, Node, Place, certificate_nodes}
@@ -51,7 +51,7 @@ open_is_low s h wide lower (merge i a b k) refined narrow = tt
 -- ---- full leaves in exact mode
 
 -- in version 1 the low worth of the policy of a full front is its value
-full_worth_is_value : (m : Model) (h : ℕ) (F : Front) → IsModel m → IsWithin m h → IsFront m h F → F.stage ≡ h
+full_worth_is_value : (m : Model) (h : ℕ) (F : Front) → IsModel m → IsWithinLimits m h → IsFront m h F → F.stage ≡ h
     → low_worth (exact m.scales) m 1 h (full_policy m F) ≡ policy_value m h (full_policy m F)
 unfolding low_worth form_in
 full_worth_is_value m h F is limits front e =
@@ -59,7 +59,7 @@ full_worth_is_value m h F is limits front e =
     ap (λ (s : Span). s.low) (plain_form_worth (exact m.scales) m h (full_policy m F) is limits.some_step limits.stage_cells policy ∙ (exact_quantities m is).worths h (full_policy m F))
 
 -- a full leaf that states no more than its front's bound is low
-full_is_low : (m : Model) (e : Bool) (h look : ℕ) (F : Front) (lower x : ℤ) → e ≡ true → IsModel m → IsWithin m h → IsFront m h F
+full_is_low : (m : Model) (e : Bool) (h look : ℕ) (F : Front) (lower x : ℤ) → e ≡ true → IsModel m → IsWithinLimits m h → IsFront m h F
     → F.stage ≡ h → low_worth (arithmetic e m.scales) m 1 h (full_policy m F) ≤ℤ lower
     → x ≤ℤ front_bound (arithmetic e m.scales) m h look F → x ≤ℤ lower
 full_is_low m true h look F lower x yes' is limits front full low le =
@@ -69,7 +69,7 @@ full_is_low m false h look F lower x no' is limits front full low le = cc
 -- ---- plans
 
 module _ (m : Model) (May : List Place → ℕ → Type 0) (h : ℕ) (asked : PlanOptions) (c : Certificate) (is : IsModel m) (plan : IsPlanned m May h asked c) (one : c.version ≡ 1) where
-  limits : IsWithin m c.horizon
+  limits : IsWithinLimits m c.horizon
   limits = plan.valid.within.first one
 
   -- no node is wide

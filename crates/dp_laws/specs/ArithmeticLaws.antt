@@ -80,7 +80,7 @@ abbrev pub ArithmeticEnclosesTheNumbers : Type 0
 ArithmeticEnclosesTheNumbers =
     (m : Model) → IsModel m → (e : Bool) → EnclosesQuantities m (arithmetic e m.scales) (enclosure e)
 
--- ---- the recursion that pushes weights forwards along the trees
+-- ---- the recursion that updates weights along the trees
 
 -- it gives the forward worth, in any arithmetic
 abbrev pub RecursionGivesForwardWorth : Type 0

@@ -2,7 +2,7 @@
 -- apart, and within the limits of version 1 no node is wide.
 use Rattle.std.specs.Prelude.{◌≡◌, ◌↔◌, ℕ, suc, ◌*◌, ◌^◌, ◌<◌, ◌≤◌, true, false, All}
 use Rattle.dp_spec.specs.Model.{IsModel, Model, joint_observations}
-use Rattle.dp_spec.specs.Mode.{IsWithin}
+use Rattle.dp_spec.specs.Mode.{IsWithinLimits}
 use Rattle.dp_spec.specs.Arithmetic.{Arithmetic}
 use Rattle.dp_spec.specs.BoundTree.{BoundTree}
 use Rattle.dp_spec.specs.Certificate.{FitsRoot}
@@ -86,6 +86,6 @@ NodesKeepApartWithoutMerges =
 -- within the limits of version 1 no node is wide
 abbrev pub NoNodeIsWideInVersionOne : Type 0
 NoNodeIsWideInVersionOne =
-    (A : Arithmetic) (m : Model) (h look : ℕ) (T : BoundTree) → IsModel m → IsWithin m h → FitsRoot A m h look T →
+    (A : Arithmetic) (m : Model) (h look : ℕ) (T : BoundTree) → IsModel m → IsWithinLimits m h → FitsRoot A m h look T →
     All (λ n. is_wide m h n.above n.front ≡ false)
     (nodes_of A m h look 0 T (root_front m) (front_bound A m h look (root_front m)))

@@ -7,7 +7,7 @@ use Rattle.dp_spec.specs.JointHistory.{IsJointHistory}
 use Rattle.dp_spec.specs.Mode.{is_exact_mode}
 use Rattle.dp_spec.specs.Model.{IsModel, Model, joint_observations}
 use Rattle.dp_spec.specs.Quantities.{history_weight_in}
-use Rattle.dp_spec.specs.Sizes.{AreWeights, CanPush, CanReward}
+use Rattle.dp_spec.specs.Sizes.{AreWeights, CanUpdateWeights, CanReward}
 use Rattle.dp_spec.specs.SizesOfEarnings.{CanEvaluate, IsActing}
 use Rattle.dp_spec.specs.SizesOfFronts.{CanRefine}
 use Rattle.dp_spec.specs.SizesOfLookAhead.{CanLookAhead}
@@ -18,10 +18,10 @@ use Rattle.dp_spec.specs.WellFormed.{IsFront}
 -- ---- from any weights within the sum bound, up to a horizon of 24
 
 -- the weights of the next time are computed by allowed calls
-abbrev pub ModeAllowsPushes : Type 0
-ModeAllowsPushes =
+abbrev pub ModeAllowsWeightUpdates : Type 0
+ModeAllowsWeightUpdates =
     (m : Model) → IsModel m → (h : ℕ) → 0 < h → h ≤ 24 → (e : Bool) → e ≡ is_exact_mode m h →
-    CanPush (arithmetic e m.scales) (calls_in e m.scales) m h
+    CanUpdateWeights (arithmetic e m.scales) (calls_in e m.scales) m h
 
 -- the reward of a joint action is computed by allowed calls
 abbrev pub ModeAllowsRewards : Type 0

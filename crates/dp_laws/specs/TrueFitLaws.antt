@@ -2,7 +2,7 @@
 use Rattle.std.specs.Prelude.{◌≡◌, ◌↔◌, ◌⊎◌, ℕ, ◌*◌, ◌^◌, ◌≤◌, true, pos}
 use Rattle.dp_spec.specs.Front.{Front, class_counts}
 use Rattle.dp_spec.specs.JointNumbers.{product}
-use Rattle.dp_spec.specs.Mode.{IsTrueFit, IsWithin, IsWithinVersion, is_exact_mode, unit_of}
+use Rattle.dp_spec.specs.Mode.{IsTrueFit, IsWithinLimits, IsWithinVersion, is_exact_mode, unit_of}
 use Rattle.dp_spec.specs.Model.{IsModel, Model, joint_actions}
 use Rattle.dp_spec.specs.Wide.{has_room}
 use Rattle.dp_spec.specs.WellFormed.{IsFront}
@@ -14,7 +14,7 @@ HorizonsHaveATrueFit =
 
 -- within the limits of version 1 every front has room
 abbrev pub FrontsOfVersionOneHaveRoom : Type 0
-FrontsOfVersionOneHaveRoom = (m : Model) (h : ℕ) (F : Front) → IsModel m → IsWithin m h → IsFront m h F → has_room m h F ≡ true
+FrontsOfVersionOneHaveRoom = (m : Model) (h : ℕ) (F : Front) → IsModel m → IsWithinLimits m h → IsFront m h F → has_room m h F ≡ true
 
 -- a front has room where it is full, or the cells of its joint classes are within their limits
 abbrev pub RoomIsWithinLimits : Type 0

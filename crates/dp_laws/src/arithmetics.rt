@@ -43,7 +43,7 @@ pub fn arithmetic_encloses_the_numbers()
     ensures { ArithmeticEnclosesTheNumbers }
 {}
 
-/// In any arithmetic the recursion that pushes weights forwards along the trees gives the
+/// In any arithmetic the recursion that updates weights along the trees gives the
 /// forward worth.
 #[tactic(auto, using(crate::proofs::Recursion::recursive_worth_is_forward))]
 pub fn recursion_gives_forward_worth()

@@ -1,11 +1,11 @@
-ghost use Rattle.dp_laws.specs.SizeLaws.{ModeAllowsPushes, ModeAllowsRewards, ModeAllowsTable};
+ghost use Rattle.dp_laws.specs.SizeLaws.{ModeAllowsWeightUpdates, ModeAllowsRewards, ModeAllowsTable};
 ghost use Rattle.dp_laws.specs.SizeLaws.{ModeAllowsLookAhead, HistoryWeightsAreWithinBound};
 ghost use Rattle.dp_laws.specs.SizeLaws.{ModeAllowsWorth, ModeAllowsSharedWorth, ModeAllowsRefining};
 
 /// In either mode the weights of the start, and from weights within the sum bound those of the
 /// next time, are computed by allowed calls and stay within 127 bits with a sign.
-pub fn mode_allows_pushes()
-    ensures { ModeAllowsPushes }
+pub fn mode_allows_weight_updates()
+    ensures { ModeAllowsWeightUpdates }
 {}
 
 /// In either mode the reward of a joint action, from weights within the sum bound, is computed by

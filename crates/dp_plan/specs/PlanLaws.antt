@@ -1,7 +1,7 @@
 -- What holds of the certificate of the best constant policy, and the limits of a horizon of one step.
 use Rattle.std.specs.Prelude.{◌≡◌, ◌≤◌, ℕ, true}
 use Rattle.dp_spec.specs.Model.{Model, IsModel}
-use Rattle.dp_spec.specs.Mode.{IsWithin, is_exact_mode}
+use Rattle.dp_spec.specs.Mode.{IsWithinLimits, is_exact_mode}
 use Rattle.dp_spec.specs.Certificate.{IsValid}
 use Rattle.dp_spec.specs.CertificateText.{certificate_text, IsCertificateText}
 use Rattle.dp_spec.specs.Claims.{ClaimsHold}
@@ -28,4 +28,4 @@ BestConstantCertificateHasText =
 
 -- every model keeps the limits of a horizon of one step
 abbrev pub OneStepIsWithin : Type 0
-OneStepIsWithin = (m : Model) → IsModel m → IsWithin m 1
+OneStepIsWithin = (m : Model) → IsModel m → IsWithinLimits m 1

@@ -20,7 +20,7 @@ pub fn best_constant_text(alloc: Global, model: &Model, look: u32) -> Result<Vec
     requires exact { is_exact_mode model.now.model 1 ≡ true }
     ensures { IfOk result (λ text. IsBestConstantText model.now.model look text.items) }
 {
-    model.kept();
+    model.invariant();
     let best = best_constant(model);
     let mut text = Vec::new(alloc);
     push_head(&mut text, look, unit(model), best.value)?;
@@ -34,7 +34,7 @@ fn unit(model: &Model) -> u128
     requires exact { is_exact_mode model.now.model 1 ≡ true }
     ensures { result ≡ value_scale model.now.model 1 }
 {
-    model.kept();
+    model.invariant();
     let scales = model.scales();
     let step = u128::from(scales.trans) * u128::from(scales.obs) * u128::from(scales.discount);
     u128::from(scales.start) * (u128::from(scales.reward) * step)

@@ -23,7 +23,7 @@ own_history_count [] h = 0
 own_history_count (n ∷ ns) h = nat_sum h (λ t. n ^ t) + own_history_count ns h
 
 -- the horizon is at least 1 and keeps every limit of policies with a row for each own history
-pub record IsWithin (m : Model) (h : ℕ) : Type 0 where
+pub record IsWithinLimits (m : Model) (h : ℕ) : Type 0 where
   pub some_step : 0 < h
   pub horizon : h ≤ 16
   pub own_histories : own_history_count m.observations h ≤ 2048
@@ -34,7 +34,7 @@ pub record IsWithin (m : Model) (h : ℕ) : Type 0 where
 -- from 1 to 24 steps.
 pub record IsWithinVersion (m : Model) (h version : ℕ) : Type 0 where
   pub known : (version ≡ 1) ⊎ (version ≡ 2)
-  pub first : version ≡ 1 → IsWithin m h
+  pub first : version ≡ 1 → IsWithinLimits m h
   pub second : version ≡ 2 → (0 < h) × (h ≤ 24)
 
 -- A true fit: so many steps, a mode and a unit as they are for a model, at any horizon from 1 to 24.

@@ -4,7 +4,7 @@ use Rattle.std.proofs.Math.Nat.{le-mul_of_pos_right, mul-le-mul_left, mul-le-mul
 use Rattle.dp_spec.specs.declared.span.Span.{Span}
 use Rattle.dp_spec.specs.declared.scales.Scales.{Scales}
 use Rattle.dp_laws.proofs.ExactHistorySizes.{start_total}
-use Rattle.dp_laws.proofs.ExactSizes.{chance_size, later_size, next_parts, pushed_total}
+use Rattle.dp_laws.proofs.ExactSizes.{chance_size, later_size, next_parts, updated_total}
 use Rattle.dp_spec.proofs.ModeCondition.{exact_condition, reward_most, reward_most_some, step_scale_some}
 use Rattle.dp_laws.proofs.OrderedSpans.{IsOrdered, sum_ordered, sum_point, times_ordered, total_size, weight_ordered}
 use Rattle.dp_base.proofs.Ring.{zle_of, zle_pos}
@@ -14,7 +14,7 @@ use Rattle.dp_spec.specs.Calls.{IsPoint, exact_calls, size}
 use Rattle.dp_spec.specs.Mode.{is_exact_mode}
 use Rattle.dp_spec.specs.Model.{IsModel, Model, joint_actions, joint_observations, obs_at, start_at, step_scale, trans_at}
 use Rattle.dp_spec.specs.Quantities.{weights_after_in}
-use Rattle.dp_spec.specs.Sizes.{AreWeights, CanPush, IsStep}
+use Rattle.dp_spec.specs.Sizes.{AreWeights, CanUpdateWeights, IsStep}
 use Rattle.dp_base.specs.Sums.{nat_sum}
 use Rattle.dp_base.proofs.NaturalSumLaws.{nat_sum_at}
 
@@ -84,7 +84,7 @@ module _ (m : Model) (is : IsModel m) (h : ℕ) (some : 0 < h) (mode : true ≡ 
       → size (ws s) ≤ m.scales.start * step_scale m ^ t
   weight_le t s ws are ps = let one = nat_sum_at m.states (λ s. size (ws s)) s ps in let all = are.limit in omega arith
 
-  -- ---- pushes
+  -- ---- updates of weights
   may_chance : (t : ℕ) (ws : ℕ → Span) (a s u o : ℕ) → t < h → AreWeights true m t ws → IsStep m a s u o
       → (exact_calls m.scales).Chance (ws s) (trans_at m a s u) (obs_at m a u o)
   may_chance t ws a s u o lt are st =
@@ -137,20 +137,20 @@ module _ (m : Model) (is : IsModel m) (h : ℕ) (some : 0 < h) (mode : true ≡ 
     order = λ u p. (next_ordered t ws a o u are).order;
     points = λ e u p. next_point t ws a o u are;
     limit =
-        let all = pushed_total m is ws a pa in
+        let all = updated_total m is ws a pa in
         let one = nat_sum_at (joint_observations m) (λ o. total_size m (weights_after_in (exact m.scales) m ws a o)) o po in
         let grown = mul-le-mul_right (step_scale m) are.limit in
         let e = scale_of_next m t in omega arith;
   }
 
-  -- in exact mode pushes are allowed
-  pub exact_can_push : CanPush (exact m.scales) (exact_calls m.scales) m h
+  -- in exact mode weights can be updated
+  pub exact_can_update_weights : CanUpdateWeights (exact m.scales) (exact_calls m.scales) m h
   unfolding exact
-  exact_can_push = record {
+  exact_can_update_weights = record {
     start = λ s p. tt;
     started = started_weights;
     chance = may_chance;
     later = may_later;
     add = may_add;
-    pushed = λ t ws a o lt are pa po. next_weights t ws a o are pa po;
+    updated = λ t ws a o lt are pa po. next_weights t ws a o are pa po;
   }

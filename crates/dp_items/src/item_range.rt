@@ -2,9 +2,9 @@
 ghost use Rattle.std.specs.Prelude.{◌≡◌, ◌^◌, ◌≤◌, length, IfOk};
 ghost use Rattle.dp_meaning.specs.Items as spec;
 ghost use Rattle.dp_items.specs.Lines.{AreOneRun};
-ghost use Rattle.dp_items.specs.ItemSpans.{AreItemsOf};
+ghost use Rattle.dp_items.specs.ItemRanges.{AreItemsOf};
 
-use crate::line::LineSpan;
+use crate::line::LineRange;
 use crate::pieces::Pieces;
 use dp_base::Memory;
 use dp_lexer::Kind;
@@ -13,7 +13,7 @@ use std::alloc::Global;
 /// The lines of an item: its first, and those behind it, before `lines_past`. Its pieces end before
 /// the piece at `past`, and the next item begins at the offset `next`.
 #[derive(Clone, Copy)]
-pub(crate) struct ItemSpan {
+pub(crate) struct ItemRange {
     pub line: usize,
     pub lines_past: usize,
     pub past: usize,
@@ -22,9 +22,9 @@ pub(crate) struct ItemSpan {
 
 /// How many lines stand before the first item, and the items.
 #[derive(Drop)]
-pub(crate) struct ItemSpans {
+pub(crate) struct ItemRanges {
     pub before: usize,
-    pub items: Vec<ItemSpan>,
+    pub items: Vec<ItemRange>,
 }
 
 /// Whether an item begins at a line of these pieces.
@@ -42,11 +42,11 @@ pub(crate) fn items_of(
     alloc: Global,
     end: u32,
     pieces: &Pieces,
-    lines: &[LineSpan],
-) -> Result<ItemSpans, Memory>
+    lines: &[LineRange],
+) -> Result<ItemRanges, Memory>
     requires end { end ≤ 2 ^ 26 }
     requires one_run { AreOneRun 0 lines.now (length pieces.now) }
-    ensures { IfOk result (λ spans. AreItemsOf end pieces.now lines.now spans) }
+    ensures { IfOk result (λ ranges. AreItemsOf end pieces.now lines.now ranges) }
 {
     let mut items = Vec::new(alloc);
     let mut at = lines.len();
@@ -58,7 +58,7 @@ pub(crate) fn items_of(
         let line = lines[at];
         let own = pieces.between(line.first, line.past);
         if begins_item(&own) {
-            items.push(ItemSpan {
+            items.push(ItemRange {
                 line: at,
                 lines_past: before,
                 past,
@@ -70,5 +70,5 @@ pub(crate) fn items_of(
         }
     }
     items.reverse();
-    Ok(ItemSpans { before, items })
+    Ok(ItemRanges { before, items })
 }

@@ -1,4 +1,4 @@
-//! The pieces of a text: runs, comments, and single bytes.
+//! What begins at a byte: a run, a comment, or a single byte.
 ghost use Rattle.std.specs.Prelude.{◌≡◌, ◌+◌, ◌^◌, ◌≤◌, length};
 ghost use Rattle.std.specs.List.{prefix_len};
 ghost use Rattle.dp_base.specs.Bytes as num;

@@ -1,11 +1,11 @@
--- One piece of a text: what begins at an offset, and where it ends.
+-- One lexeme of a text: what begins at an offset, and where it ends.
 use Rattle.std.proofs.Common.{◌≡◌, ℕ, zero, suc, ◌+◌, ◌≤◌, ◌<◌, List, [], ◌∷◌, length, get_or, take, drop, Result, Err, refl, sym, ap, ◌∙◌, arith, add-zero, add-one, drop-cons}
 use Rattle.std.proofs.lemmas.List.{drop-drop, length-drop}
 use Rattle.std.proofs.lemmas.List.Sums.{prefix_len-le-length}
 use Rattle.dp_base.specs.Bytes.{is_name_byte}
 use Rattle.dp_lexer.specs.declared.Token.{Token}
-use Rattle.dp_lexer.specs.declared.pieces.Class.{Class}
-use Rattle.dp_lexer.specs.declared.pieces.Class.TheVariants.{Blank, Comment, LineFeed, Run, Mark, Bad}
+use Rattle.dp_lexer.specs.declared.classes.Class.{Class}
+use Rattle.dp_lexer.specs.declared.classes.Class.TheVariants.{Blank, Comment, LineFeed, Run, Mark, Bad}
 use Rattle.dp_lexer.specs.Bytes.{is_no_line_feed}
 use Rattle.dp_lexer.specs.Tokens.{class_of, more_of, kind_of, with_token, unless_bad, tokens_from}
 
@@ -33,7 +33,7 @@ not_bad LineFeed at others good = refl
 not_bad Run at others good = refl
 not_bad (Mark kind) at others good = refl
 
--- a piece ends within the text
+-- a lexeme ends within the text
 more_of-le-length : (class : Class) (rest : List ℕ) → more_of class rest ≤ length rest
 more_of-le-length Run rest = prefix_len-le-length is_name_byte rest
 more_of-le-length Comment rest = prefix_len-le-length is_no_line_feed rest
@@ -53,15 +53,15 @@ module _ (text : List ℕ) (at : ℕ) (inside : at < length text) where
   stops bad = ap (tokens_from text 0 at) cut ∙ rw bad refl
 
   module _ (class : Class) (class_is : class ≡ class_of (get_or text at 0)) where
-    -- how many bytes the piece has
+    -- how many bytes the lexeme has
     abbrev pub len : ℕ
     len = suc (more_of class (drop (at + 1) text))
 
-    -- the piece ends within the text
+    -- the lexeme ends within the text
     pub fits : at + len ≤ length text
     fits = omega (arith, more_of-le-length class (drop (at + 1) text), length-drop (at + 1) text)
 
-    -- the tokens from here on are those behind the piece, and its own where it is one
+    -- the tokens from here on are those behind the lexeme, and its own where it is one
     pub moves : (class ≡ Bad → ⊥)
         → tokens_at text at
         ≡ with_token text at len (kind_of class (take len (drop at text))) (tokens_at text (at + len))

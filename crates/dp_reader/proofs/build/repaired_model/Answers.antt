@@ -1,5 +1,5 @@
 use Rattle.dp_reader.proofs.ReadingLemmas.{can_build, rows_built}
-use Rattle.dp_reader.proofs.build.model_of.Goals as goal
+use Rattle.dp_reader.proofs.build.repaired_model.Goals as goal
 
 pub build-requires-clause-names : goal.build-requires-clause-names
 build-requires-clause-names c =

@@ -1,10 +1,10 @@
 use Rattle.std.proofs.Common.{◌<◌, ◌-◌, length, sym, ap, ◌∙◌, arith}
 use Rattle.dp_meaning.specs.Items.{begins_item, first_at}
-use Rattle.dp_items.specs.ItemSpans.{no_line}
+use Rattle.dp_items.specs.ItemRanges.{no_line}
 use Rattle.dp_items.proofs.ItemLemmas.{run_at}
-use Rattle.dp_items.proofs.ItemSpanLemmas.{at_start, one_back, begins, goes_on}
-use Rattle.dp_items.proofs.item_span.items_of.Goals as goal
-use Rattle.dp_items.proofs.item_span.items_of.Goals.{After-begins_item}
+use Rattle.dp_items.proofs.ItemRangeLemmas.{at_start, one_back, begins, goes_on}
+use Rattle.dp_items.proofs.item_range.items_of.Goals as goal
+use Rattle.dp_items.proofs.item_range.items_of.Goals.{After-begins_item}
 
 inside : (c : After-begins_item) → c.loop-at.at - 1 < length c.args.lines.now
 inside c =

@@ -1,14 +1,12 @@
 ghost use Rattle.std.specs.Prelude.{◌≡◌};
 
-use std::marker::Model;
-
 /// A list that does not grow. Contracts see it as the list of its items.
 #[derive(Drop)]
-pub struct Items<T: Drop> {
+pub struct Sequence<T: Drop> {
     items: Vec<T>,
 }
 
-impl<T: Drop> Model for Items<T> {
+impl<T: Drop> std::marker::Model for Sequence<T> {
     ghost use Rattle.std.specs.Prelude.{List};
 
     ghost Value = { List T };
@@ -16,12 +14,12 @@ impl<T: Drop> Model for Items<T> {
     ghost view = { λ l. l.items.items };
 }
 
-impl<T: Drop> Items<T> {
+impl<T: Drop> Sequence<T> {
     /// The list of these items, in their order. It takes no memory.
-    pub fn of(items: Vec<T>) -> Items<T>
+    pub fn of(items: Vec<T>) -> Sequence<T>
         ensures { result ≡ items.items }
     {
-        Items { items }
+        Sequence { items }
     }
 
     /// The items, in their order.
