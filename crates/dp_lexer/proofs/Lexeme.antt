@@ -4,8 +4,8 @@ use Rattle.std.proofs.lemmas.List.{drop-drop, length-drop}
 use Rattle.std.proofs.lemmas.List.Sums.{prefix_len-le-length}
 use Rattle.dp_base.specs.Bytes.{is_name_byte}
 use Rattle.dp_lexer.specs.declared.Token.{Token}
-use Rattle.dp_lexer.specs.declared.classes.Class.{Class}
-use Rattle.dp_lexer.specs.declared.classes.Class.TheVariants.{Blank, Comment, LineFeed, Run, Mark, Bad}
+use Rattle.dp_lexer.specs.declared.lexemes.Class.{Class}
+use Rattle.dp_lexer.specs.declared.lexemes.Class.TheVariants.{Blank, Comment, LineFeed, Run, Mark, Bad}
 use Rattle.dp_lexer.specs.Bytes.{is_no_line_feed}
 use Rattle.dp_lexer.specs.Tokens.{class_of, more_of, kind_of, with_token, unless_bad, tokens_from}
 

@@ -9,8 +9,8 @@ use Rattle.std.proofs.lemmas.List.Sums.{sum_by-append, sum_by-cons}
 use Rattle.dp_base.specs.Bytes.{is_name_byte}
 use Rattle.dp_lexer.specs.declared.Kind.{Kind}
 use Rattle.dp_lexer.specs.declared.Token.{Token}
-use Rattle.dp_lexer.specs.declared.classes.Class.{Class}
-use Rattle.dp_lexer.specs.declared.classes.Class.TheVariants.{Blank, Comment, LineFeed, Run, Mark, Bad}
+use Rattle.dp_lexer.specs.declared.lexemes.Class.{Class}
+use Rattle.dp_lexer.specs.declared.lexemes.Class.TheVariants.{Blank, Comment, LineFeed, Run, Mark, Bad}
 use Rattle.dp_lexer.specs.Bytes.{line_feed, is_line_feed, is_no_line_feed, line_at}
 use Rattle.dp_lexer.specs.Tokens.{class_of, more_of, kind_of, with_token, tokens_from, tokens_of}
 use Rattle.dp_lexer.proofs.Classes.{run, blank, line_end, comment, colon_mark, star_mark, unknown, byte_of, differs}

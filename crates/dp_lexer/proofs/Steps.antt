@@ -10,8 +10,8 @@ use Rattle.dp_base.specs.DecimalShape.{is_decimal}
 use Rattle.dp_base.specs.Names.{is_word}
 use Rattle.dp_lexer.specs.declared.Kind.{Kind}
 use Rattle.dp_lexer.specs.declared.Kind.TheVariants.{Word, Number, Colon, Star, LineEnd}
-use Rattle.dp_lexer.specs.declared.classes.Class.{Class}
-use Rattle.dp_lexer.specs.declared.classes.Class.TheVariants.{Blank, Comment, LineFeed, Run, Mark, Bad}
+use Rattle.dp_lexer.specs.declared.lexemes.Class.{Class}
+use Rattle.dp_lexer.specs.declared.lexemes.Class.TheVariants.{Blank, Comment, LineFeed, Run, Mark, Bad}
 use Rattle.dp_lexer.specs.Bytes.{line_feed, hash, colon, star, is_line_feed, is_no_line_feed, is_in_alphabet}
 use Rattle.dp_lexer.specs.Comments.{is_in_comment, is_bad}
 use Rattle.dp_lexer.specs.Tokens.{class_of, more_of, kind_of, with_token}

@@ -5,11 +5,11 @@ ghost use Rattle.std.specs.Prelude.{◌≡◌, ◌^◌, ◌≤◌, length, Ok, I
 ghost use Rattle.dp_lexer.specs.TokenLaws.{AreTokensOf};
 ghost use Rattle.dp_lexer.specs.Tokens.{tokens_of, NamesFirstBadByte};
 
-mod classes;
+mod lexemes;
 mod laws;
 mod place;
 
-use crate::classes::{Class, class_of, kind_of, more_of};
+use crate::lexemes::{Class, class_of, kind_of, more_of};
 pub use crate::laws::{first_bad_byte_is_named, tokens_are_of_text};
 pub use crate::place::{column_at, line_at};
 use std::alloc::{AllocFailed, Global};
