@@ -1,11 +1,10 @@
 -- A call that is done was given all its files, and what its command claims is so.
-use Rattle.std.proofs.Common.{◌≡◌, ◌≢◌, ℕ, ◌+◌, List, [], ◌∷◌, ◌++◌, length, map, Option, Some, None, Result, Ok, Err, Vec, IfSome, ⊎_elim, refl, sym, ap, ◌∙◌, subst, length-append, append_assoc, append-nil}
+use Rattle.std.proofs.Common.{◌≡◌, ◌≢◌, ℕ, ◌+◌, List, [], ◌∷◌, ◌++◌, length, map, Option, Some, None, Ok, Vec, IfSome, ⊎_elim, refl, sym, ap, ◌∙◌, subst, length-append, append_assoc, append-nil}
 use Rattle.std.specs.declared.alloc.Global.{Global}
 use Rattle.dp_io.specs.declared.shelf.FetchFault.{FetchFault}
 use Rattle.dp_io.specs.declared.shelf.FetchFault.TheVariants as faults
 use Rattle.dp_io.specs.Shelf.{Contents, ShelfView, Fetches}
-use Rattle.dp_io.specs.Sink.{SinkView, Puts}
-use Rattle.dp_io.specs.declared.sink.SinkFailed.{SinkFailed}
+use Rattle.dp_io.specs.Sink.{SinkView}
 use Rattle.dp_io.proofs.FetchLemmas.{told_fetch}
 use Rattle.dp_words.specs.declared.job.Job.{Job}
 use Rattle.dp_cli.specs.declared.refusal.FileRole.{FileRole}
@@ -14,7 +13,6 @@ use Rattle.dp_cli.specs.declared.status.Status.TheVariants as statuses
 use Rattle.dp_cli.specs.Answer.{Answer}
 use Rattle.dp_cli.specs.Causes.{AreGiven, given_entry, Hold, IsCertified}
 use Rattle.dp_cli.specs.Command.{Command, File}
-use Rattle.dp_cli.specs.Put.{status_after}
 use Rattle.dp_cli.specs.Refusal.{most_bytes}
 use Rattle.dp_cli.specs.Run.{IsAnswerToFault, Answers, Runs}
 use Rattle.dp_cli.proofs.Causes.{after_entry, kept_put, kept_status}

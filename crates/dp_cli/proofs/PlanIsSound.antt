@@ -1,5 +1,5 @@
 -- The command `plan`: its text certifies for the model of its file, and it passes no limit on the bytes of a file.
-use Rattle.std.proofs.Common.{◌≡◌, ℕ, List, [], ◌∷◌, Option, Some, None, refl, sym, subst}
+use Rattle.std.proofs.Common.{ℕ, List, [], ◌∷◌, Option, Some, None, refl, sym, subst}
 use Rattle.dp_model.specs.declared.limit.TooLarge.{TooLarge}
 use Rattle.dp_model.specs.Horizons.{horizon_limits}
 use Rattle.dp_model.specs.Limits.{first_passed}

@@ -4,7 +4,6 @@ use Rattle.dp_model.specs.declared.limit.TooLarge.{TooLarge}
 use Rattle.dp_cli.specs.declared.refusal.JobFault.{JobFault}
 use Rattle.dp_cli.specs.declared.refusal.JobFault.TheVariants as job_faults
 use Rattle.dp_cli.specs.declared.refusal.Refusal.{Refusal}
-use Rattle.dp_cli.specs.declared.status.Status.{Status}
 use Rattle.dp_cli.specs.declared.status.Status.TheVariants as statuses
 use Rattle.dp_cli.specs.Answer.{Answer, IsAnswerOf}
 use Rattle.dp_cli.specs.Causes.{status_by}

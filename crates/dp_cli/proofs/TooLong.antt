@@ -1,5 +1,5 @@
 -- A limit on the bytes of a file is told only where the last fetch found that file too long.
-use Rattle.std.proofs.Common.{◌≡◌, ◌<◌, ℕ, List, [], Option, Some, None, Ok, ⊎_elim, refl, sym, ap, ◌∙◌, subst}
+use Rattle.std.proofs.Common.{◌≡◌, ◌<◌, [], Option, Some, None, Ok, ⊎_elim, refl, sym, ap, ◌∙◌, subst}
 use Rattle.dp_io.specs.Shelf.{ShelfView}
 use Rattle.dp_io.specs.Sink.{SinkView, Puts}
 use Rattle.dp_io.specs.declared.sink.SinkFailed.{SinkFailed}
@@ -7,7 +7,6 @@ use Rattle.dp_words.specs.declared.job.Job.{Job}
 use Rattle.dp_cli.specs.declared.refusal.FileRole.{FileRole}
 use Rattle.dp_cli.specs.declared.refusal.FileRole.TheVariants as roles
 use Rattle.dp_cli.specs.declared.refusal.JobFault.{JobFault}
-use Rattle.dp_cli.specs.declared.refusal.JobFault.TheVariants as job_faults
 use Rattle.dp_cli.specs.declared.refusal.Refusal.{Refusal}
 use Rattle.dp_cli.specs.declared.refusal.Refusal.TheVariants as refusals
 use Rattle.dp_cli.specs.declared.status.Status.{Status}

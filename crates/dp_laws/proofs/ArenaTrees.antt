@@ -214,7 +214,7 @@ module _ (ns : List ArenaNode) (k : ℕ) (x : ℤ) (s : Step) (xs : List ℤ) (l
   above_child : (j : ℕ) → j < length xs → above_at ns' (length ns + j) ≡ suc (above_at ns k)
   above_child j below = ap (λ (n : ArenaNode). n.above) (read.children j below)
 
-  pub arena_grows : 0 < length xs → above_at ns k < 2048 → IsArena ns → IsArena ns'
+  arena_grows : 0 < length xs → above_at ns k < 2048 → IsArena ns → IsArena ns'
   arena_grows some shallow arena =
       let next = grow_tree 0 arena.tree arena.at in
       let longer = read.longer in

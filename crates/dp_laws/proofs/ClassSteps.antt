@@ -86,7 +86,7 @@ module _ (m : Model) (is : IsModel m) (F : Front) where
       sym (int_point_where (eqb (joint_class m F H) C) (weighted_reward m r (W H) a))
       ∙ ap (λ (x : Span). cond (eqb (joint_class m F H) C) x (point (pos 0))) (sym (rewards_of_history H a r p)))
 
-  pub exact_steps : StepsByClass (exact m.scales) m F
+  exact_steps : StepsByClass (exact m.scales) m F
   exact_steps = record {
     weights = λ C a o t p. exact_weights C a o t;
     rewards = λ C a r p. exact_rewards C a r;

@@ -26,7 +26,7 @@ old_front L n Fs F xs j lt = let t : nat_lt j n ≡ true = grind (arith, nat_tes
 old_cap : (L : Labels) (n : ℕ) (Fs : List Front) (F : Front) (xs : List ℤ) (j : ℕ) → j < n → (more_labels L n Fs F xs).cap j ≡ L.cap j
 old_cap L n Fs F xs j lt = let t : nat_lt j n ≡ true = grind (arith, nat_tests) in ap (λ b. cond b (L.cap j) (get_or xs (j - n) (pos 0))) t
 
-pub new_front : (L : Labels) (n : ℕ) (Fs : List Front) (F : Front) (xs : List ℤ) (j : ℕ) → (more_labels L n Fs F xs).front (n + j) ≡ get_or Fs j F
+new_front : (L : Labels) (n : ℕ) (Fs : List Front) (F : Front) (xs : List ℤ) (j : ℕ) → (more_labels L n Fs F xs).front (n + j) ≡ get_or Fs j F
 new_front L n Fs F xs j =
     let t : nat_lt (n + j) n ≡ false = grind (arith, nat_tests) in
     let e : (n + j) - n ≡ j = omega arith in
@@ -81,7 +81,7 @@ module _ (S : Space) (ns : List ArenaNode) (L : Labels) (k : ℕ) (x : ℤ) (s :
   pub kind_here : kind_at ns' k ≡ Inner s (length ns) (length xs)
   kind_here = ap (λ (n : ArenaNode). n.kind) read.here
 
-  pub kind_child : (j : ℕ) → j < length xs → kind_at ns' (length ns + j) ≡ Leaf (get_or xs j (pos 0))
+  kind_child : (j : ℕ) → j < length xs → kind_at ns' (length ns + j) ≡ Leaf (get_or xs j (pos 0))
   kind_child j below = ap (λ (n : ArenaNode). n.kind) (read.children j below)
 
   pub above_before : (j : ℕ) → j < length ns → above_at ns' j ≡ above_at ns j
@@ -98,7 +98,7 @@ module _ (S : Space) (ns : List ArenaNode) (L : Labels) (k : ℕ) (x : ℤ) (s :
   cap_here = cap_before k lt ∙ sym (explored.leaves k x lt leaf)
 
   -- a number at or past the old ones is a child's
-  pub child_number : (j : ℕ) → j < length ns' → length ns ≤ j → (i : ℕ) × ((i < length xs) × (j ≡ length ns + i))
+  child_number : (j : ℕ) → j < length ns' → length ns ≤ j → (i : ℕ) × ((i < length xs) × (j ≡ length ns + i))
   child_number j below from = let n = read.longer in (j - length ns, (omega arith, omega arith))
 
   -- the new step's node

@@ -65,7 +65,7 @@ empty_histories (n ∷ ns) (x ∷ xs) h =
     let lt : x < 1 = rw pow-zero at h.0 in let here : 0 ≡ x = omega arith in let rest = empty_histories ns xs h.1 in λ j. here j ∷ rest j
 
 -- own histories are those of a joint history
-pub some_history : (ns : List ℕ) (t : ℕ) (xs : List ℕ) → Within ns t xs
+some_history : (ns : List ℕ) (t : ℕ) (xs : List ℕ) → Within ns t xs
     → (H : List ℕ) × (IsJointHistory (product ns) t H) × (own_histories ns H ≡ xs)
 some_history ns zero xs h = ([], tt, empty_histories ns xs h)
 some_history ns (suc t) xs h =

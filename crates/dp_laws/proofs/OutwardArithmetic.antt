@@ -1,5 +1,5 @@
 -- The outward arithmetic gives a span round the true number.
-use Rattle.std.proofs.Common.{◌≡◌, inl, inr, ℕ, suc, ◌*◌, ◌^◌, ◌<◌, ℤ, pos, negsuc, ◌+ℤ◌, ◌*ℤ◌, ◌≤ℤ◌, refl, sym, ap, ◌∙◌, subst, arith}
+use Rattle.std.proofs.Common.{◌≡◌, inl, inr, ℕ, suc, ◌*◌, ◌^◌, ◌<◌, ℤ, pos, negsuc, ◌+ℤ◌, ◌*ℤ◌, ◌≤ℤ◌, refl, sym, ap, ◌∙◌, subst, arith, neg_ℤ}
 use Rattle.std.proofs.lemmas.Int.{ints}
 use Rattle.std.specs.Int.{int_min, int_max}
 use Rattle.dp_base.proofs.Ring.{v, nat, ◌⊗◌, by_ring, by_order, zmul_comm, zle_of, zle_trans, zmul_le, zadd_le, zadd_mul}
@@ -9,7 +9,8 @@ use Rattle.dp_spec.specs.declared.scales.Scales.{Scales}
 use Rattle.dp_spec.specs.Arithmetic.{outward, reward_factor}
 use Rattle.dp_spec.specs.Enclosure.{IsSound, containment}
 use Rattle.dp_spec.specs.Calls.{AreInRange}
-use Rattle.dp_base.specs.Rounding.{by_sign, mul_down, mul_up}
+use Rattle.dp_base.specs.Rounding.{by_sign, mul_down, mul_up, ceiling_of, floor_of}
+use Rattle.std.proofs.Math.IntN.{zero-*ℤ}
 
 -- ---- over the scale T and in the unit u
 
@@ -20,6 +21,42 @@ IsBelow T u x l = (l *ℤ pos T) ≤ℤ (x *ℤ pos u)
 -- h in the unit u is at least x over T
 abbrev pub IsAbove : ℕ → ℕ → ℤ → ℤ → Type 0
 IsAbove T u x h = (x *ℤ pos u) ≤ℤ (h *ℤ pos T)
+
+-- ---- from above is from below, turned
+
+-- a factor turned
+neg_times : (a b : ℤ) → neg_ℤ a *ℤ b ≡ neg_ℤ (a *ℤ b)
+neg_times a b =
+    let none : neg_ℤ a +ℤ a ≡ pos 0 = omega (arith, ints) in
+    opposite (neg_ℤ a *ℤ b) (a *ℤ b) (sym (zadd_mul (neg_ℤ a) a b) ∙ ap (λ (x : ℤ). x *ℤ b) none ∙ zero-*ℤ b)
+  where
+    opposite : (x y : ℤ) → x +ℤ y ≡ pos 0 → x ≡ neg_ℤ y
+    opposite x y e = omega (arith, ints)
+
+-- orders turned
+neg_le : (a b : ℤ) → neg_ℤ a ≤ℤ neg_ℤ b → b ≤ℤ a
+neg_le a b h = omega (arith, ints)
+
+le_neg : (a b : ℤ) → a ≤ℤ b → neg_ℤ b ≤ℤ neg_ℤ a
+le_neg a b h = omega (arith, ints)
+
+-- h is at least x where its negative is at most that of x
+above_of : (T u : ℕ) (x h : ℤ) → IsBelow T u (neg_ℤ x) (neg_ℤ h) → IsAbove T u x h
+above_of T u x h turned =
+    neg_le (h *ℤ pos T) (x *ℤ pos u) (rw (sym (neg_times h (pos T)), sym (neg_times x (pos u))) turned)
+
+below_of : (T u : ℕ) (x h : ℤ) → IsAbove T u x h → IsBelow T u (neg_ℤ x) (neg_ℤ h)
+below_of T u x h above = rw (neg_times h (pos T), neg_times x (pos u)) (le_neg (x *ℤ pos u) (h *ℤ pos T) above)
+
+-- a product rounded up is one rounded down, turned
+down_of : (a b : ℤ) (d : ℕ) → mul_down (neg_ℤ a) b d ≡ neg_ℤ (mul_up a b d)
+unfolding mul_down mul_up ceiling_of
+down_of a b d = ap (λ (x : ℤ). floor_of x d) (neg_times a b) ∙ turned_twice (floor_of (neg_ℤ (a *ℤ b)) d)
+  where
+    turned_twice : (x : ℤ) → x ≡ neg_ℤ (neg_ℤ x)
+    turned_twice x = omega (arith, ints)
+
+-- ---- products
 
 -- a product with p over d, rounded down
 times_below : (T u p d : ℕ) (x l : ℤ) → 0 < d → IsBelow T u x l → IsBelow (T * d) u (x *ℤ pos p) (mul_down l (pos p) d)
@@ -34,12 +71,10 @@ times_below T u p d x l some h =
 -- and rounded up
 times_above : (T u p d : ℕ) (x l : ℤ) → 0 < d → IsAbove T u x l → IsAbove (T * d) u (x *ℤ pos p) (mul_up l (pos p) d)
 times_above T u p d x l some h =
-    let r = mul_up l (pos p) d in
-    zle_trans _ _ _ (zle_of _ _ (by_ring (v x ⊗ nat p ⊗ nat u) (nat p ⊗ (v x ⊗ nat u)) (omega arith)))
-    (zle_trans _ _ _ (zmul_le p _ _ h)
-    (zle_trans _ _ _ (zle_of _ _ (by_ring (nat p ⊗ (v l ⊗ nat T)) (nat T ⊗ (v l ⊗ nat p)) (omega arith)))
-    (zle_trans _ _ _ (zmul_le T _ _ (le_mul_up l (pos p) d some))
-    (zle_of _ _ (by_ring (nat T ⊗ (v r ⊗ nat d)) (v r ⊗ nat (T * d)) (omega arith))))))
+    above_of (T * d) u (x *ℤ pos p) (mul_up l (pos p) d)
+    (subst (λ (y : ℤ). IsBelow (T * d) u y (neg_ℤ (mul_up l (pos p) d))) (neg_times x (pos p))
+    (subst (λ (y : ℤ). IsBelow (T * d) u (neg_ℤ x *ℤ pos p) y) (down_of l (pos p) d)
+    (times_below T u p d (neg_ℤ x) (neg_ℤ l) some (below_of T u x l h))))
 
 -- equal scales and equal numbers
 same_below : (T T' u : ℕ) (x x' l : ℤ) → T ≡ T' → x ≡ x' → IsBelow T u x l → IsBelow T' u x' l
@@ -66,8 +101,8 @@ signed_above T u x l h (pos n) p q = zle_trans _ _ _ (zle_of _ _ (zmul_comm (x *
 signed_above T u x l h (negsuc n) p q = mul_negative_le n (l *ℤ pos T) (x *ℤ pos u) p
 
 -- a weight times a reward, from below
-gain_below : (T u e k d c w : ℕ) (l h r : ℤ) → 0 < c → 0 < c * d → u ≡ c * e → IsBelow T u (pos w) l
-    → IsAbove T u (pos w) h → IsBelow (T * k * d) e (pos w *ℤ (r *ℤ pos k)) (mul_down (by_sign r l h) r (c * d))
+gain_below : (T u e k d c : ℕ) (w l h r : ℤ) → 0 < c → 0 < c * d → u ≡ c * e → IsBelow T u w l
+    → IsAbove T u w h → IsBelow (T * k * d) e (w *ℤ (r *ℤ pos k)) (mul_down (by_sign r l h) r (c * d))
 gain_below T u e k d c w l h r some some' is p q =
     let x = by_sign r l h in
     let y = mul_down x r (c * d) in
@@ -75,21 +110,29 @@ gain_below T u e k d c w l h r some some' is p q =
     (zle_trans _ _ _ (zle_of _ _ (by_ring (nat c ⊗ (v y ⊗ nat (T * k * d))) (nat (T * k) ⊗ (v y ⊗ nat (c * d))) (omega arith)))
     (zle_trans _ _ _ (zmul_le (T * k) _ _ (mul_down_le x r (c * d) some'))
     (zle_trans _ _ _ (zle_of _ _ (by_ring (nat (T * k) ⊗ (v x ⊗ v r)) (nat k ⊗ (v x ⊗ nat T ⊗ v r)) (omega arith)))
-    (zle_trans _ _ _ (zmul_le k _ _ (signed_below T u (pos w) l h r p q))
-    (zle_of _ _ (ap (λ (n : ℕ). pos k *ℤ (pos w *ℤ pos n *ℤ r)) is ∙ by_ring (nat k ⊗ (nat w ⊗ nat (c * e) ⊗ v r)) (nat c ⊗ (nat w ⊗ (v r ⊗ nat k) ⊗ nat e)) (omega arith)))))))
+    (zle_trans _ _ _ (zmul_le k _ _ (signed_below T u w l h r p q))
+    (zle_of _ _ (ap (λ (n : ℕ). pos k *ℤ (w *ℤ pos n *ℤ r)) is ∙ by_ring (nat k ⊗ (v w ⊗ nat (c * e) ⊗ v r)) (nat c ⊗ (v w ⊗ (v r ⊗ nat k) ⊗ nat e)) (omega arith)))))))
+
+-- the ends in the other order, turned
+sign_turned : (r l h : ℤ) → by_sign r (neg_ℤ l) (neg_ℤ h) ≡ neg_ℤ (by_sign r l h)
+sign_turned (pos r) l h = refl
+sign_turned (negsuc r) l h = refl
 
 -- and from above
-gain_above : (T u e k d c w : ℕ) (l h r : ℤ) → 0 < c → 0 < c * d → u ≡ c * e → IsBelow T u (pos w) l
-    → IsAbove T u (pos w) h → IsAbove (T * k * d) e (pos w *ℤ (r *ℤ pos k)) (mul_up (by_sign r h l) r (c * d))
+gain_above : (T u e k d c : ℕ) (w l h r : ℤ) → 0 < c → 0 < c * d → u ≡ c * e → IsBelow T u w l
+    → IsAbove T u w h → IsAbove (T * k * d) e (w *ℤ (r *ℤ pos k)) (mul_up (by_sign r h l) r (c * d))
 gain_above T u e k d c w l h r some some' is p q =
     let x = by_sign r h l in
-    let y = mul_up x r (c * d) in
-    le_of_mul_le_left c _ _ some
-    (zle_trans _ _ _ (zle_of _ _ (by_ring (nat c ⊗ (nat w ⊗ (v r ⊗ nat k) ⊗ nat e)) (nat k ⊗ (nat w ⊗ nat (c * e) ⊗ v r)) (omega arith) ∙ ap (λ (n : ℕ). pos k *ℤ (pos w *ℤ pos n *ℤ r)) (sym is)))
-    (zle_trans _ _ _ (zmul_le k _ _ (signed_above T u (pos w) l h r p q))
-    (zle_trans _ _ _ (zle_of _ _ (by_ring (nat k ⊗ (v x ⊗ nat T ⊗ v r)) (nat (T * k) ⊗ (v x ⊗ v r)) (omega arith)))
-    (zle_trans _ _ _ (zmul_le (T * k) _ _ (le_mul_up x r (c * d) some'))
-    (zle_of _ _ (by_ring (nat (T * k) ⊗ (v y ⊗ nat (c * d))) (nat c ⊗ (v y ⊗ nat (T * k * d))) (omega arith)))))))
+    let y = w *ℤ (r *ℤ pos k) in
+    let ends : mul_down (by_sign r (neg_ℤ h) (neg_ℤ l)) r (c * d) ≡ neg_ℤ (mul_up x r (c * d)) =
+    ap (λ (z : ℤ). mul_down z r (c * d)) (sign_turned r h l) ∙ down_of x r (c * d) in
+    above_of (T * k * d) e y (mul_up x r (c * d))
+    (subst (λ (z : ℤ). IsBelow (T * k * d) e z (neg_ℤ (mul_up x r (c * d)))) (neg_times w (r *ℤ pos k))
+    (subst (λ (z : ℤ). IsBelow (T * k * d) e (neg_ℤ w *ℤ (r *ℤ pos k)) z) ends
+    (gain_below T u e k d c (neg_ℤ w) (neg_ℤ h) (neg_ℤ l) r some some' is (below_of T u w h q) (turned_below T u w l p))))
+  where
+    turned_below : (T u : ℕ) (w l : ℤ) → IsBelow T u w l → IsAbove T u (neg_ℤ w) (neg_ℤ l)
+    turned_below T u w l below = below_of u T l w below
 
 -- a weight times a value of the table
 tail_above : (T F u e w : ℕ) (l h x z : ℤ) → 0 < u → IsBelow T u (pos w) l → IsAbove T u (pos w) h → IsAbove F e x z
@@ -131,7 +174,7 @@ sum_below T u x y l k p q = zle_trans _ _ _ (zle_of _ _ (zadd_mul l k (pos T))) 
 
 -- and from above
 sum_above : (T u : ℕ) (x y l k : ℤ) → IsAbove T u x l → IsAbove T u y k → IsAbove T u (x +ℤ y) (l +ℤ k)
-sum_above T u x y l k p q = zle_trans _ _ _ (zle_of _ _ (zadd_mul x y (pos u))) (zle_trans _ _ _ (zadd_le _ _ _ _ p q) (zle_of _ _ (sym (zadd_mul l k (pos T)))))
+sum_above T u x y l k p q = sum_below u T l k x y p q
 
 -- no number at all
 none_above : (T u : ℕ) → IsAbove T u (pos 0) (pos 0)
@@ -139,7 +182,7 @@ none_above T u = zle_of _ _ (by_ring (nat 0 ⊗ nat u) (nat 0 ⊗ nat T) (omega 
 
 -- and from below
 none_below : (T u : ℕ) → IsBelow T u (pos 0) (pos 0)
-none_below T u = zle_of _ _ (by_ring (nat 0 ⊗ nat T) (nat 0 ⊗ nat u) (omega arith))
+none_below T u = none_above u T
 
 -- ---- the greater and the smaller
 
@@ -198,8 +241,8 @@ outward_sound c ok = record {
     to = times_above T (10 ^ 12) c.gain c.discount (pos w) s.high ok.discount.0 h.to;
   };
   gain = λ T w rest r s h. record {
-    from = gain_below T (10 ^ 12) (10 ^ 9) (reward_factor c rest) c.reward 1000 w s.low s.high r (omega arith) (thousands_positive _ ok.reward.0) refl h.from h.to;
-    to = gain_above T (10 ^ 12) (10 ^ 9) (reward_factor c rest) c.reward 1000 w s.low s.high r (omega arith) (thousands_positive _ ok.reward.0) refl h.from h.to;
+    from = gain_below T (10 ^ 12) (10 ^ 9) (reward_factor c rest) c.reward 1000 (pos w) s.low s.high r (omega arith) (thousands_positive _ ok.reward.0) refl h.from h.to;
+    to = gain_above T (10 ^ 12) (10 ^ 9) (reward_factor c rest) c.reward 1000 (pos w) s.low s.high r (omega arith) (thousands_positive _ ok.reward.0) refl h.from h.to;
   };
   carry = λ F p x u h. carry_above F (10 ^ 9) p c.obs c.trans c.discount c.gain x u ok.trans.0 ok.discount.0 h;
   tail = λ T w F x u s h o. tail_above T F (10 ^ 12) (10 ^ 9) w s.low s.high x u (omega arith) h.from h.to o;

@@ -6,7 +6,7 @@ use Rattle.std.proofs.lemmas.Bool.Decides.{nat_tests}
 use Rattle.dp_spec.specs.declared.span.Span.{Span}
 use Rattle.dp_laws.proofs.JointPairs.{int_sum_pairs, pair_injective}
 use Rattle.dp_laws.proofs.KeptActions.{history_length}
-use Rattle.dp_laws.proofs.SpanSums.{span_equal, span_history_sum_ext, span_sum_ext, span_sum_only, span_none_add, span_sum_none}
+use Rattle.dp_laws.proofs.SpanSums.{span_equal, span_history_sum_ext, span_sum_ext, span_sum_only, span_none_add, span_sum_none, span_sum_ends}
 use Rattle.dp_laws.proofs.SharedTrees.{one_joint_row, row_trees, row_trees-start}
 use Rattle.dp_laws.proofs.SharedValue.{next_below, row_trees_do, trees_after_row}
 use Rattle.dp_spec.specs.Arithmetic.{Arithmetic, point, span_add}
@@ -26,12 +26,6 @@ use Rattle.dp_spec.proofs.JointNumberLaws.{AreBelow, parts_below}
 use Rattle.dp_spec.specs.ClassSteps.{pair_counts, pair_number}
 
 -- ---- sums of spans
-
--- a sum of spans, end by end
-span_sum_ends : (n : ℕ) (f : ℕ → Span)
-    → span_sum n f ≡ record { low = int_sum n (λ i. (f i).low); high = int_sum n (λ i. (f i).high) }
-span_sum_ends zero f = refl
-span_sum_ends (suc n) f = ap (λ (x : Span). span_add x (f n)) (span_sum_ends n f)
 
 -- the ends of a sum of sums
 two_ends : (n k : ℕ) (f : ℕ → ℕ → Span)

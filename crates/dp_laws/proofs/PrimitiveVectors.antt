@@ -54,19 +54,19 @@ module _ (w : ℕ → ℕ) (n g : ℕ) (is : IsGcdOf (map w (range_with_len 0 n)
   as_many = length-map-range_with_len w 0 n
 
   -- the greatest common divisor divides each number
-  pub divides_each : (i : ℕ) → i < n → g ∣ w i
+  divides_each : (i : ℕ) → i < n → g ∣ w i
   divides_each i lt =
       let within : i < length (map w (range_with_len 0 n)) = omega (arith, as_many) in
       subst (λ (x : ℕ). g ∣ x) (read i 0 lt) (is.divides i 0 within)
 
   -- what divides k times each number divides k times it
-  pub divides_times : (k d : ℕ) → ((i : ℕ) → i < n → d ∣ k * w i) → d ∣ k * g
+  divides_times : (k d : ℕ) → ((i : ℕ) → i < n → d ∣ k * w i) → d ∣ k * g
   divides_times k d each =
       let common : gcd_below w n ∣ g = is.greatest (gcd_below w n) (λ i x h. let lt : i < n = omega (arith, as_many) in subst (λ (y : ℕ). gcd_below w n ∣ y) (sym (read i x lt)) (gcd_below_divides w n i lt)) in
       dvd_trans d (divides_scaled w k d n each) (mul-dvd-mul_left (gcd_below w n) k common)
 
   -- each number by its part
-  pub part_times : (i : ℕ) → i < n → w i / g * g ≡ w i
+  part_times : (i : ℕ) → i < n → w i / g * g ≡ w i
   part_times i lt = div-mul_cancel g (divides_each i lt)
 
 -- the same list from equal numbers
@@ -117,7 +117,7 @@ in_proportion x y p q g f s t T U ex ey e eT eU es = rw (sym ex, sym ey, e, eT, 
 
 module _ (w v : ℕ → ℕ) (n g f : ℕ) (first : IsGcdOf (map w (range_with_len 0 n)) g) (second : IsGcdOf (map v (range_with_len 0 n)) f) where
   -- vectors in proportion, with sums above 0, have the same parts
-  pub parts_of_proportional : 0 < nat_sum n w → 0 < nat_sum n v → ((i : ℕ) → i < n → w i * nat_sum n v ≡ v i * nat_sum n w)
+  parts_of_proportional : 0 < nat_sum n w → 0 < nat_sum n v → ((i : ℕ) → i < n → w i * nat_sum n v ≡ v i * nat_sum n w)
       → map (λ x. x / g) (map w (range_with_len 0 n)) ≡ map (λ x. x / f) (map v (range_with_len 0 n))
   parts_of_proportional some some' same =
       let T = nat_sum n w in
@@ -133,7 +133,7 @@ module _ (w v : ℕ → ℕ) (n g f : ℕ) (first : IsGcdOf (map w (range_with_l
       equal_parts (w i) (v i) (w i / g) (v i / f) g f T U (part_times w n g first i below) (part_times v n f second i below) (same i below) whole above)
 
   -- vectors with the same parts are in proportion
-  pub proportional_of_parts : map (λ x. x / g) (map w (range_with_len 0 n)) ≡ map (λ x. x / f) (map v (range_with_len 0 n))
+  proportional_of_parts : map (λ x. x / g) (map w (range_with_len 0 n)) ≡ map (λ x. x / f) (map v (range_with_len 0 n))
       → (i : ℕ) → i < n → w i * nat_sum n v ≡ v i * nat_sum n w
   proportional_of_parts same i lt =
       let parts : (j : ℕ) → j < n → w j / g ≡ v j / f = λ j below.

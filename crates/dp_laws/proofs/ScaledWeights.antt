@@ -59,7 +59,7 @@ module _ (m : Model) (k : ℕ) where
       (λ j. scaled_reward r w a j +ℤ later j) ∙ sym (zmul_add (pos k) (weighted_reward m r w a) (int_sum O L))
 
   -- look-ahead
-  pub scaled_look_ahead : (r look : ℕ) (w : ℕ → ℕ) → look_ahead m r (λ s. k * w s) look ≡ pos k *ℤ look_ahead m r w look
+  scaled_look_ahead : (r look : ℕ) (w : ℕ → ℕ) → look_ahead m r (λ s. k * w s) look ≡ pos k *ℤ look_ahead m r w look
   scaled_look_ahead zero look w = sym (*ℤ-zero (pos k))
   scaled_look_ahead (suc r) zero w = weighed m.states k w (mdp_table m (suc r))
   scaled_look_ahead (suc r) (suc look) w =
@@ -68,7 +68,7 @@ module _ (m : Model) (k : ℕ) where
       ∙ greatest_times k whole (numbers_below (joint_actions m))
 
   -- look-ahead of a joint action
-  pub scaled_action_look_ahead : (r look : ℕ) (w : ℕ → ℕ) (a : ℕ)
+  scaled_action_look_ahead : (r look : ℕ) (w : ℕ → ℕ) (a : ℕ)
       → action_look_ahead m r (λ s. k * w s) a look ≡ pos k *ℤ action_look_ahead m r w a look
   unfolding action_look_ahead
   scaled_action_look_ahead r look w a = scaled_step r (look - 1) w a (scaled_look_ahead r (look - 1))
@@ -76,7 +76,7 @@ module _ (m : Model) (k : ℕ) where
 -- ---- in the exact arithmetic
 
 module _ (m : Model) (is : IsModel m) (k : ℕ) (w : ℕ → ℕ) (ws vs : ℕ → Span) (here : (s : ℕ) → s < m.states → ws s ≡ point (pos (w s))) (scaled : (s : ℕ) → s < m.states → vs s ≡ point (pos (k * w s))) where
-  pub scaled_look_ahead_in : (r look : ℕ)
+  scaled_look_ahead_in : (r look : ℕ)
       → look_ahead_in (exact m.scales) m r vs look ≡ pos k *ℤ look_ahead_in (exact m.scales) m r ws look
   scaled_look_ahead_in r look =
       let quantities = exact_quantities m is in
@@ -84,7 +84,7 @@ module _ (m : Model) (is : IsModel m) (k : ℕ) (w : ℕ → ℕ) (ws vs : ℕ �
       ∙ scaled_look_ahead m k r look w
       ∙ ap (λ (x : ℤ). pos k *ℤ x) (sym (quantities.look_aheads 1 r look w ws here))
 
-  pub scaled_action_look_ahead_in : (r look a : ℕ)
+  scaled_action_look_ahead_in : (r look a : ℕ)
       → action_look_ahead_in (exact m.scales) m r vs a look ≡ pos k *ℤ action_look_ahead_in (exact m.scales) m r ws a look
   scaled_action_look_ahead_in r look a =
       let quantities = exact_quantities m is in

@@ -70,7 +70,7 @@ bound_in_abs A m h r look F can e =
     let room = can.bound r look e in
     omega arith
 
-pub front_bound_abs : (A : Arithmetic) (m : Model) (h look : ℕ) (F : Front) → CanRefine A m h F → F.stage < h
+front_bound_abs : (A : Arithmetic) (m : Model) (h look : ℕ) (F : Front) → CanRefine A m h F → F.stage < h
     → unsigned_abs (front_bound A m h look F) ≤ 2 ^ 126
 unfolding front_bound
 front_bound_abs A m h look F can lt =

@@ -1,5 +1,5 @@
--- Joint classes taken a step further: their weights and rewards from those of the front before, in any arithmetic in which
--- a class steps as its joint histories do; and where a class stands among the numbers of joint classes.
+-- Joint classes taken a step further: their weights and rewards from those of the front before, in any arithmetic in
+-- which a class steps as its joint histories do; and where a class stands among the numbers of joint classes.
 use Rattle.std.specs.Prelude.{◌≡◌, ◌≢◌, ℕ, suc, ◌+◌, ◌*◌, ◌^◌, ◌<◌, Bool, true, false, pos, List, length, get_or, take, drop}
 use Rattle.dp_spec.specs.Arithmetic.{Arithmetic, arithmetic, exact, point, span_add}
 use Rattle.dp_spec.specs.Calls.{size}
@@ -64,7 +64,8 @@ KeptClassesKeepWeights =
     (m : Model) → IsModel m → (h : ℕ) (F : Front) → IsFront m h F → F.stage < h → (i a b : ℕ) → a < b →
     IsUnassigned i a F.agents → IsUnassigned i b F.agents → (c x s : ℕ) →
     c < get_or (class_counts (merged_agents i a b F.agents)) i 0 → a ≢ c → x < product (without i (class_counts F.agents)) →
-    class_weight_in (exact m.scales) m (merged_front F i a b) (placed_number i (class_counts (merged_agents i a b F.agents)) c x) s
+    class_weight_in (exact m.scales) m (merged_front F i a b)
+    (placed_number i (class_counts (merged_agents i a b F.agents)) c x) s
     ≡ class_weight_in (exact m.scales) m F (placed_number i (class_counts F.agents) (kept_class b c) x) s
 
 -- a joint class with it has the weights of the two together
@@ -72,7 +73,8 @@ abbrev pub JoinedClassesHaveBothWeights : Type 0
 JoinedClassesHaveBothWeights =
     (m : Model) → IsModel m → (h : ℕ) (F : Front) → IsFront m h F → F.stage < h → (i a b : ℕ) → a < b →
     IsUnassigned i a F.agents → IsUnassigned i b F.agents → (x s : ℕ) → x < product (without i (class_counts F.agents)) →
-    class_weight_in (exact m.scales) m (merged_front F i a b) (placed_number i (class_counts (merged_agents i a b F.agents)) a x) s
+    class_weight_in (exact m.scales) m (merged_front F i a b)
+    (placed_number i (class_counts (merged_agents i a b F.agents)) a x) s
     ≡ span_add (class_weight_in (exact m.scales) m F (placed_number i (class_counts F.agents) a x) s)
     (class_weight_in (exact m.scales) m F (placed_number i (class_counts F.agents) b x) s)
 

@@ -32,7 +32,8 @@ abbrev pub root_nodes : Arithmetic → Model → ℕ → ℕ → BoundTree → L
 root_nodes A m h look T = nodes_of A m h look 0 T (root_front m) (front_bound A m h look (root_front m))
 
 -- the promises of a search on its tree and its lower end
-pub record IsPromised (A : Arithmetic) (m : Model) (h look budget : ℕ) (merging : Bool) (May : List Place → ℕ → Type 0) (worth : Front → ℤ) (constants lower : ℤ) (inner : ℕ) (T : BoundTree) : Type 0 where
+pub record IsPromised (A : Arithmetic) (m : Model) (h look budget : ℕ) (merging : Bool)
+    (May : List Place → ℕ → Type 0) (worth : Front → ℤ) (constants lower : ℤ) (inner : ℕ) (T : BoundTree) : Type 0 where
   -- the tree fits the root front, and has at most so many branches and merges
   pub fits : FitsRoot A m h look T
   pub counted : inner ≡ inner_count T
@@ -40,18 +41,22 @@ pub record IsPromised (A : Arithmetic) (m : Model) (h look budget : ℕ) (mergin
   -- the budget is spent, or each leaf above the lower end that is not full is wide
   pub stop : (inner ≡ budget) ⊎ All (λ n. IfNarrowLeaf m h n (λ x. x ≤ℤ lower)) (root_nodes A m h look T)
   pub lean :
-      All (λ n. All (λ k. IfInner n.tree (IfNarrowLeaf m h k (λ x. lower <ℤ x → x ≤ℤ n.cap))) (root_nodes A m h look T)) (root_nodes A m h look T)
+      All (λ n. All (λ k. IfInner n.tree (IfNarrowLeaf m h k (λ x. lower <ℤ x → x ≤ℤ n.cap)))
+      (root_nodes A m h look T)) (root_nodes A m h look T)
   -- where it merges, and the arithmetic is exact, no branch stands where two classes could be merged; else there is no
   -- merge
-  pub merged : merging ≡ true → IsTrue A.is_exact → All (λ n. IfBranch n.tree (λ i c. HasNoEquivalent m n.front)) (root_nodes A m h look T)
+  pub merged : merging ≡ true → IsTrue A.is_exact
+      → All (λ n. IfBranch n.tree (λ i c. HasNoEquivalent m n.front)) (root_nodes A m h look T)
   pub unmerged : merging ≡ false → HasNoMerge T
   -- each inner node's least bound is above the worth of every constant policy, and the lower end at least that
   pub inner_nodes : All (λ n. IfInner n.tree (constants <ℤ n.cap)) (root_nodes A m h look T)
   pub constants_below : constants ≤ℤ lower
   -- each branch stands where the rule may say
-  pub ruled : All (λ n. IfBranch n.tree (λ i c. IsPicked May (places_of A m h look n.front) i c)) (root_nodes A m h look T)
+  pub ruled :
+      All (λ n. IfBranch n.tree (λ i c. IsPicked May (places_of A m h look n.front) i c)) (root_nodes A m h look T)
   -- the lower end is at least the worth of the policy of each full leaf
-  pub full_leaves : All (λ n. IfLeaf n.tree (λ x. h ≤ n.front.stage → worth n.front ≤ℤ lower)) (root_nodes A m h look T)
+  pub full_leaves :
+      All (λ n. IfLeaf n.tree (λ x. h ≤ n.front.stage → worth n.front ≤ℤ lower)) (root_nodes A m h look T)
 
 -- a search over the fronts of a model keeps them
 abbrev pub SearchKeepsItsPromises : Type 0
@@ -103,7 +108,8 @@ FullBoundsAreValues =
 abbrev pub LowTreesAreClosed : Type 0
 LowTreesAreClosed =
     (m : Model) → IsModel m → (h look : ℕ) (lower : ℤ) (T : BoundTree) → FitsRoot (exact m.scales) m h look T →
-    All (λ n. IfLeaf n.tree (λ x. (n.front.stage < h → x ≤ℤ lower) × (h ≤ n.front.stage → policy_value m h (full_policy m n.front) ≤ℤ lower)))
+    All (λ n. IfLeaf n.tree (λ x. (n.front.stage < h → x ≤ℤ lower)
+    × (h ≤ n.front.stage → policy_value m h (full_policy m n.front) ≤ℤ lower)))
     (root_nodes (exact m.scales) m h look T) →
     LeavesAtMost lower T
 

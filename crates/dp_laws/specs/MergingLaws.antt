@@ -1,5 +1,5 @@
 -- Merging equivalent classes loses nothing (lossless clustering, JAIR 46 (2013)).
-use Rattle.std.specs.Prelude.{◌≡◌, ◌≢◌, ◌⊎◌, ℕ, ◌<◌, ◌≤ℤ◌, ◌==◌, ◌||◌, List, filter, length, get_or}
+use Rattle.std.specs.Prelude.{◌≡◌, ◌≢◌, ◌⊎◌, ℕ, ◌<◌, ◌≤ℤ◌, ◌==◌, ◌||◌, List, filter, length, get_or, min, max}
 use Rattle.std.specs.List.{range_with_len}
 use Rattle.dp_spec.specs.Model.{Model}
 use Rattle.dp_spec.specs.PolicyTree.{IsPolicyOf, PolicyTree}
@@ -8,7 +8,7 @@ use Rattle.dp_spec.specs.Front.{AgentFront, Front}
 use Rattle.dp_spec.specs.WellFormed.{IsFront}
 use Rattle.dp_spec.specs.Keeping.{KeepsFront}
 use Rattle.dp_spec.specs.Steps.{IsUnassigned}
-use Rattle.dp_spec.specs.Merge.{AreEquivalent, class_members, class_total, kept_class, merged_agent, merged_front}
+use Rattle.dp_spec.specs.Merge.{AreEquivalent, class_members, class_total, kept_class, merged_agent, merged_front, IsHighestMember, IsLowestMember}
 
 -- For each joint policy that keeps a front, where a and b are two classes of agent i that are equivalent and have no
 -- action, some joint policy that keeps the merged front is worth at least as much. (Nothing is asked of the totals of
@@ -45,3 +45,14 @@ abbrev pub MergingKeepsOtherMembers : Type 0
 MergingKeepsOtherMembers =
     (d : AgentFront) (a b c : ℕ) → a < b → a ≢ c →
     class_members (merged_agent a b d) c ≡ class_members d (kept_class b c)
+
+-- so the lowest own history of the joined class is the lower of those of the two, and the highest the higher
+abbrev pub LowestOfMerged : Type 0
+LowestOfMerged =
+    (d : AgentFront) (a b x y : ℕ) → a < b → IsLowestMember d a x → IsLowestMember d b y →
+    IsLowestMember (merged_agent a b d) a (min x y)
+
+abbrev pub HighestOfMerged : Type 0
+HighestOfMerged =
+    (d : AgentFront) (a b x y : ℕ) → a < b → IsHighestMember d a x → IsHighestMember d b y →
+    IsHighestMember (merged_agent a b d) a (max x y)

@@ -1,6 +1,6 @@
 ghost use Rattle.dp_laws.specs.MergingLaws.{MergingLosesNothing, KeepingTheMergedKeepsTheFront};
 ghost use Rattle.dp_laws.specs.MergingLaws.{EmptyClassesAreEquivalent, MergingJoinsMembers};
-ghost use Rattle.dp_laws.specs.MergingLaws.{MergingKeepsOtherMembers};
+ghost use Rattle.dp_laws.specs.MergingLaws.{MergingKeepsOtherMembers, LowestOfMerged, HighestOfMerged};
 
 /// Where two equivalent classes without an action are merged, each joint policy that keeps the
 /// front has one that keeps the merged front and is worth at least as much.
@@ -31,4 +31,14 @@ pub fn merging_joins_members()
 #[tactic(auto, using(crate::proofs::MergedMembers::kept_members))]
 pub fn merging_keeps_other_members()
     ensures { MergingKeepsOtherMembers }
+{}
+
+/// The lowest own history of the joined class is the lower of the lowest ones of the two.
+pub fn lowest_member_of_merged()
+    ensures { LowestOfMerged }
+{}
+
+/// The highest own history of the joined class is the higher of the highest ones of the two.
+pub fn highest_member_of_merged()
+    ensures { HighestOfMerged }
 {}

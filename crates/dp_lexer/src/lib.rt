@@ -5,12 +5,12 @@ ghost use Rattle.std.specs.Prelude.{◌≡◌, ◌^◌, ◌≤◌, length, Ok, I
 ghost use Rattle.dp_lexer.specs.TokenLaws.{AreTokensOf};
 ghost use Rattle.dp_lexer.specs.Tokens.{tokens_of, NamesFirstBadByte};
 
-mod lexemes;
 mod laws;
+mod lexemes;
 mod place;
 
-use crate::lexemes::{Class, class_of, kind_of, more_of};
 pub use crate::laws::{first_bad_byte_is_named, tokens_are_of_text};
+use crate::lexemes::{Class, class_of, kind_of, more_of};
 pub use crate::place::{column_at, line_at};
 use std::alloc::{AllocFailed, Global};
 

@@ -9,7 +9,7 @@ use Rattle.dp_spec.specs.Steps.{advanced_agent, front_after_choice, root_front}
 use Rattle.dp_spec.specs.LookAhead.{weights_after}
 use Rattle.dp_spec.specs.Arithmetic.{Arithmetic, exact, outward, reward_factor}
 use Rattle.dp_spec.specs.Quantities.{action_look_ahead_in, class_weight_in, weighted_reward_in, weighted_table_in, weights_after_in}
-use Rattle.dp_spec.specs.BoundTree.{BoundTree, branch, leaf, merge, more_bound_trees, no_bound_trees}
+use Rattle.dp_spec.specs.BoundTree.{BoundTree, BoundTrees, branch, leaf, merge, more_bound_trees, no_bound_trees}
 use Rattle.dp_spec.specs.SharedWorth.{joint_row_action, next_joint_row, shared_worth_in}
 use Rattle.dp_spec.specs.PlainForm.{ArePlain, ArePlainRows}
 use Rattle.dp_spec.specs.PlainForm.ArePlain.{and_agent as and_plain}
@@ -68,10 +68,11 @@ no_such_agent : FitsSolo (branch 1 0 no_bound_trees) → ⊥
 unfolding root_front solo
 no_such_agent fits = fits.1
 
--- nothing is refined at a full front
-branch_at_full : FitsSolo (branch_of_solo (branch 0 0 no_bound_trees) (leaf (pos 3))) → ⊥
+-- nothing is refined at a full front, whatever the children are
+branch_at_full : (ks : BoundTrees) (cap : ℤ)
+    → FitsFront (exact solo.scales) solo 1 1 1 (branch 0 0 ks) (front_after_choice solo (root_front solo) 0 0 0) cap → ⊥
 unfolding solo root_front front_after_choice advanced_agent
-branch_at_full fits = omega (arith, fits.2.0.0)
+branch_at_full ks cap fits = omega (arith, fits.0)
 
 -- ---- two classes of which one never comes are merged
 

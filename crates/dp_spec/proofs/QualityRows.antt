@@ -104,9 +104,16 @@ lean_two_steps =
     All-from_recursion (λ n. All (lean_at c n) nodes) nodes (of_branch, (of_leaf, (of_branch, (of_leaf, (of_leaf, tt)))))
 
 -- a branch may stand where its bound is that of the leaf
-lean_where_equal : lean_at (two_steps (leaf (pos 4)) (leaf (pos 6))) (record no_node { tree = both_actions; cap = pos 6 }) (record no_node { tree = leaf (pos 6) })
+lean_where_equal : IsLean solo (two_steps (leaf (pos 4)) (leaf (pos 6)))
 unfolding solo front_bound exact outward mul_down mul_up ceiling_of reward_factor weights_after weights_after_in weighted_reward_in weighted_table_in action_look_ahead_in class_weight_in joint_class fixed_joint_action agreeing_actions joint_observations joint_actions trans_at obs_at reward_at start_at step_scale root_front front_after_choice advanced_agent is_wide widens is_room
-lean_where_equal = λ early narrow more. omega (arith, ints)
+lean_where_equal =
+    let c = two_steps (leaf (pos 4)) (leaf (pos 6)) in
+    let nodes = certificate_nodes solo c in
+    let of_leaf : All (λ (k : Node). Unit {0}) nodes = λ k d lt. tt in
+    let of_branch : All (lean_at c (record no_node { tree = c.tree; cap = pos 6 })) nodes =
+    All-from_recursion (lean_at c (record no_node { tree = c.tree; cap = pos 6 })) nodes
+    (tt, ((λ early narrow more. omega (arith, ints)), ((λ early narrow more. omega (arith, ints)), tt))) in
+    All-from_recursion (λ n. All (lean_at c n) nodes) nodes (of_branch, (of_leaf, (of_leaf, tt)))
 
 -- a wide leaf does not count, and one that is not wide does
 wide_leaf : (P : ℤ → Type 0) → IfNarrowLeaf tiger 1 (record no_node { above = 2048; front = root_front tiger }) P

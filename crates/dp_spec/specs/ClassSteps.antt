@@ -1,5 +1,5 @@
--- Joint classes one step on: the joint action that is chosen for each, and when their weights can be taken a step further
--- in place of those of joint histories.
+-- Joint classes one step on: the joint action that is chosen for each, and when their weights can be taken a step
+-- further in place of those of joint histories.
 use Rattle.std.specs.Prelude.{ℕ, ◌*◌, ◌<◌, ◌≡◌, cond, ◌==◌, pos, List, [], ◌∷◌, get_or, None, unwrap_or}
 use Rattle.dp_spec.specs.JointNumbers.{joint_number, parts_of, product}
 use Rattle.dp_spec.specs.Model.{Model, joint_observations}
@@ -33,9 +33,11 @@ pub record StepsByClass (A : Arithmetic) (m : Model) (F : Front) : Type 0 where
   pub weights : (C a o t : ℕ) → C < product (class_counts F.agents) →
       weights_after_in A m (class_weight_in A m F C) a o t
       ≡ span_history_sum (joint_observations m) F.stage (λ H.
-      cond (joint_class m F H == C) (weights_after_in A m (history_weight_in A m (fixed_joint_action m F) H) a o t) (point (pos 0)))
+      cond (joint_class m F H == C)
+      (weights_after_in A m (history_weight_in A m (fixed_joint_action m F) H) a o t) (point (pos 0)))
   -- the reward of a joint action, where r steps are left after this one
   pub rewards : (C a r : ℕ) → C < product (class_counts F.agents) →
       weighted_reward_in A m r (class_weight_in A m F C) a
       ≡ span_history_sum (joint_observations m) F.stage (λ H.
-      cond (joint_class m F H == C) (weighted_reward_in A m r (history_weight_in A m (fixed_joint_action m F) H) a) (point (pos 0)))
+      cond (joint_class m F H == C)
+      (weighted_reward_in A m r (history_weight_in A m (fixed_joint_action m F) H) a) (point (pos 0)))

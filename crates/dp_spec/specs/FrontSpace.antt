@@ -20,7 +20,8 @@ fronts_after m F (Merge i a b) = merged_front F i a b ∷ []
 
 -- the place of agent i's class c is one that the rule may answer for the places of a front
 abbrev pub IsPicked : (List Place → ℕ → Type 0) → List Place → ℕ → ℕ → Type 0
-IsPicked May places i c = (x : ℕ) × May places x × ((p : Place) × (slice_get places x ≡ Some p) × (p.agent ≡ i) × (p.class ≡ c))
+IsPicked May places i c =
+    (x : ℕ) × May places x × ((p : Place) × (slice_get places x ≡ Some p) × (p.agent ≡ i) × (p.class ≡ c))
 
 -- a branch stands at a place of the rule, where nothing could be merged; a merge joins two equivalent classes
 abbrev pub IsAllowed : Arithmetic → Model → ℕ → ℕ → Bool → (List Place → ℕ → Type 0) → Front → Step → Type 0
@@ -31,8 +32,8 @@ IsAllowed A m h look merging May F (Merge i a b) =
     (F.stage < h) × (a < b) × IsUnassigned i a F.agents × IsUnassigned i b F.agents × AreEquivalent m F i a b
     × IsTrue A.is_exact × (merging ≡ true)
 
--- the fronts of a model, of a horizon of h steps and a look, whether it merges, a branching rule, and the worth of the policy
--- that a full front fixes
+-- the fronts of a model, of a horizon of h steps and a look, whether it merges, a branching rule, and the worth of the
+-- policy that a full front fixes
 abbrev pub front_space : Arithmetic → Model → ℕ → ℕ → Bool → (List Place → ℕ → Type 0) → (Front → ℤ) → Space
 front_space A m h look merging May worth = record {
   root = root_front m;

@@ -1,5 +1,5 @@
 -- Equivalent classes and merging: probabilistic equivalence of histories (JAIR 46 (2013), lossless clustering).
-use Rattle.std.specs.Prelude.{ℕ, zero, suc, ◌-◌, ◌*◌, ◌<◌, ◌≡◌, cond, ◌==◌, nat_lt, List, [], ◌∷◌, map, filter, length, get_or}
+use Rattle.std.specs.Prelude.{ℕ, zero, suc, ◌-◌, ◌*◌, ◌<◌, ◌≡◌, cond, ◌==◌, nat_lt, List, [], ◌∷◌, map, filter, length, get_or, ◌≤◌}
 use Rattle.std.specs.List.{range_with_len}
 use Rattle.dp_base.specs.Sums.{nat_sum}
 use Rattle.dp_spec.specs.JointNumbers.{joint_number, parts_of, product}
@@ -80,3 +80,16 @@ merged_front F i first second = record { stage = F.stage; agents = merged_agents
 -- the own histories of class c, the lowest first
 abbrev pub class_members : AgentFront → ℕ → List ℕ
 class_members d c = filter (λ x. get_or d.class_of x 0 == c) (range_with_len 0 (length d.class_of))
+
+-- own history x is of class c
+abbrev pub IsMember : AgentFront → ℕ → ℕ → Type 0
+IsMember d c x = (x < length d.class_of) × (get_or d.class_of x 0 ≡ c)
+
+-- the lowest own history of a class, and the highest
+pub record IsLowestMember (d : AgentFront) (c x : ℕ) : Type 0 where
+  pub member : IsMember d c x
+  pub least : (y : ℕ) → IsMember d c y → x ≤ y
+
+pub record IsHighestMember (d : AgentFront) (c x : ℕ) : Type 0 where
+  pub member : IsMember d c x
+  pub greatest : (y : ℕ) → IsMember d c y → y ≤ x

@@ -37,7 +37,8 @@ pub record IsOpenAt (S : Space) (ns : List ArenaNode) (L : Labels) (k : ℕ) (x 
 
 -- The state of a search. `constants` is the greatest low worth of a constant policy, `lower` the low worth of the best
 -- policy so far; the nodes below `settled` have been looked at, and `es` are the open leaves that are held.
-pub record IsSearch (S : Space) (constants lower : ℤ) (ns : List ArenaNode) (L : Labels) (settled : ℕ) (es : List OpenLeaf) : Type 0 where
+pub record IsSearch (S : Space) (constants lower : ℤ) (ns : List ArenaNode) (L : Labels) (settled : ℕ)
+    (es : List OpenLeaf) : Type 0 where
   pub explored : IsExploration S ns L
   pub settled_within : settled ≤ length ns
   pub held : All (IsOpenLeaf S ns L settled) es
@@ -45,9 +46,12 @@ pub record IsSearch (S : Space) (constants lower : ℤ) (ns : List ArenaNode) (L
   -- each open leaf above the lower end is held
   pub covered : (k : ℕ) (x : ℤ) → k < settled → IsOpenAt S ns L k x → lower <ℤ x → 0 < held_at k es
   -- the policy of each full leaf was looked at
-  pub tried : (k : ℕ) (x : ℤ) → k < settled → kind_at ns k ≡ Leaf x → S.is_full (L.front k) ≡ true → S.worth (L.front k) ≤ℤ lower
+  pub tried : (k : ℕ) (x : ℤ) → k < settled → kind_at ns k ≡ Leaf x → S.is_full (L.front k) ≡ true
+      → S.worth (L.front k) ≤ℤ lower
   -- no step stands where the least bound is below that of an open leaf above the lower end
-  pub lean : (j : ℕ) (s : Step) (f n : ℕ) → j < length ns → kind_at ns j ≡ Inner s f n → (k : ℕ) (x : ℤ) → IsOpenAt S ns L k x → lower <ℤ x → x ≤ℤ L.cap j
+  pub lean : (j : ℕ) (s : Step) (f n : ℕ) → j < length ns → kind_at ns j ≡ Inner s f n → (k : ℕ) (x : ℤ)
+      → IsOpenAt S ns L k x → lower <ℤ x → x ≤ℤ L.cap j
   -- each step's least bound exceeds every constant policy
-  pub over_constants : (j : ℕ) (s : Step) (f n : ℕ) → j < length ns → kind_at ns j ≡ Inner s f n → constants <ℤ L.cap j
+  pub over_constants : (j : ℕ) (s : Step) (f n : ℕ) → j < length ns → kind_at ns j ≡ Inner s f n
+      → constants <ℤ L.cap j
   pub constants_below : constants ≤ℤ lower

@@ -20,9 +20,12 @@ pub record IsSearched (S : Space) (budget : ℕ) (constants lower : ℤ) (inner 
   -- the budget is spent, or no open leaf is above the lower end
   pub stop : (inner ≡ budget) ⊎ ((k : ℕ) (x : ℤ) → IsOpenAt S nodes labels k x → x ≤ℤ lower)
   -- the policy of each full leaf was looked at
-  pub tried : (k : ℕ) (x : ℤ) → k < length nodes → kind_at nodes k ≡ Leaf x → S.is_full (labels.front k) ≡ true → S.worth (labels.front k) ≤ℤ lower
+  pub tried : (k : ℕ) (x : ℤ) → k < length nodes → kind_at nodes k ≡ Leaf x → S.is_full (labels.front k) ≡ true
+      → S.worth (labels.front k) ≤ℤ lower
   -- no step stands where the least bound is below that of an open leaf above the lower end
-  pub lean : (j : ℕ) (s : Step) (f n : ℕ) → j < length nodes → kind_at nodes j ≡ Inner s f n → (k : ℕ) (x : ℤ) → IsOpenAt S nodes labels k x → lower <ℤ x → x ≤ℤ labels.cap j
+  pub lean : (j : ℕ) (s : Step) (f n : ℕ) → j < length nodes → kind_at nodes j ≡ Inner s f n → (k : ℕ) (x : ℤ)
+      → IsOpenAt S nodes labels k x → lower <ℤ x → x ≤ℤ labels.cap j
   -- each step's least bound exceeds every constant policy
-  pub over_constants : (j : ℕ) (s : Step) (f n : ℕ) → j < length nodes → kind_at nodes j ≡ Inner s f n → constants <ℤ labels.cap j
+  pub over_constants : (j : ℕ) (s : Step) (f n : ℕ) → j < length nodes → kind_at nodes j ≡ Inner s f n
+      → constants <ℤ labels.cap j
   pub constants_below : constants ≤ℤ lower

@@ -38,7 +38,9 @@ pub record CanRefine (A : Arithmetic) (m : Model) (h : ℕ) (F : Front) : Type 0
   -- the weights of a joint class are weights of the stage
   pub weights : (C : ℕ) → AreWeights A.is_exact m F.stage (class_weight_in A m F C)
   -- the weights of all joint histories of the stage can be added to those of joint classes, in any order
-  pub classify : nat_history_sum (joint_observations m) F.stage (λ H. nat_sum m.states (λ s. size (history_weight_in A m (fixed_joint_action m F) H s)))
+  pub classify :
+      nat_history_sum (joint_observations m) F.stage (λ H.
+      nat_sum m.states (λ s. size (history_weight_in A m (fixed_joint_action m F) H s)))
       < 2 ^ 127
   -- what it has earned and the best look-aheads of its joint classes can be added, in any order, to at most 2^126
   pub bound : (r k : ℕ) → F.stage + suc r ≡ h

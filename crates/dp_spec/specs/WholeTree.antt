@@ -41,7 +41,10 @@ pub record IsArena (ns : List ArenaNode) : Type 0 where
   pub counted : inner_count tree ≡ inner_nodes ns
   pub once : (i : ℕ) → i < length ns → times_at ns i 0 tree ≡ 1
   -- children have greater numbers
-  pub later : (k : ℕ) (s : Step) (f n : ℕ) → k < length ns → kind_at ns k ≡ Inner s f n → (k < f) × ((f + n ≤ length ns) × HasChildren s n)
+  pub later : (k : ℕ) (s : Step) (f n : ℕ) → k < length ns → kind_at ns k ≡ Inner s f n
+      → (k < f) × ((f + n ≤ length ns) × HasChildren s n)
   pub root : above_at ns 0 ≡ 0
-  pub deeper : (k : ℕ) (s : Step) (f n : ℕ) → k < length ns → kind_at ns k ≡ Inner s f n → (j : ℕ) → j < n → above_at ns (f + j) ≡ suc (above_at ns k)
+  -- and one step more above them
+  pub deeper : (k : ℕ) (s : Step) (f n : ℕ) → k < length ns → kind_at ns k ≡ Inner s f n → (j : ℕ) → j < n
+      → above_at ns (f + j) ≡ suc (above_at ns k)
   pub shallow : (k : ℕ) → k < length ns → above_at ns k ≤ 2048
