@@ -105,7 +105,7 @@ pub mod SearchPlans
 pub mod UnequalPlaces
 pub mod RightNodes
 pub mod PrimitiveVectors
+pub mod ScaledWeights
+pub mod FirstReasons
 pub mod TrueFits
 pub mod ChoicesTakenBack
-pub mod FirstReasons
-pub mod ScaledWeights

@@ -24,3 +24,4 @@ pub mod UnequalPlaceLaws
 pub mod ReasonLaws
 pub mod TrueFitLaws
 pub mod UnchoosingLaws
+pub mod PrimitiveVectorLaws

@@ -1,13 +1,11 @@
 -- The places at which two classes are compared: the first at which they differ, and that there is none exactly where the
 -- classes are equivalent.
-use Rattle.std.specs.Prelude.{◌≡◌, ◌↔◌, ℕ, Some, None, ◌<◌, List, length}
+use Rattle.std.specs.Prelude.{◌≡◌, ◌↔◌, ℕ, Some, None}
 use Rattle.dp_spec.specs.Model.{Model}
-use Rattle.dp_spec.specs.Front.{Front, class_counts}
-use Rattle.dp_spec.specs.Merge.{AreEquivalent, class_total}
+use Rattle.dp_spec.specs.Front.{Front}
+use Rattle.dp_spec.specs.Merge.{AreEquivalent}
 use Rattle.dp_spec.specs.Pairs.{HasNoPair, IsLeastPair, IsPair}
-use Rattle.dp_spec.specs.UnequalPlaces.{IsFirstUnequal, first_unequal, class_vector}
-use Rattle.dp_spec.specs.Primitive.{IsPrimitiveOf}
-use Rattle.dp_spec.specs.WellFormed.{IsFront}
+use Rattle.dp_spec.specs.UnequalPlaces.{IsFirstUnequal, first_unequal}
 
 -- the place that is found is the first at which the classes differ, and that place is found
 abbrev pub FirstUnequalIsFound : Type 0
@@ -27,16 +25,3 @@ LeastPairIsUnique =
 -- where an agent has no pair, no two of its classes are one
 abbrev pub NoPairIsNone : Type 0
 NoPairIsNone = (m : Model) (F : Front) (i : ℕ) → HasNoPair m F i ↔ ((c c' : ℕ) → ¬ IsPair m F i c c')
-
--- ---- primitive vectors
-
--- a list has one
-abbrev pub PrimitiveVectorIsUnique : Type 0
-PrimitiveVectorIsUnique = (xs us vs : List ℕ) → IsPrimitiveOf xs us → IsPrimitiveOf xs vs → us ≡ vs
-
--- classes of totals above 0 are equivalent exactly where their primitive vectors are equal
-abbrev pub PrimitiveVectorsDecideEquivalence : Type 0
-PrimitiveVectorsDecideEquivalence =
-    (m : Model) (h : ℕ) (F : Front) → IsFront m h F → (i c c' : ℕ) → i < length (class_counts F.agents) →
-    0 < class_total m F i c → 0 < class_total m F i c' → (us vs : List ℕ) → IsPrimitiveOf (class_vector m F i c) us →
-    IsPrimitiveOf (class_vector m F i c') vs → AreEquivalent m F i c c' ↔ (us ≡ vs)

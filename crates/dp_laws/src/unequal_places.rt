@@ -1,4 +1,3 @@
-ghost use Rattle.dp_laws.specs.UnequalPlaceLaws.{PrimitiveVectorIsUnique, PrimitiveVectorsDecideEquivalence};
 ghost use Rattle.dp_laws.specs.UnequalPlaceLaws.{FirstUnequalIsFound, NoneIsUnequalWhereEquivalent};
 ghost use Rattle.dp_laws.specs.UnequalPlaceLaws.{LeastPairIsUnique, NoPairIsNone};
 
@@ -14,14 +13,4 @@ pub fn first_unequal_place_is_found()
 pub fn least_pair_is_unique()
     ensures unique { LeastPairIsUnique }
     ensures none { NoPairIsNone }
-{}
-
-/// A list has one primitive vector.
-pub fn primitive_vector_is_unique()
-    ensures { PrimitiveVectorIsUnique }
-{}
-
-/// Two classes of totals above 0 are equivalent exactly where their primitive vectors are equal.
-pub fn primitive_vectors_decide_equivalence()
-    ensures { PrimitiveVectorsDecideEquivalence }
 {}
