@@ -1,6 +1,7 @@
 -- Worked rows of equivalent classes: places and their numbers, first unequal places, least pairs, primitive vectors.
 use Rattle.std.proofs.Common.{◌≡◌, ◌<◌, ◌≤◌, ◌⊎◌, inl, inr, ℕ, zero, suc, ◌*◌, ◌/◌, ◌%◌, ap, List, get_or, [], ◌∷◌, Some, None, refl, arith}
 use Rattle.std.specs.Int.{◌∣◌}
+use Rattle.std.specs.Prelude.{All}
 use Rattle.std.proofs.lemmas.Nat.Gcd.{dvd-zero, dvd_of_mod-eq-zero, mod-eq-zero_of_dvd}
 use Rattle.std.proofs.Math.Nat.{div-le_of_le-mul, dvd-sub}
 use Rattle.std.proofs.lemmas.List.Elements.{All-from_recursion}
@@ -9,7 +10,7 @@ use Rattle.dp_spec.specs.LookAhead.{weights_after}
 use Rattle.dp_spec.specs.Front.{fixed_joint_action}
 use Rattle.dp_spec.specs.Steps.{advanced_agent, front_after_choice, root_front}
 use Rattle.dp_spec.specs.Merge.{class_of_agent, class_of_others, class_total, place_weight}
-use Rattle.dp_spec.specs.Pairs.{HasNoPair, IsLeastPair}
+use Rattle.dp_spec.specs.Pairs.{HasNoPair, IsLeastPair, IsPair}
 use Rattle.dp_spec.specs.Primitive.{IsGcdOf, IsPrimitiveOf}
 use Rattle.dp_spec.specs.UnequalPlaces.{class_vector, first_unequal, place_count, place_number}
 use Rattle.dp_spec.proofs.SmallModels.{blind, tiger}
@@ -58,10 +59,14 @@ left_twice_and_once = refl
 
 -- ---- the least pair
 
+waited_pair : IsPair blind waited 0 0 1
+unfolding blind root_front front_after_choice advanced_agent
+waited_pair = record { order = omega arith; first = (omega arith, refl); second = (omega arith, refl); equivalent = heard_and_never_are_equivalent }
+
 least_of_waited : IsLeastPair blind waited 0 0 1
 unfolding blind root_front front_after_choice advanced_agent
 least_of_waited = record {
-  pair = record { order = omega arith; first = (omega arith, refl); second = (omega arith, refl); equivalent = heard_and_never_are_equivalent };
+  pair = waited_pair;
   least = λ d d' pair. first_or_later d d' pair.order;
 }
   where
@@ -71,7 +76,7 @@ least_of_waited = record {
 
 -- a later pair is not the least, whatever it is
 later_pair : (d d' : ℕ) → 0 < d → IsLeastPair blind waited 0 d d' → ⊥
-later_pair d d' later least = elim (least.least 0 1 least_of_waited.pair) [
+later_pair d d' later least = elim (least.least 0 1 waited_pair) [
   | inl before ↦ omega (arith, before)
   | inr same ↦ omega (arith, same.0)
 ]
@@ -82,9 +87,12 @@ some_pair none = none 0 1 (omega arith) (omega arith, refl) (omega arith, refl) 
 
 -- ---- primitive vectors
 
+two_divides : All (λ x. 2 ∣ x) (4 ∷ 0 ∷ 6 ∷ [])
+two_divides = All-from_recursion (λ x. 2 ∣ x) (4 ∷ 0 ∷ 6 ∷ []) (dvd_of_mod-eq-zero 2 refl, (dvd-zero 2, (dvd_of_mod-eq-zero 2 refl, tt)))
+
 two_is_greatest : IsGcdOf (4 ∷ 0 ∷ 6 ∷ []) 2
 two_is_greatest = record {
-  divides = All-from_recursion (λ x. 2 ∣ x) (4 ∷ 0 ∷ 6 ∷ []) (dvd_of_mod-eq-zero 2 refl, (dvd-zero 2, (dvd_of_mod-eq-zero 2 refl, tt)));
+  divides = two_divides;
   greatest = λ d divides. dvd-sub d (divides 2 0 (omega arith)) (divides 0 0 (omega arith));
 }
 
@@ -106,7 +114,7 @@ primitive_of_zeros = (
 not_divided : IsPrimitiveOf (4 ∷ 0 ∷ 6 ∷ []) (4 ∷ 0 ∷ 6 ∷ []) → ⊥
 not_divided primitive =
     let g = primitive.0 in
-    let two : 2 ∣ g = primitive.1.greatest 2 two_is_greatest.divides in
+    let two : 2 ∣ g = primitive.1.greatest 2 two_divides in
     let four : 4 ≡ 4 / g = ap (λ (xs : List ℕ). get_or xs 0 0) primitive.2 in
     let even : g % 2 ≡ 0 = mod-eq-zero_of_dvd 2 two in
     quotient g even four

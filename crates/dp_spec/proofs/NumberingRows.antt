@@ -21,6 +21,9 @@ joint_of_one_zero = refl
 parts_of_five : parts_of (3 ∷ 2 ∷ []) 5 ≡ 2 ∷ 1 ∷ []
 parts_of_five = refl
 
+parts_of_two : parts_of (3 ∷ 2 ∷ []) 2 ≡ 1 ∷ 0 ∷ []
+parts_of_two = refl
+
 -- first the joint observation 0 1, then 1 0: the first observation is most significant in each own history
 own_of_two_steps : own_histories (2 ∷ 2 ∷ []) (2 ∷ 1 ∷ []) ≡ 1 ∷ 2 ∷ []
 own_of_two_steps = refl
@@ -35,6 +38,11 @@ classes_of_second_stage : map (λ (d : AgentFront). d.class_of) (front_after_cho
     ≡ (0 ∷ 1 ∷ 0 ∷ 1 ∷ []) ∷ []
 unfolding blind root_front front_after_choice advanced_agent
 classes_of_second_stage = refl
+
+-- of two classes the second, with the first observation, comes after the first with the second one
+classes_of_two : (advanced_agent 2 1 (record { fixed = []; class_of = 0 ∷ 1 ∷ []; chosen = Some 0 ∷ Some 0 ∷ [] })).class_of ≡ 0 ∷ 1 ∷ 2 ∷ 3 ∷ []
+unfolding advanced_agent
+classes_of_two = refl
 
 -- second 2 joined into first 0: what is above 2 moves down
 renumbered_classes : map (renumbered 0 2) (0 ∷ 1 ∷ 2 ∷ 3 ∷ []) ≡ 0 ∷ 1 ∷ 0 ∷ 2 ∷ []

@@ -59,6 +59,10 @@ table_in_of_drift : mdp_table_in (exact drift.scales) drift 2 0 ≡ pos 97980
 unfolding drift exact reward_factor joint_actions joint_observations trans_at obs_at reward_at step_scale
 table_in_of_drift = refl
 
+weights_in_of_drift : weights_after_in (exact drift.scales) drift (λ s. point (pos (start_at drift s))) 0 1 0 ≡ point (pos 126)
+unfolding drift exact joint_observations start_at trans_at obs_at weights_after_in
+weights_in_of_drift = refl
+
 worth_in_of_drift : forward_worth_in (exact drift.scales) drift 2 (twice ∷ []) ≡ point (pos 430980)
 unfolding drift exact reward_factor forward_worth_in weights_after_in weighted_reward_in joint_root_action trees_after joint_actions joint_observations start_at trans_at obs_at reward_at step_scale
 worth_in_of_drift = refl
