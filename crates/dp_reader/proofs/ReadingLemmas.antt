@@ -99,7 +99,7 @@ rows_built end text rows model are e =
 -- a bad byte is what the file means
 pub lexer_fault : (bytes : List ℕ) (fault : LexFault) → NamesFirstBadByte bytes fault
     → IsMeaning (meaning bytes) (Err (fault_of_lexer fault))
-lexer_fault bytes (lexer.BadByte line column) named = rw (named.1.1.1.0, named.1.1.1.1) (bad_byte_first bytes named.0 named.1.1.0)
+lexer_fault bytes (lexer.BadByte line column) named = rw (named.3, named.4) (bad_byte_first bytes named.0 named.2)
 lexer_fault bytes lexer.Memory named = tt
 
 -- a fault of the text is what the file means

@@ -3,15 +3,15 @@ use Rattle.dp_reader.proofs.build.model_of.Goals as goal
 
 pub build-requires-clause-names : goal.build-requires-clause-names
 build-requires-clause-names c =
-    (can_build c.args.bytes.now c.args.text c.in-Ok.rows c.requires.says c.requires.within c.in-Ok.ensures).names
+    (can_build c.args.bytes.now c.args.text c.in_ok-rows.rows c.requires.says c.requires.within c.in_ok-rows.ensures).names
 
 pub build-requires-clause-model : goal.build-requires-clause-model
 build-requires-clause-model c =
-    (can_build c.args.bytes.now c.args.text c.in-Ok.rows c.requires.says c.requires.within c.in-Ok.ensures).model
+    (can_build c.args.bytes.now c.args.text c.in_ok-rows.rows c.requires.says c.requires.within c.in_ok-rows.ensures).model
 
 pub build-requires-clause-named : goal.build-requires-clause-named
 build-requires-clause-named c =
-    (can_build c.args.bytes.now c.args.text c.in-Ok.rows c.requires.says c.requires.within c.in-Ok.ensures).named
+    (can_build c.args.bytes.now c.args.text c.in_ok-rows.rows c.requires.says c.requires.within c.in_ok-rows.ensures).named
 
-pub returns-in-Ok-build : goal.returns-in-Ok-build
-returns-in-Ok-build c = rows_built _ c.args.text c.in-Ok.rows c.in-Ok-build.model c.in-Ok.ensures c.in-Ok-build.ensures
+pub returns : goal.returns
+returns c = rows_built _ c.args.text c.in_ok-rows.rows c.in_ok-model.model c.in_ok-rows.ensures c.in_ok-model.ensures

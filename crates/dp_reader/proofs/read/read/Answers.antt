@@ -1,8 +1,14 @@
+use Rattle.std.proofs.lemmas.Result.{err_from_is_err_and}
 use Rattle.dp_meaning.specs.Meaning.{meaning}
 use Rattle.dp_reader.proofs.ReadingLemmas.{lexer_fault, text_fault, told_same}
 use Rattle.dp_reader.proofs.read.read.Goals as goal
 
-pub returns-in-Err : goal.returns-in-Err
-returns-in-Err c =
+pub returns-in_err-tokens : goal.returns-in_err-tokens
+returns-in_err-tokens c =
+    let exit = err_from_is_err_and c.from_residual.result c.from_residual.ensures.1 in
+    rw (exit.1, exit.2) (lexer_fault c.args.bytes.now c.in_err-tokens.field-0.0 c.in_err-tokens.ensures.first_bad_byte)
+
+pub returns : goal.returns
+returns c =
     told_same c.args.bytes.now (meaning c.args.bytes.now) c.in-Err.fault c.told.result c.told.ensures
     (text_fault c.args.bytes.now c.in-Err.fault c.in-Err.ensures)
