@@ -1,5 +1,5 @@
 -- The digits at the front of a text, one by one.
-use Rattle.std.proofs.Common.{◌≡◌, ℕ, ◌+◌, ◌-◌, ◌<◌, ◌≤◌, true, false, leb, ◌⊎◌, inl, inr, List, [], ◌∷◌, ◌++◌, length, get_or, take, sym, ap, subst, ◌∙◌, append_assoc, arith}
+use Rattle.std.proofs.Common.{◌≡◌, ℕ, ◌+◌, ◌-◌, ◌<◌, ◌≤◌, true, false, leb, inl, inr, List, [], ◌∷◌, ◌++◌, length, get_or, take, sym, ap, subst, ◌∙◌, append_assoc, arith}
 use Rattle.std.specs.Char.{is_ascii_digit}
 use Rattle.std.specs.List.{prefix_len}
 use Rattle.std.proofs.lemmas.Bool.{and_parts, leb-true}
@@ -7,6 +7,7 @@ use Rattle.std.proofs.lemmas.List.{take_more}
 use Rattle.std.proofs.lemmas.List.Sums.{prefix_len_passes, prefix_len_stops, prefix_len-le-length}
 use Rattle.dp_base.specs.declared.significand.Significand.{Significand}
 use Rattle.dp_base.specs.Significands.{IsSeen}
+use Rattle.dp_base.proofs.Order.{equal_or_less}
 
 -- the byte of a digit is at least 48
 pub digit_low : (b : ℕ) → is_ascii_digit b ≡ true → 48 ≤ b
@@ -16,16 +17,12 @@ digit_low b digit = leb-true 48 b (and_parts (leb 48 b) (leb b 57) digit).0
 pub digit_high : (b : ℕ) → is_ascii_digit b ≡ true → b ≤ 57
 digit_high b digit = leb-true b 57 (and_parts (leb 48 b) (leb b 57) digit).1
 
--- a bound is reached or not
-cases : (i n : ℕ) → i ≤ n → (n ≡ i) ⊎ (i < n)
-cases i n le = grind arith
-
 -- a digit behind digits at the front is one more of them
 pub run_more : (text : List ℕ) (i : ℕ) → i ≤ prefix_len is_ascii_digit text → i < length text
     → is_ascii_digit (get_or text i 0) ≡ true → i + 1 ≤ prefix_len is_ascii_digit text
 run_more text i le lt digit =
-    elim (cases i (prefix_len is_ascii_digit text) le) [
-      | inl e ↦ let stop = prefix_len_stops is_ascii_digit text 0 (omega arith) in let here = rw e at stop in absurd cc
+    elim (equal_or_less i (prefix_len is_ascii_digit text) le) [
+      | inl e ↦ let stop = prefix_len_stops is_ascii_digit text 0 (omega arith) in let here = rw (← e) at stop in absurd cc
       | inr more ↦ omega arith
     ]
 
@@ -33,8 +30,8 @@ run_more text i le lt digit =
 pub run_stop : (text : List ℕ) (i : ℕ) → i ≤ prefix_len is_ascii_digit text → is_ascii_digit (get_or text i 0) ≡ false
     → prefix_len is_ascii_digit text ≡ i
 run_stop text i le other =
-    elim (cases i (prefix_len is_ascii_digit text) le) [
-      | inl e ↦ e
+    elim (equal_or_less i (prefix_len is_ascii_digit text) le) [
+      | inl e ↦ sym e
       | inr more ↦ let pass = prefix_len_passes is_ascii_digit text i 0 more in absurd cc
     ]
 

@@ -10,7 +10,7 @@ pub IsGcd-mod : (a b g : ℕ) → IsGcd a b g → IsGcd b (a % b) g
 IsGcd-mod a b g h = (h.1, (dvd-mod_iff g h.1).1 h.0, λ d p q. h.2 d ((dvd-mod_iff d p).0 q) p)
 
 -- what divides both multiples divides the multiple of the greatest common divisor
-dvd-scaled : (steps n a b g d : ℕ) → b ≤ steps → IsGcd a b g → d ∣ n * a → d ∣ n * b → d ∣ n * g
+pub dvd-scaled : (steps n a b g d : ℕ) → b ≤ steps → IsGcd a b g → d ∣ n * a → d ∣ n * b → d ∣ n * g
 dvd-scaled steps n a zero g d le h p q = subst (λ k. d ∣ n * k) (same_from_IsGcd a 0 a g (IsGcd-from_zero a 0 refl) h) p
 dvd-scaled zero n a (suc b) g d le h p q = absurd (omega arith)
 dvd-scaled (suc steps) n a (suc b) g d le h p q =

@@ -1,11 +1,12 @@
 -- Laws of the greatest value of a function over a list, and over the numbers below n.
-use Rattle.std.proofs.Common.{◌≡◌, inl, inr, ℕ, ◌<◌, ◌≤◌, ℤ, pos, ◌+ℤ◌, ◌≤ℤ◌, unsigned_abs, List, [], ◌∷◌, length, refl, subst, arith}
+use Rattle.std.proofs.Common.{◌≡◌, inl, inr, ℕ, ◌<◌, ◌≤◌, ℤ, pos, ◌+ℤ◌, ◌≤ℤ◌, unsigned_abs, List, [], ◌∷◌, length, refl, subst, arith, ◌*ℤ◌, ap, sym, ◌∙◌}
 use Rattle.std.specs.Int.{int_max}
 use Rattle.std.proofs.lemmas.Int.{ints, clamps}
 use Rattle.dp_base.proofs.Members.{IsIn, IsIn-below, below-IsIn, some_in}
-use Rattle.dp_base.proofs.Order.{le_max_left, max_le}
-use Rattle.dp_base.proofs.Ring.{zle_of}
+use Rattle.dp_base.proofs.Order.{le_max_left, max_le, le_total}
+use Rattle.dp_base.proofs.Ring.{zle_of, zmul_le}
 use Rattle.dp_base.specs.Sums.{greatest, numbers_below}
+use Rattle.std.proofs.Math.IntN.{*ℤ-zero}
 
 max_right : (a b c : ℤ) → c ≤ℤ b → c ≤ℤ int_max a b
 max_right a b c h = omega (arith, ints, clamps)
@@ -68,6 +69,26 @@ pub greatest_abs : (f : ℕ → ℤ) (c : ℕ) (xs : List ℕ) → ((a : ℕ) �
 greatest_abs f c [] h = omega arith
 greatest_abs f c (x ∷ []) h = h x (inl refl)
 greatest_abs f c (x ∷ (y ∷ ys)) h = abs_max (f x) (greatest f (y ∷ ys)) c (h x (inl refl)) (greatest_abs f c (y ∷ ys) (λ a i. h a (inr i)))
+
+max_is_left : (a b : ℤ) → b ≤ℤ a → int_max a b ≡ a
+max_is_left a b h = omega (arith, ints, clamps)
+
+max_is_right : (a b : ℤ) → a ≤ℤ b → int_max a b ≡ b
+max_is_right a b h = omega (arith, ints, clamps)
+
+max_times : (k : ℕ) (a b : ℤ) → int_max (pos k *ℤ a) (pos k *ℤ b) ≡ pos k *ℤ int_max a b
+max_times k a b =
+    elim (le_total a b) [
+      | inl le ↦ max_is_right _ _ (zmul_le k a b le) ∙ ap (λ (x : ℤ). pos k *ℤ x) (sym (max_is_right a b le))
+      | inr le ↦ max_is_left _ _ (zmul_le k b a le) ∙ ap (λ (x : ℤ). pos k *ℤ x) (sym (max_is_left a b le))
+    ]
+
+-- the greatest of k times each is k times the greatest
+pub greatest_times : (k : ℕ) (f : ℕ → ℤ) (xs : List ℕ) → greatest (λ x. pos k *ℤ f x) xs ≡ pos k *ℤ greatest f xs
+greatest_times k f [] = sym (*ℤ-zero (pos k))
+greatest_times k f (x ∷ []) = refl
+greatest_times k f (x ∷ (y ∷ ys)) =
+    ap (int_max (pos k *ℤ f x)) (greatest_times k f (y ∷ ys)) ∙ max_times k (f x) (greatest f (y ∷ ys))
 
 -- ---- over the numbers below n
 

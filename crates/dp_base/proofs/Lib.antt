@@ -17,3 +17,4 @@ mod ShapeRows
 pub mod Shortest
 pub mod SignificandLaws
 pub mod Sums
+pub mod AllOfLists

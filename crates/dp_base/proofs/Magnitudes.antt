@@ -9,18 +9,18 @@ use Rattle.std.proofs.lemmas.List.Folds.{length-prefix_len}
 use Rattle.dp_base.specs.declared.decimal.Decimal.{Decimal}
 use Rattle.dp_base.specs.declared.decimal.NumFault.{NumFault}
 use Rattle.dp_base.specs.DecimalShape.{first, digit_count, after_digits, is_exponent, is_magnitude}
-use Rattle.dp_base.specs.Decimals.{significand, raised, lowered, tens_more, tens_less, judged, shortest, magnitude_where}
+use Rattle.dp_base.specs.Decimals.{significand, numerator_tens, denominator_tens, tens_more, tens_less, judged, shortest, magnitude_where}
 
--- of a significand, raised and lowered
+-- of a significand over and under powers of ten
 abbrev value : Bool → ℕ → ℕ → ℕ → Result Decimal NumFault
 value negative n up down = judged (shortest negative (n * 10 ^ up) down)
 
 -- the answer, from the parts of the number
 by_parts : (negative : Bool) (number : List ℕ) (n up down : ℕ) → is_magnitude number ≡ true → significand number ≡ n
-    → raised number ≡ up → lowered number ≡ down
+    → numerator_tens number ≡ up → denominator_tens number ≡ down
     → magnitude_where (is_magnitude number) negative number ≡ value negative n up down
 by_parts negative number n up down shape e f g =
-    ap (λ b. magnitude_where b negative number) shape ∙ ap (λ k. value negative k (raised number) (lowered number)) e ∙ ap (λ k. value negative n k (lowered number)) f ∙ ap (value negative n up) g
+    ap (λ b. magnitude_where b negative number) shape ∙ ap (λ k. value negative k (numerator_tens number) (denominator_tens number)) e ∙ ap (λ k. value negative n k (denominator_tens number)) f ∙ ap (value negative n up) g
 
 module _ (number : List ℕ) where
   -- what stands behind its first digits
@@ -38,13 +38,13 @@ module _ (number : List ℕ) where
     unfolding significand
     pointed_digits = rw hit refl
 
-    pointed_raised : raised number ≡ tens_more (after_digits (drop 1 rest))
-    unfolding raised
-    pointed_raised = rw hit refl
+    pointed_numerator : numerator_tens number ≡ tens_more (after_digits (drop 1 rest))
+    unfolding numerator_tens
+    pointed_numerator = rw hit refl
 
-    pointed_lowered : lowered number ≡ digit_count (drop 1 rest) + tens_less (after_digits (drop 1 rest))
-    unfolding lowered
-    pointed_lowered = rw (hit, length-prefix_len is_ascii_digit (drop 1 rest)) refl
+    pointed_denominator : denominator_tens number ≡ digit_count (drop 1 rest) + tens_less (after_digits (drop 1 rest))
+    unfolding denominator_tens
+    pointed_denominator = rw (hit, length-prefix_len is_ascii_digit (drop 1 rest)) refl
 
   -- without one
   module _ (miss : eqb (first rest) 46 ≡ false) where
@@ -55,13 +55,13 @@ module _ (number : List ℕ) where
     unfolding significand
     plain_digits = rw (miss, append-nil (take_while is_ascii_digit number)) refl
 
-    plain_raised : raised number ≡ tens_more rest
-    unfolding raised
-    plain_raised = rw miss refl
+    plain_numerator : numerator_tens number ≡ tens_more rest
+    unfolding numerator_tens
+    plain_numerator = rw miss refl
 
-    plain_lowered : lowered number ≡ 0 + tens_less rest
-    unfolding lowered
-    plain_lowered = rw miss refl
+    plain_denominator : denominator_tens number ≡ 0 + tens_less rest
+    unfolding denominator_tens
+    plain_denominator = rw miss refl
 
 -- the digits at the front of a number, and what stands behind them
 pub record Begins (number rest : List ℕ) (count : ℕ) : Type 0 where
@@ -85,7 +85,7 @@ same_pointed negative number rest after exponent whole fraction b p none exp =
     let hit : eqb (first (after_digits number)) 46 ≡ true = rw (← b.count_is, ← b.rest_is) (eq-eqb (first rest) 46 p.point_is) in
     let some : ltb 0 (digit_count number + digit_count (drop 1 (after_digits number))) ≡ true = rw (← b.count_is, ← b.rest_is, ← p.after_is, ← p.count_is) (lt-ltb 0 (whole + fraction) (omega arith)) in
     let shape : is_exponent (after_digits (drop 1 (after_digits number))) ≡ true = rw (← b.count_is, ← b.rest_is, ← p.after_is, ← p.count_is, ← p.exponent_is) exp in
-    rw (p.exponent_is, p.count_is, p.after_is, b.rest_is, b.count_is) (sym (by_parts negative number _ _ _ (pointed_shape number hit some shape) (pointed_digits number hit) (pointed_raised number hit) (pointed_lowered number hit)))
+    rw (p.exponent_is, p.count_is, p.after_is, b.rest_is, b.count_is) (sym (by_parts negative number _ _ _ (pointed_shape number hit some shape) (pointed_digits number hit) (pointed_numerator number hit) (pointed_denominator number hit)))
 
 -- and for one without
 pub same_plain : (negative : Bool) (number rest : List ℕ) (whole : ℕ) → Begins number rest whole
@@ -96,4 +96,4 @@ same_plain negative number rest whole b other none exp =
     let miss : eqb (first (after_digits number)) 46 ≡ false = rw (← b.count_is, ← b.rest_is) (ne_eqb (first rest) 46 other) in
     let some : ltb 0 (digit_count number) ≡ true = rw (← b.count_is) (lt-ltb 0 whole (omega arith)) in
     let shape : is_exponent (after_digits number) ≡ true = rw (← b.count_is, ← b.rest_is) exp in
-    rw (b.rest_is, b.count_is) (sym (by_parts negative number _ _ _ (plain_shape number miss some shape) (plain_digits number miss) (plain_raised number miss) (plain_lowered number miss)))
+    rw (b.rest_is, b.count_is) (sym (by_parts negative number _ _ _ (plain_shape number miss some shape) (plain_digits number miss) (plain_numerator number miss) (plain_denominator number miss)))

@@ -50,3 +50,7 @@ filter-IsIn p a (x ∷ xs) h = kept_in p a x xs (p x) refl (filter-IsIn p a xs) 
 pub filter_all : (p : ℕ → Bool) (xs : List ℕ) → ((x : ℕ) → p x ≡ true) → filter p xs ≡ xs
 filter_all p [] h = refl
 filter_all p (x ∷ xs) h = rw (h x, filter_all p xs h)
+
+-- tests that agree keep the same
+pub filter_same : {X : Type 0} (p q : X → Bool) (xs : List X) → ((x : X) → p x ≡ q x) → filter p xs ≡ filter q xs
+filter_same {X} p q xs same = ap (λ (test : X → Bool). filter test xs) (λ i x. same x i)

@@ -101,3 +101,15 @@ some_of_sum (suc n) f h = omega arith
 -- where a sum is 0 each number is
 pub nat_sum_none : (n : ℕ) (f : ℕ → ℕ) → nat_sum n f ≡ 0 → (i : ℕ) → i < n → f i ≡ 0
 nat_sum_none n f e i h = let one = nat_sum_at n f i h in omega arith
+
+-- a sum of more numbers
+pub nat_sum_plus : (n k : ℕ) (f : ℕ → ℕ) → nat_sum (n + k) f ≡ nat_sum n f + nat_sum k (λ j. f (n + j))
+nat_sum_plus n zero f = let e : n + zero ≡ n = omega arith in rw e (omega arith)
+nat_sum_plus n (suc k) f =
+    let e : n + suc k ≡ suc (n + k) = omega arith in let rest = nat_sum_plus n k f in rw e (omega arith)
+
+-- a sum over the numbers below a product, row by row
+pub nat_sum_prod : (n k : ℕ) (f : ℕ → ℕ) → nat_sum (n * k) f ≡ nat_sum n (λ i. nat_sum k (λ j. f (i * k + j)))
+nat_sum_prod zero k f = let e : zero * k ≡ 0 = omega arith in rw e refl
+nat_sum_prod (suc n) k f =
+    let e : suc n * k ≡ n * k + k = omega arith in rw (e, nat_sum_plus (n * k) k f, nat_sum_prod n k f) refl

@@ -57,6 +57,10 @@ max_is_either a b = elim (le_total a b) [ inl le ↦ inr (omega (arith, ints, cl
 pub min_is_either : (a b : ℤ) → (int_min a b ≡ a) ⊎ (int_min a b ≡ b)
 min_is_either a b = elim (le_total a b) [ inl le ↦ inl (omega (arith, ints, clamps)) | inr le ↦ inr (omega (arith, ints, clamps)) ]
 
+-- the smaller of two is at most the second
+pub min_le_right : (a b : ℤ) → int_min a b ≤ℤ b
+min_le_right a b = omega (arith, ints, clamps)
+
 -- ---- cases of natural numbers
 
 -- at most is equal or less

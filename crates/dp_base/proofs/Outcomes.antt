@@ -9,14 +9,14 @@ use Rattle.dp_base.specs.declared.decimal.Decimal.{Decimal}
 use Rattle.dp_base.specs.declared.decimal.NumFault.{NumFault}
 use Rattle.dp_base.specs.declared.decimal.NumFault.TheVariants.{Shape, Large, Digits}
 use Rattle.dp_base.specs.DecimalShape.{first, unsigned, is_magnitude, is_decimal}
-use Rattle.dp_base.specs.Decimals.{significand, raised, lowered, signed, Writes, WritesShortest, IsLarge, IsSmall, HasTooManyDigits, shortest, judged, decimal_of, IsRead}
+use Rattle.dp_base.specs.Decimals.{significand, numerator_tens, denominator_tens, signed, Writes, WritesShortest, IsLarge, IsSmall, HasTooManyDigits, shortest, judged, decimal_of, IsRead}
 use Rattle.dp_base.proofs.SignificandLaws.{some_tens, times_ten}
 use Rattle.dp_base.proofs.Shortest.{decimal_with, unsigned_abs-signed}
 
 -- ---- a decimal with the least digits
 
 -- n / 10 ^ k is v / 10 ^ down, by j tens that cancel
-pub record Lowered (v down n k j : ℕ) : Type 0 where
+pub record IsReduced (v down n k j : ℕ) : Type 0 where
   pub sum : j + k ≡ down
   pub value : n * 10 ^ j ≡ v
   pub ends : 0 < k → n % 10 ≢ 0
@@ -27,11 +27,11 @@ pub record ShortestForm (negative : Bool) (v down : ℕ) : Type 0 where
   pub k : ℕ
   pub j : ℕ
   pub is : shortest negative v down ≡ decimal_with negative n k
-  pub lowered : Lowered v down n k j
+  pub reduced : IsReduced v down n k j
 
 -- a whole number is its own
 at_zero_digits : (negative : Bool) (v : ℕ) → ShortestForm negative v 0
-at_zero_digits negative v = record { n = v; k = 0; j = 0; is = refl; lowered = record { sum = refl; value = omega arith; ends = λ lt. absurd (omega arith) } }
+at_zero_digits negative v = record { n = v; k = 0; j = 0; is = refl; reduced = record { sum = refl; value = omega arith; ends = λ lt. absurd (omega arith) } }
 
 -- a number that ends in 0 has that of its tenth
 ten_less : (negative : Bool) (v down : ℕ) → v % 10 ≡ 0 → ShortestForm negative (v / 10) down
@@ -41,12 +41,12 @@ ten_less negative v down none rest = record {
   k = rest.k;
   j = rest.j + 1;
   is = rw none rest.is;
-  lowered = record { sum = omega (arith, rest.lowered.sum); value = omega (arith, times_ten rest.n rest.j, rest.lowered.value); ends = rest.lowered.ends };
+  reduced = record { sum = omega (arith, rest.reduced.sum); value = omega (arith, times_ten rest.n rest.j, rest.reduced.value); ends = rest.reduced.ends };
 }
 
 -- one that does not is its own
 not_less : (negative : Bool) (v down : ℕ) → v % 10 ≢ 0 → ShortestForm negative v (suc down)
-not_less negative v down some = record { n = v; k = suc down; j = 0; is = rw (ne_eqb (v % 10) 0 some) refl; lowered = record { sum = omega arith; value = omega arith; ends = λ lt. some } }
+not_less negative v down some = record { n = v; k = suc down; j = 0; is = rw (ne_eqb (v % 10) 0 some) refl; reduced = record { sum = omega arith; value = omega arith; ends = λ lt. some } }
 
 -- it is as described
 pub shortest_form : (negative : Bool) (v down : ℕ) → ShortestForm negative v down
@@ -64,7 +64,7 @@ signed-mul true zero b = let e : 0 * b ≡ 0 = omega arith in rw e refl
 signed-mul true (suc a) b = refl
 
 -- the form writes it
-form_value : (s up down v n k j : ℕ) → v ≡ s * 10 ^ up → Lowered v down n k j → n * 10 ^ down ≡ s * 10 ^ (up + k)
+form_value : (s up down v n k j : ℕ) → v ≡ s * 10 ^ up → IsReduced v down n k j → n * 10 ^ down ≡ s * 10 ^ (up + k)
 form_value s up down v n k j e low =
     let down_is : 10 ^ down ≡ 10 ^ j * 10 ^ k = ap (λ (i : ℕ). 10 ^ i) (sym low.sum) ∙ pow-add 10 j k in
     let up_is : s * 10 ^ (up + k) ≡ s * (10 ^ up * 10 ^ k) = ap (λ p. s * p) (pow-add 10 up k) in
@@ -77,7 +77,7 @@ ends_in : (q n : ℕ) → q * 10 ≡ n → n % 10 ≡ 0
 ends_in q n e = omega arith
 
 -- and no form with fewer digits does
-form_least : (s up down v n k j m fewer : ℕ) → v ≡ s * 10 ^ up → Lowered v down n k j
+form_least : (s up down v n k j m fewer : ℕ) → v ≡ s * 10 ^ up → IsReduced v down n k j
     → m * 10 ^ down ≡ s * 10 ^ (up + fewer) → k ≤ fewer
 form_least s up down v n k j m fewer e low writes = elim (cases_lt fewer k) [ inr le ↦ le | inl lt ↦ absurd (less lt) ]
   where
@@ -106,32 +106,32 @@ module _ (text : List ℕ) where
 
   -- significand and tens
   abbrev tens : ℕ
-  tens = significand number * 10 ^ raised number
+  tens = significand number * 10 ^ numerator_tens number
 
   -- the decimal with the least digits
-  abbrev form : ShortestForm negative tens (lowered number)
-  form = shortest_form negative tens (lowered number)
+  abbrev form : ShortestForm negative tens (denominator_tens number)
+  form = shortest_form negative tens (denominator_tens number)
 
   -- it writes the number
   writes_form : Writes text (signed negative form.n) form.k
   writes_form =
-      signed-mul negative form.n (10 ^ lowered number)
-      ∙ ap (signed negative) (form_value (significand number) (raised number) (lowered number) tens form.n form.k form.j refl form.lowered)
-      ∙ sym (signed-mul negative (significand number) (10 ^ (raised number + form.k)))
+      signed-mul negative form.n (10 ^ denominator_tens number)
+      ∙ ap (signed negative) (form_value (significand number) (numerator_tens number) (denominator_tens number) tens form.n form.k form.j refl form.reduced)
+      ∙ sym (signed-mul negative (significand number) (10 ^ (numerator_tens number + form.k)))
 
   -- magnitudes of two ways to write it
   magnitude_is : (units : ℤ) (digits : ℕ) → Writes text units digits
-      → unsigned_abs units * 10 ^ lowered number ≡ significand number * 10 ^ (raised number + digits)
+      → unsigned_abs units * 10 ^ denominator_tens number ≡ significand number * 10 ^ (numerator_tens number + digits)
   magnitude_is units digits writes =
-      sym (unsigned_abs-mul units (pos (10 ^ lowered number)))
+      sym (unsigned_abs-mul units (pos (10 ^ denominator_tens number)))
       ∙ ap unsigned_abs writes
-      ∙ unsigned_abs-mul (signed negative (significand number)) (pos (10 ^ (raised number + digits)))
-      ∙ ap (λ n. n * 10 ^ (raised number + digits)) (unsigned_abs-signed negative (significand number))
+      ∙ unsigned_abs-mul (signed negative (significand number)) (pos (10 ^ (numerator_tens number + digits)))
+      ∙ ap (λ n. n * 10 ^ (numerator_tens number + digits)) (unsigned_abs-signed negative (significand number))
 
   -- with the least digits
   least_form : (units : ℤ) (digits : ℕ) → Writes text units digits → form.k ≤ digits
   least_form units digits writes =
-      form_least (significand number) (raised number) (lowered number) tens form.n form.k form.j (unsigned_abs units) digits refl form.lowered (magnitude_is units digits writes)
+      form_least (significand number) (numerator_tens number) (denominator_tens number) tens form.n form.k form.j (unsigned_abs units) digits refl form.reduced (magnitude_is units digits writes)
 
   -- both
   shortest_writes : WritesShortest text (signed negative form.n) form.k
@@ -139,18 +139,18 @@ module _ (text : List ℕ) where
 
   -- the number is at least 10 ^ 18 where the decimal is
   large_form : 10 ^ (18 + form.k) ≤ form.n → IsLarge text
-  large_form le = large (lowered number) tens form.n form.k form.j form.lowered le
+  large_form le = large (denominator_tens number) tens form.n form.k form.j form.reduced le
     where
-      large : (down v n k j : ℕ) → Lowered v down n k j → 10 ^ (18 + k) ≤ n → 10 ^ (18 + down) ≤ v
+      large : (down v n k j : ℕ) → IsReduced v down n k j → 10 ^ (18 + k) ≤ n → 10 ^ (18 + down) ≤ v
       large down v n k j low le =
           let e : 10 ^ (18 + down) ≡ 10 ^ (18 + k) * 10 ^ j = ap (λ (i : ℕ). 10 ^ i) (omega (arith, low.sum)) ∙ pow-add 10 (18 + k) j in
           omega (arith, e, low.value, mul-le-mul_right (10 ^ j) le)
 
   -- and below it where that is below
   small_form : form.n < 10 ^ (18 + form.k) → IsSmall text
-  small_form lt = small (lowered number) tens form.n form.k form.j form.lowered lt
+  small_form lt = small (denominator_tens number) tens form.n form.k form.j form.reduced lt
     where
-      small : (down v n k j : ℕ) → Lowered v down n k j → n < 10 ^ (18 + k) → v < 10 ^ (18 + down)
+      small : (down v n k j : ℕ) → IsReduced v down n k j → n < 10 ^ (18 + k) → v < 10 ^ (18 + down)
       small down v n k j low lt =
           let e : 10 ^ (18 + down) ≡ 10 ^ (18 + k) * 10 ^ j = ap (λ (i : ℕ). 10 ^ i) (omega (arith, low.sum)) ∙ pow-add 10 (18 + k) j in
           let all : (n + 1) * 10 ^ j ≤ 10 ^ (18 + k) * 10 ^ j = mul-le-mul_right (10 ^ j) (omega arith) in

@@ -11,8 +11,8 @@ abbrev pub minus : ℕ
 minus = 45
 
 -- `.`, the decimal point
-abbrev pub point : ℕ
-point = 46
+abbrev pub decimal_point : ℕ
+decimal_point = 46
 
 -- `_`, which may stand in names
 abbrev pub underscore : ℕ
@@ -24,4 +24,4 @@ is_sign b = b == plus || b == minus
 
 -- the bytes of which names and numbers consist: letters `A-Z a-z`, digits, `_`, `.`, `+` and `-`
 abbrev pub is_name_byte : ℕ → Bool
-is_name_byte b = ((is_ascii_alphanumeric b || b == underscore) || b == point) || is_sign b
+is_name_byte b = ((is_ascii_alphanumeric b || b == underscore) || b == decimal_point) || is_sign b

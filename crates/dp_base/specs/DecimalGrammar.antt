@@ -2,7 +2,7 @@
 use Rattle.std.specs.Prelude.{◌≡◌, ℕ, ◌+◌, ◌<◌, ◌≤◌, ◌⊎◌, ⊤, IsTrue, List, [], ◌∷◌, ◌++◌, length}
 use Rattle.std.specs.List.{list_all}
 use Rattle.std.specs.Char.{is_ascii_digit}
-use Rattle.dp_base.specs.Bytes.{is_sign, point}
+use Rattle.dp_base.specs.Bytes.{is_sign, decimal_point}
 
 -- digits, or nothing
 abbrev pub AreDigits : List ℕ → Type 0
@@ -17,7 +17,7 @@ IsOptionalSign (b ∷ c ∷ rest) = ⊥
 -- nothing, or a point
 abbrev pub IsOptionalPoint : List ℕ → Type 0
 IsOptionalPoint [] = ⊤
-IsOptionalPoint (b ∷ []) = b ≡ point
+IsOptionalPoint (b ∷ []) = b ≡ decimal_point
 IsOptionalPoint (b ∷ c ∷ rest) = ⊥
 
 -- an optional sign and one to three digits

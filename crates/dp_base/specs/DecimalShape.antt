@@ -3,7 +3,7 @@
 use Rattle.std.specs.Prelude.{ℕ, ◌+◌, Bool, ◌&&◌, ◌||◌, ◌==◌, nat_lt, nat_le, if◌then◌else◌, List, length, drop, slice_index}
 use Rattle.std.specs.List.{prefix_len, list_all}
 use Rattle.std.specs.Char.{is_ascii_digit}
-use Rattle.dp_base.specs.Bytes.{is_sign, point}
+use Rattle.dp_base.specs.Bytes.{is_sign, decimal_point}
 
 -- the first byte, or 0
 abbrev pub first : List ℕ → ℕ
@@ -33,7 +33,7 @@ is_exponent text = length text == 0 || ((first text == 101 || first text == 69) 
 abbrev pub is_magnitude : List ℕ → Bool
 is_magnitude text =
     let rest = after_digits text in
-    if first rest == point
+    if first rest == decimal_point
     then nat_lt 0 (digit_count text + digit_count (drop 1 rest)) && is_exponent (after_digits (drop 1 rest))
     else nat_lt 0 (digit_count text) && is_exponent rest
 

@@ -6,7 +6,7 @@ use Rattle.std.specs.Str.Parse.{digits_value}
 use Rattle.dp_base.specs.declared.decimal.Decimal.{Decimal}
 use Rattle.dp_base.specs.declared.decimal.NumFault.{NumFault}
 use Rattle.dp_base.specs.declared.decimal.NumFault.TheVariants.{Shape, Large, Digits}
-use Rattle.dp_base.specs.Bytes.{minus, point}
+use Rattle.dp_base.specs.Bytes.{minus, decimal_point}
 use Rattle.dp_base.specs.DecimalShape.{first, unsigned, after_digits, is_magnitude}
 
 -- ---- the parts of a number without its sign
@@ -17,11 +17,11 @@ whole number = take_while is_ascii_digit number
 
 -- of what stands behind them, the digits behind a point, or none
 abbrev pub fraction : List ℕ → List ℕ
-fraction rest = if first rest == point then take_while is_ascii_digit (drop 1 rest) else []
+fraction rest = if first rest == decimal_point then take_while is_ascii_digit (drop 1 rest) else []
 
 -- and what stands behind these, which is the exponent with its letter, or nothing
 abbrev pub exponent : List ℕ → List ℕ
-exponent rest = if first rest == point then after_digits (drop 1 rest) else rest
+exponent rest = if first rest == decimal_point then after_digits (drop 1 rest) else rest
 
 -- the power of ten by which an exponent multiplies, 0 where it has a minus sign
 abbrev pub tens_more : List ℕ → ℕ
@@ -31,19 +31,19 @@ tens_more power = if slice_index power 1 == minus then 0 else digits_value 10 (u
 abbrev pub tens_less : List ℕ → ℕ
 tens_less power = if slice_index power 1 == minus then digits_value 10 (unsigned (drop 1 power)) else 0
 
--- ---- what it writes: its significand times ten to the power `raised`, divided by ten to the power `lowered`
+-- ---- what it writes: its significand times ten to the power `numerator_tens`, divided by ten to the power `denominator_tens`
 
 -- all its digits as one number
 unfoldable pub significand : List ℕ → ℕ
 significand number = digits_value 10 (whole number ++ fraction (after_digits number))
 
 -- the power of ten by which the significand is multiplied
-unfoldable pub raised : List ℕ → ℕ
-raised number = tens_more (exponent (after_digits number))
+unfoldable pub numerator_tens : List ℕ → ℕ
+numerator_tens number = tens_more (exponent (after_digits number))
 
 -- the power of ten by which the significand is divided: its fraction digits, and what the exponent adds
-unfoldable pub lowered : List ℕ → ℕ
-lowered number = length (fraction (after_digits number)) + tens_less (exponent (after_digits number))
+unfoldable pub denominator_tens : List ℕ → ℕ
+denominator_tens number = length (fraction (after_digits number)) + tens_less (exponent (after_digits number))
 
 -- n with a sign
 abbrev pub signed : Bool → ℕ → ℤ
@@ -53,7 +53,7 @@ signed negative n = if negative then neg_ℤ (pos n) else pos n
 abbrev pub Writes : List ℕ → ℤ → ℕ → Type 0
 Writes text units digits =
     let number = unsigned text in
-    (units *ℤ pos (10 ^ lowered number)) ≡ (signed (first text == minus) (significand number) *ℤ pos (10 ^ (raised number + digits)))
+    (units *ℤ pos (10 ^ denominator_tens number)) ≡ (signed (first text == minus) (significand number) *ℤ pos (10 ^ (numerator_tens number + digits)))
 
 -- and no fewer digits do
 pub record WritesShortest (text : List ℕ) (units : ℤ) (digits : ℕ) : Type 0 where
@@ -62,11 +62,11 @@ pub record WritesShortest (text : List ℕ) (units : ℤ) (digits : ℕ) : Type 
 
 -- the magnitude of the number that the text writes is at least 10 ^ 18
 abbrev pub IsLarge : List ℕ → Type 0
-IsLarge text = let number = unsigned text in 10 ^ (18 + lowered number) ≤ significand number * 10 ^ raised number
+IsLarge text = let number = unsigned text in 10 ^ (18 + denominator_tens number) ≤ significand number * 10 ^ numerator_tens number
 
 -- or below that
 abbrev pub IsSmall : List ℕ → Type 0
-IsSmall text = let number = unsigned text in significand number * 10 ^ raised number < 10 ^ (18 + lowered number)
+IsSmall text = let number = unsigned text in significand number * 10 ^ numerator_tens number < 10 ^ (18 + denominator_tens number)
 
 -- it is small, and the least number of its fraction digits is more than 18
 pub record HasTooManyDigits (text : List ℕ) (digits : ℕ) : Type 0 where
@@ -93,7 +93,7 @@ judged d = if is_large d then Err Large else if nat_lt 18 d.digits then Err (Dig
 
 -- what is read from a number without its sign, where that is of the decimal shape
 abbrev pub magnitude_where : Bool → Bool → List ℕ → Result Decimal NumFault
-magnitude_where true negative number = judged (shortest negative (significand number * 10 ^ raised number) (lowered number))
+magnitude_where true negative number = judged (shortest negative (significand number * 10 ^ numerator_tens number) (denominator_tens number))
 magnitude_where false negative number = Err Shape
 
 -- what is read from a text

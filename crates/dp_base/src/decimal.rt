@@ -107,13 +107,18 @@ fn power_of(digits: &[u8]) -> u32
     power
 }
 
-/// A significand times ten to the power `raised`, divided by ten to the power `lowered`, in the least
+/// A significand times ten to the power `numerator_tens`, divided by ten to the power `denominator_tens`, in the least
 /// fraction digits.
-fn judge(negative: bool, seen: Significand, raised: u32, lowered: u32) -> Result<Decimal, NumFault>
-    requires room { seen.len + seen.zeros + raised < 2 ^ 31 }
-    requires lowered { lowered < 2 ^ 31 }
+fn judge(
+    negative: bool,
+    seen: Significand,
+    numerator_tens: u32,
+    denominator_tens: u32,
+) -> Result<Decimal, NumFault>
+    requires room { seen.len + seen.zeros + numerator_tens < 2 ^ 31 }
+    requires denominator_tens { denominator_tens < 2 ^ 31 }
     ensures { (ds : List ℕ) → IsSeen ds seen →
-        result ≡ judged (shortest negative (digits_value 10 ds * 10 ^ raised) lowered) }
+        result ≡ judged (shortest negative (digits_value 10 ds * 10 ^ numerator_tens) denominator_tens) }
 {
     if seen.len == 0 {
         return Ok(Decimal {
@@ -121,9 +126,9 @@ fn judge(negative: bool, seen: Significand, raised: u32, lowered: u32) -> Result
             digits: 0,
         });
     }
-    let tens = seen.zeros + raised;
-    if tens >= lowered {
-        let more = tens - lowered;
+    let tens = seen.zeros + numerator_tens;
+    if tens >= denominator_tens {
+        let more = tens - denominator_tens;
         if seen.len + more > 18 {
             return Err(NumFault::Large);
         }
@@ -132,7 +137,7 @@ fn judge(negative: bool, seen: Significand, raised: u32, lowered: u32) -> Result
             digits: 0,
         });
     }
-    let digits = lowered - tens;
+    let digits = denominator_tens - tens;
     if seen.len > 18 + digits {
         return Err(NumFault::Large);
     }

@@ -6,7 +6,7 @@ use Rattle.dp_io.specs.declared.shelf.FetchFault.{FetchFault}
 use Rattle.dp_io.specs.declared.shelf.FetchFault.TheVariants as faults
 use Rattle.dp_io.specs.Shelf.{Entry, ShelfView, Fetches, is_failed, fault_count}
 use Rattle.dp_io.specs.declared.sink.SinkFailed.{SinkFailed}
-use Rattle.dp_io.specs.Sink.{SinkView}
+use Rattle.dp_io.specs.Sink.{SinkView, Puts}
 use Rattle.dp_words.specs.declared.job.Job.{Job}
 use Rattle.dp_cli.specs.declared.refusal.FileRole.{FileRole}
 use Rattle.dp_cli.specs.declared.status.Status.{Status}
@@ -155,6 +155,13 @@ pub kept_status : (reply : Result (Unit {0}) SinkFailed) (status result : Status
     → result ≢ statuses.WriteFault → result ≡ status
 kept_status (Ok done) status result ended h = ended
 kept_status (Err fault) status result ended h = absurd (h ended)
+
+-- it put the text of its answer
+pub kept_put : (reply : Result (Unit {0}) SinkFailed) {old new : SinkView} {text : List ℕ} (status result : Status)
+    → Puts old new text reply → result ≡ status_after reply status → result ≢ statuses.WriteFault
+    → Puts {T = Unit {0}} {E = SinkFailed} old new text (Ok tt)
+kept_put (Ok done) status result put ended h = put
+kept_put (Err fault) status result put ended h = absurd (h ended)
 
 pub read_fault_runs : (job : Option Job) {shelf shelf' : ShelfView} {sink sink' : SinkView} {result : Status}
     → Runs job shelf shelf' sink sink' result

@@ -17,8 +17,8 @@ use Rattle.dp_cli.specs.Command.{Command, File}
 use Rattle.dp_cli.specs.Put.{status_after}
 use Rattle.dp_cli.specs.Refusal.{most_bytes}
 use Rattle.dp_cli.specs.Run.{IsAnswerToFault, Answers, Runs}
-use Rattle.dp_cli.proofs.Causes.{after_entry}
-use Rattle.dp_cli.proofs.Commands.{claims_hold}
+use Rattle.dp_cli.proofs.Causes.{after_entry, kept_put, kept_status}
+use Rattle.dp_cli.proofs.Commands.{command_is_sound}
 use Rattle.dp_cli.proofs.Statuses.{fault_apart}
 
 -- no file is held, wherever the contents are told
@@ -93,28 +93,20 @@ worked {command} {files} {texts} {old} {new} {answer} (Answers.goes_on file text
     }
 worked Answers.wants_memory e = cc
 
--- a call that is done did not fail to put its answer
-done_puts : (old new : SinkView) (answer : Answer) (reply : Result (Unit {0}) SinkFailed) (result : Status)
-    → Puts old new answer.text reply → result ≡ status_after reply answer.status → result ≡ statuses.Done
-    → (answer.status ≡ statuses.Done) × (Puts {T = Unit {0}} {E = SinkFailed} old new answer.text (Ok tt))
-done_puts old new answer (Ok done) result put ended e = (sym ended ∙ e, put)
-done_puts old new answer (Err fault) result put ended e = cc
-
 -- A job that is done was given its files, and what its command claims is so.
 pub certified : (job : Option Job) (shelf shelf' : ShelfView) (sink sink' : SinkView) (result : Status)
     → Runs job shelf shelf' sink sink' result → result ≡ statuses.Done
     → IsCertified job shelf shelf' sink sink'
 certified None shelf shelf' sink sink' result h done =
-    let puts = done_puts sink sink' h.answer h.puts.reply result h.puts.put h.puts.ended done in
-    let status = puts.0 in
+    let status = sym (kept_status h.puts.reply _ _ h.puts.ended (λ fault. cc)) ∙ done in
     ⊎_elim (λ is. absurd cc) (λ is. absurd cc) h.replies.1
 certified (Some job) shelf shelf' sink sink' result h done =
-    let puts = done_puts sink sink' h.answer h.puts.reply result h.puts.put h.puts.ended done in
-    let work = worked h.replies puts.0 in
+    let status = sym (kept_status h.puts.reply _ _ h.puts.ended (λ fault. cc)) ∙ done in
+    let work = worked h.replies status in
     record {
       texts = work.more;
       given = work.given;
       text = h.answer.text;
-      put = puts.1;
-      claims = claims_hold job work.more h.answer.text work.fine work.is_text;
+      put = kept_put h.puts.reply _ _ h.puts.put h.puts.ended (λ fault. cc);
+      claims = (command_is_sound job).claims work.more h.answer.text work.fine work.is_text;
     }

@@ -1,11 +1,9 @@
--- What each command claims is so where nothing is wrong and the text is its: its own proof has it.
-use Rattle.std.proofs.Common.{◌≡◌, ℕ, List, None}
+-- Each command is sound: its own proof has it.
 use Rattle.dp_words.specs.declared.job.Job.{Job}
 use Rattle.dp_words.specs.declared.job.Job.TheVariants.{Plan}
 use Rattle.dp_cli.specs.Commands.{command_of}
-use Rattle.dp_cli.proofs.PlanClaims.{plan_claims}
+use Rattle.dp_cli.proofs.PlanIsSound.{plan_is_sound}
+use Rattle.dp_cli.proofs.Sound.{IsSound}
 
-pub claims_hold : (job : Job) (texts : List (List ℕ)) (text : List ℕ) → (command_of job).fault texts ≡ None
-    → (command_of job).IsText texts text
-    → (command_of job).Claims texts text
-claims_hold (Plan job) texts text fine h = plan_claims job.horizon texts text h
+pub command_is_sound : (job : Job) → IsSound (command_of job)
+command_is_sound (Plan job) = plan_is_sound job

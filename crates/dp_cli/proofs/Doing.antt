@@ -1,11 +1,19 @@
 -- How a command goes on, by what the steps of the code do. A command's own proof cites `lacks_file`,
--- `stops_by` and `works_by`.
-use Rattle.std.proofs.Common.{◌≡◌, ◌≢◌, ℕ, List, [], ◌∷◌, Option, Some, None, Result, Ok, Err, Vec, String, IfOk, IfErr, ◌⊎◌, string_bytes, inl, inr, ⊎_elim, refl, sym, ap, subst}
+-- `stops_by`, `works_by` and `works_on`, and for its model `lacks_model` and `has_model`.
+use Rattle.std.proofs.Common.{◌≡◌, ◌≢◌, ℕ, List, [], ◌∷◌, ◌++◌, Option, Some, None, Result, Ok, Err, Vec, String, IfOk, IfErr, ◌⊎◌, string_bytes, inl, inr, ⊎_elim, refl, sym, ap, ◌∙◌, subst}
 use Rattle.std.specs.declared.alloc.Global.{Global}
 use Rattle.dp_io.specs.declared.shelf.FetchFault.{FetchFault}
 use Rattle.dp_io.specs.declared.shelf.FetchFault.TheVariants.{Failed, TooLong, Memory}
-use Rattle.dp_io.specs.Shelf.{ShelfView}
+use Rattle.dp_io.specs.Shelf.{ShelfView, Fetches}
 use Rattle.dp_io.specs.Sink.{SinkView}
+use Rattle.dp_meaning.specs.Meaning as meant
+use Rattle.dp_meaning.specs.Meaning.{FaultAt, Meaning, Means, Passes, meaning}
+use Rattle.dp_spec.specs.Model.{Model}
+use Rattle.dp_reader.specs.declared.build.ReadModel.{ReadModel}
+use Rattle.dp_reader.specs.declared.fault.ModelFault.{ModelFault}
+use Rattle.dp_reader.specs.declared.fault.ModelFault.TheVariants as model_faults
+use Rattle.dp_reader.specs.Reading.{IsMeaning, meant_model}
+use Rattle.dp_cli.specs.declared.refusal.JobFault.{JobFault}
 use Rattle.dp_base.specs.declared.memory.Memory.{Memory as MemoryFault}
 use Rattle.dp_words.specs.declared.job.Job.{Job}
 use Rattle.dp_words.specs.declared.job.WordFault.{WordFault}
@@ -17,11 +25,12 @@ use Rattle.dp_cli.specs.declared.refusal.Refusal.TheVariants as refusals
 use Rattle.dp_cli.specs.declared.status.Status.{Status}
 use Rattle.dp_cli.specs.declared.status.Status.TheVariants as statuses
 use Rattle.dp_cli.specs.Answer.{Answer, refused, done, GivesText, Stops}
-use Rattle.dp_cli.specs.Command.{Command, File}
+use Rattle.dp_cli.specs.Command.{Command, File, model_file}
+use Rattle.dp_cli.specs.ModelText.{model_fault}
 use Rattle.dp_cli.specs.Put.{PutsAnswer}
-use Rattle.dp_cli.specs.Refusal.{fetch_refusal, word_refusal}
+use Rattle.dp_cli.specs.Refusal.{fetch_refusal, model_refusal, most_bytes, word_refusal}
 use Rattle.dp_cli.specs.Run.{IsAnswerToFault, Answers, Replies, Runs}
-use Rattle.dp_cli.specs.Steps.{answer_of, FetchesFile, PutsOutcome}
+use Rattle.dp_cli.specs.Steps.{answer_of, FetchesFile, FetchesModel, PutsOutcome}
 use Rattle.dp_cli.proofs.Statuses.{fault_apart}
 
 -- a fault of a fetch is answered by its refusal
@@ -54,6 +63,67 @@ pub works_by : {command : Command} {texts : List (List ℕ)} {shelf : ShelfView}
     → Answers command [] texts shelf shelf (answer_of result)
 works_by (Ok text) h = Answers.works h.0 h.1
 works_by (Err refusal) h = stops_by refusal h
+
+-- a command that has been given its last file answers what its code gives of the bytes
+pub works_on : {command : Command} {texts : List (List ℕ)} {old new : ShelfView} {bytes : List ℕ} (file : File)
+    (text : Vec ℕ Global) (result : Result (Vec ℕ Global) Refusal) → command.fault texts ≡ None
+    → Fetches old new file.name (most_bytes file.role) (Ok text)
+    → bytes ≡ text.items
+    → GivesText (command.fault (texts ++ bytes ∷ [])) (λ t. command.IsText (texts ++ bytes ∷ []) t) result
+    → Answers command (file ∷ []) texts old new (answer_of result)
+works_on {command} {texts} file text result fine fetched is h =
+    Answers.goes_on file text fine fetched
+    (works_by result
+    (subst (λ (bs : List ℕ). GivesText (command.fault (texts ++ bs ∷ [])) (λ t. command.IsText (texts ++ bs ∷ []) t) result) is h))
+
+-- A command whose first file is a model
+
+-- what is wrong with a file that means no model is so whatever may be wrong with a model
+stops_as : (after : Model → Option JobFault) (meant : Meaning) (refusal : Refusal) → Stops (model_fault (λ m. None) meant) refusal
+    → Stops (model_fault after meant) refusal
+stops_as after (FaultAt place why) refusal h = h
+stops_as after (Passes passed) refusal h = h
+stops_as after (Means read) refusals.Usage h = h
+stops_as after (Means read) (refusals.Read role) h = h
+stops_as after (Means read) (refusals.Fault fault) h = cc
+stops_as after (Means read) refusals.Memory h = h
+
+-- a text that is not read is refused by what is wrong with it
+pub stops_reading : (bytes : List ℕ) (fault : ModelFault) → IsMeaning (meaning bytes) (Err fault)
+    → Stops (model_fault (λ m. None) (meaning bytes)) (model_refusal fault)
+stops_reading bytes (model_faults.At line column why) h = ap (λ (m : Meaning). model_fault (λ m. None) m) h
+stops_reading bytes (model_faults.TooLarge passed) h = ap (λ (m : Meaning). model_fault (λ m. None) m) h
+stops_reading bytes model_faults.Memory h = tt
+
+-- it answers why, where the file was not given or means no model
+pub lacks_model : {command : Command} {files : List File} {old new : ShelfView} (name : List ℕ) (refusal : Refusal)
+    (after : Model → Option JobFault) → command.fault [] ≡ None
+    → ((text : List ℕ) → command.fault (text ∷ []) ≡ model_fault after (meaning text))
+    → FetchesModel old new name (Err refusal)
+    → Answers command (model_file name ∷ files) [] old new (refused refusal)
+lacks_model name refusal after fine faults (inl fetched) = lacks_file (model_file name) refusal fine fetched
+lacks_model name refusal after fine faults (inr read) =
+    let stops = stops_as after (meaning read.0.items) refusal read.2 in
+    Answers.goes_on (model_file name) read.0 fine read.1
+    (stops_by refusal (subst (λ (fault : Option JobFault). Stops fault refusal) (sym (faults read.0.items)) stops))
+
+-- and it goes on with what the file means
+pub has_model : {command : Command} {files : List File} {old between new : ShelfView} {answer : Answer} (name : List ℕ)
+    (read : ReadModel) → command.fault [] ≡ None
+    → FetchesModel old between name (Ok read)
+    → ((text : List ℕ) → meaning text ≡ Means (meant_model read) → Answers command files (text ∷ []) between new answer)
+    → Answers command (model_file name ∷ files) [] old new answer
+has_model name read fine fetched rest =
+    Answers.goes_on (model_file name) fetched.0 fine fetched.1 (rest fetched.0.items fetched.2)
+
+-- What code gives of the model that a text means is what it gives of the text.
+pub gives_of_model : {read : meant.ReadModel} {Old New : List ℕ → Type 0} (text : List ℕ) (fault : Model → Option JobFault)
+    (result : Result (Vec ℕ Global) Refusal) → meaning text ≡ Means read
+    → ((t : List ℕ) → Old t → New t)
+    → GivesText (fault read.model.model) Old result → GivesText (model_fault fault (meaning text)) New result
+gives_of_model text fault (Ok t) means to h = (ap (λ (m : Meaning). model_fault fault m) means ∙ h.0, to t.items h.1)
+gives_of_model text fault (Err refusal) means to h =
+    subst (λ (f : Option JobFault). Stops f refusal) (sym (ap (λ (m : Meaning). model_fault fault m) means)) h
 
 -- Memory may run out over each answer but that of a fetch that failed.
 or_memory : {command : Command} {files : List File} {texts : List (List ℕ)} {old new : ShelfView} {answer : Answer}

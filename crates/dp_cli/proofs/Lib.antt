@@ -1,8 +1,12 @@
 mod Causes
+mod Certificates
 mod Certifying
 mod Commands
 mod Doing
+mod FileLimits
 mod Finding
-mod PlanClaims
+mod PlanIsSound
+mod Sound
 mod Statuses
 mod Telling
+mod TooLong

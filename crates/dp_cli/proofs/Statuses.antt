@@ -1,5 +1,6 @@
 -- The statuses of refusals and of answers.
-use Rattle.std.proofs.Common.{◌≡◌, ◌≢◌, ℕ, List, Option, Some, None, ap}
+use Rattle.std.proofs.Common.{◌≡◌, ◌≢◌, ℕ, List, Option, Some, None, refl, ap}
+use Rattle.dp_model.specs.declared.limit.TooLarge.{TooLarge}
 use Rattle.dp_cli.specs.declared.refusal.JobFault.{JobFault}
 use Rattle.dp_cli.specs.declared.refusal.JobFault.TheVariants as job_faults
 use Rattle.dp_cli.specs.declared.refusal.Refusal.{Refusal}
@@ -12,17 +13,18 @@ use Rattle.dp_cli.specs.Refusal.{fault_status}
 pub status_of : {answer other : Answer} → answer ≡ other → answer.status ≡ other.status
 status_of e = ap (λ (a : Answer). a.status) e
 
--- the status of something that is wrong with the texts is none of these
-pub record IsOfFault (status : Status) : Type 0 where
-  pub done : status ≢ statuses.Done
-  pub usage : status ≢ statuses.Usage
-  pub read : status ≢ statuses.ReadFault
+-- the status of something that is wrong with the texts is none of these, and is that of a limit for one alone
+pub record IsOfFault (fault : JobFault) : Type 0 where
+  pub done : fault_status fault ≢ statuses.Done
+  pub usage : fault_status fault ≢ statuses.Usage
+  pub read : fault_status fault ≢ statuses.ReadFault
+  pub limit : fault_status fault ≡ statuses.TooLarge → (passed : TooLarge) × (fault ≡ job_faults.TooLarge passed)
 
 -- each fault has one line here
-pub fault_apart : (fault : JobFault) → IsOfFault (fault_status fault)
-fault_apart (job_faults.BadModel line column why) = record { done = λ e. cc; usage = λ e. cc; read = λ e. cc }
-fault_apart (job_faults.TooLarge passed) = record { done = λ e. cc; usage = λ e. cc; read = λ e. cc }
-fault_apart (job_faults.Unbuilt part) = record { done = λ e. cc; usage = λ e. cc; read = λ e. cc }
+pub fault_apart : (fault : JobFault) → IsOfFault fault
+fault_apart (job_faults.BadModel line column why) = record { done = λ e. cc; usage = λ e. cc; read = λ e. cc; limit = λ e. cc }
+fault_apart (job_faults.TooLarge passed) = record { done = λ e. cc; usage = λ e. cc; read = λ e. cc; limit = λ e. (passed, refl) }
+fault_apart (job_faults.Unbuilt part) = record { done = λ e. cc; usage = λ e. cc; read = λ e. cc; limit = λ e. cc }
 
 -- the status of an answer
 pub answer_status : (refusal : Option Refusal) (IsText : List ℕ → Type 0) (answer : Answer)

@@ -1,11 +1,12 @@
 -- The causes of what a call answers, by the log of its shelf, by what was given, and by what the shelf tells.
-use Rattle.std.specs.Prelude.{◌≡◌, ℕ, ◌+◌, List, [], ◌∷◌, ◌++◌, map, length, Option, Some, None, Result, Ok, Err, IfSome}
+use Rattle.std.specs.Prelude.{◌≡◌, ◌≢◌, ◌<◌, ℕ, ◌+◌, List, [], ◌∷◌, ◌++◌, map, length, Option, Some, None, Result, Ok, Err, IfSome}
 use Rattle.dp_io.specs.FetchLaws.{fetch_answer}
 use Rattle.dp_io.specs.declared.shelf.Ending.TheVariants.{Given, Failed, Long}
 use Rattle.dp_io.specs.Shelf.{Contents, Entry, ShelfView}
 use Rattle.dp_io.specs.declared.shelf.FetchFault.{FetchFault}
 use Rattle.dp_io.specs.declared.sink.SinkFailed.{SinkFailed}
 use Rattle.dp_io.specs.Sink.{SinkView, Puts}
+use Rattle.dp_model.specs.declared.limit.TooLarge.{TooLarge}
 use Rattle.dp_words.specs.declared.job.Job.{Job}
 use Rattle.dp_cli.specs.declared.refusal.FileRole.{FileRole}
 use Rattle.dp_cli.specs.declared.refusal.JobFault.{JobFault}
@@ -15,7 +16,7 @@ use Rattle.dp_cli.specs.declared.status.Status.{Status}
 use Rattle.dp_cli.specs.declared.status.Status.TheVariants as statuses
 use Rattle.dp_cli.specs.Command.{Command, File}
 use Rattle.dp_cli.specs.Commands.{command_of}
-use Rattle.dp_cli.specs.Refusal.{fetch_refusal, long_file, most_bytes, refusal_status}
+use Rattle.dp_cli.specs.Refusal.{fetch_refusal, large_line, long_file, most_bytes, refusal_status, role_limit}
 
 -- the names of the files that a job may ask for, in their order
 abbrev pub files_of : Option Job → List (List ℕ)
@@ -117,18 +118,49 @@ abbrev pub IsCertified : Option Job → ShelfView → ShelfView → SinkView →
 IsCertified None shelf shelf' sink sink' = ⊥
 IsCertified (Some job) shelf shelf' sink sink' = IsDone (command_of job) shelf shelf' sink sink'
 
+-- Nothing was wrong with these texts, nor with these and the first of the next ones, and so on: the last of
+-- the next ones was asked for.
+abbrev pub AreFineBefore : Command → List (List ℕ) → List (List ℕ) → Type 0
+AreFineBefore command texts [] = Unit {0}
+AreFineBefore command texts (text ∷ more) = (command.fault texts ≡ None) × AreFineBefore command (texts ++ text ∷ []) more
+
 -- The cause of a refusal, or of none, of a command that asks for these files next and has been given
 -- these texts, by what was appended to the log and what was given: a file failed, or was too long, or
--- something is wrong with the texts that were given, or nothing is.
+-- something is wrong with the texts that were given and was not before the last of them, or nothing is.
 pub data IsCause (command : Command) (files : List File) (texts : List (List ℕ)) (old new : ShelfView) : Option Refusal → Type 0 where
   failed : (file : File) (front rest : List File) → files ≡ front ++ file ∷ rest
       → new.log ≡ old.log ++ (map given_entry front ++ record { name = file.name; ending = Failed } ∷ [])
       → IsCause command files texts old new (Some (refusals.Read file.role))
   long : (file : File) (count : ℕ) (front rest : List File) → files ≡ front ++ file ∷ rest
       → new.log ≡ old.log ++ (map given_entry front ++ record { name = file.name; ending = Long count } ∷ [])
+      → most_bytes file.role < count
       → IsCause command files texts old new (Some (long_file file.role count))
   wrong : (fault : JobFault) (more : List (List ℕ)) (front rest : List File) → files ≡ front ++ rest
-      → AreGiven front more old new → command.fault (texts ++ more) ≡ Some fault
+      → AreGiven front more old new → AreFineBefore command texts more → command.fault (texts ++ more) ≡ Some fault
       → IsCause command files texts old new (Some (refusals.Fault fault))
-  nothing : (more : List (List ℕ)) → AreGiven files more old new → command.fault (texts ++ more) ≡ None
+  nothing : (more : List (List ℕ)) → AreGiven files more old new → AreFineBefore command texts more → command.fault (texts ++ more) ≡ None
       → IsCause command files texts old new None
+
+-- The last of the fetches that were appended to the log is of the file of this role, which has so many
+-- bytes, more than it may have; those before it were given.
+pub record LastLong (files : List File) (role : FileRole) (count : ℕ) (old new : List Entry) : Type 0 where
+  pub file : File
+  pub is_of : file.role ≡ role
+  pub front : List File
+  pub rest : List File
+  pub asked : files ≡ front ++ file ∷ rest
+  pub appended : new ≡ old ++ (map given_entry front ++ record { name = file.name; ending = Long count } ∷ [])
+  pub over : most_bytes role < count
+
+-- A passed limit was told. Where it is that on the bytes of a file, and not that on the text of the command, the
+-- last fetch found this file too long, and the line has its number of bytes.
+pub record TellsLimit (command : Command) (shelf shelf' : ShelfView) (sink sink' : SinkView) : Type 0 where
+  pub passed : TooLarge
+  pub put : Puts {T = Unit {0}} {E = SinkFailed} sink sink' (large_line passed) (Ok tt)
+  pub long : (role : FileRole) → passed.what ≡ role_limit role → command.text_limit ≢ Some passed.what →
+      LastLong command.files role passed.count shelf.log shelf'.log
+
+-- the same of a job; words that give none pass no limit
+abbrev pub TellsLimitOf : Option Job → ShelfView → ShelfView → SinkView → SinkView → Type 0
+TellsLimitOf None shelf shelf' sink sink' = ⊥
+TellsLimitOf (Some job) shelf shelf' sink sink' = TellsLimit (command_of job) shelf shelf' sink sink'

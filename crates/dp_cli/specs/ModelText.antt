@@ -1,7 +1,9 @@
--- The model of the bytes of a file.
+-- The model of the bytes of a file, and what is wrong with bytes that mean none.
 use Rattle.std.specs.Prelude.{ℕ, List, Option, Some, None}
 use Rattle.dp_spec.specs.Model.{Model}
 use Rattle.dp_meaning.specs.Meaning.{Meaning, Means, FaultAt, Passes, meaning}
+use Rattle.dp_cli.specs.declared.refusal.JobFault.{JobFault}
+use Rattle.dp_cli.specs.declared.refusal.JobFault.TheVariants as job_faults
 
 -- the model of a meaning, where it is one
 abbrev pub model_meant : Meaning → Option Model
@@ -12,3 +14,9 @@ model_meant (Passes passed) = None
 -- the model that these bytes mean, where they mean one
 abbrev pub model_of_text : List ℕ → Option Model
 model_of_text bytes = model_meant (meaning bytes)
+
+-- what is wrong with a file by what it means, or else what is wrong with its model
+abbrev pub model_fault : (Model → Option JobFault) → Meaning → Option JobFault
+model_fault fault (FaultAt place why) = Some (job_faults.BadModel place.line place.column why)
+model_fault fault (Passes passed) = Some (job_faults.TooLarge passed)
+model_fault fault (Means read) = fault read.model.model

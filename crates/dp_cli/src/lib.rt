@@ -4,7 +4,7 @@
 
 ghost use Rattle.std.specs.Prelude.{◌≡◌, ◌≢◌, ◌+◌, ◌<◌, ◌^◌, ◌↔◌, None, length, map, string_bytes, IfSome};
 ghost use Rattle.dp_words.specs.Words.{job_of};
-ghost use Rattle.dp_cli.specs.Causes.{files_of, first_refusal, IsCertified, LogsFirstOf, LastFailed, status_by};
+ghost use Rattle.dp_cli.specs.Causes.{files_of, first_refusal, IsCertified, LogsFirstOf, LastFailed, status_by, TellsLimitOf};
 ghost use Rattle.dp_cli.specs.Put.{PutsOrMemory};
 ghost use Rattle.dp_cli.specs.Run.{IsFound, Runs, RunsAsTold};
 
@@ -42,9 +42,10 @@ pub fn run<S: Shelf, W: Sink>(alloc: Global, words: &[String], shelf: &mut S, ou
 
     // Over every shelf and sink: Done tells that all the files of the job were given, that one text was
     // put, and that what the job's command claims of the bytes given and of this text is so. Of `plan`:
-    // the text is that of a certificate, over the horizon of the job, that is valid for the model of the
-    // file's bytes, the value of its policy lies in its interval, and no joint policy is worth more than
-    // the upper end.
+    // the text is that of a certificate, over the horizon and with the look of the job, that is valid for
+    // the model of the file's bytes, the value of its policy lies in its interval, and no joint policy is
+    // worth more than the upper end; where it is closed and exact, its ends are equal and its policy is
+    // optimal.
     ensures certified { result ≡ Status.Done → IsCertified (job_of (map string_bytes words.now))
         (S.view shelf.old) (S.view shelf.new) (W.view out.old) (W.view out.new) }
 
@@ -52,6 +53,11 @@ pub fn run<S: Shelf, W: Sink>(alloc: Global, words: &[String], shelf: &mut S, ou
     // too long, or else what is wrong with the bytes that were given, or nothing.
     ensures found { result ≢ Status.WriteFault → result ≢ Status.NoMemory →
         IsFound (job_of (map string_bytes words.now)) (S.view shelf.old) (S.view shelf.new) (W.view out.old) (W.view out.new) result }
+
+    // Over every shelf: where a limit on the bytes of a file is told, that of a command on its own text
+    // aside, the last file that was fetched is too long, and the line has its number of bytes.
+    ensures too_long { result ≡ Status.TooLarge → TellsLimitOf (job_of (map string_bytes words.now))
+        (S.view shelf.old) (S.view shelf.new) (W.view out.old) (W.view out.new) }
 
     // The exact cause of every status, and the line of every refusal, over a shelf that tells its contents.
     ensures cause { result ≢ Status.WriteFault → result ≢ Status.NoMemory →

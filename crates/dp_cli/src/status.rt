@@ -6,7 +6,7 @@ ghost use Rattle.dp_cli.specs.Status.{status_code};
 pub enum Status {
     /// The command did its work and put its text.
     Done,
-    /// The file that was to be checked is a text of the right form, and what it claims is not so.
+    /// The second file reads, and what it holds is not valid.
     Rejected,
     /// The words ask for no job.
     Usage,

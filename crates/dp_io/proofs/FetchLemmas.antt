@@ -5,7 +5,7 @@ use Rattle.std.proofs.lemmas.List.Sums.{sum_by-append}
 use Rattle.std.specs.declared.alloc.Global.{Global}
 use Rattle.dp_io.specs.declared.shelf.FetchFault.{FetchFault}
 use Rattle.dp_io.specs.declared.shelf.FetchFault.TheVariants as faults
-use Rattle.dp_io.specs.Shelf.{Contents, IsAsTold, IsWithin, fault_count, entries_of, is_failed}
+use Rattle.dp_io.specs.Shelf.{Contents, IsAsTold, IsAtMost, fault_count, entries_of, is_failed}
 use Rattle.dp_io.specs.FetchLaws.{RisesWith, FaultsRiseWithFailed, ToldFetchIsDetermined, fetched, fetch_of_held, fetch_answer}
 
 -- the count of faults grows by that of the appended entries
@@ -33,7 +33,7 @@ counted bytes most k is long = grind (arith, nat_tests)
 
 -- a fetch that answers by the contents answers what they determine
 determined : (contents : Contents) (number : ℕ) (name : List ℕ) (most : ℕ) (result : Result (Vec ℕ Global) FetchFault)
-    → IsWithin most result → IsAsTold contents number name result
+    → IsAtMost most result → IsAsTold contents number name result
     → (result ≡ Err faults.Memory) ⊎ (fetched result ≡ fetch_answer contents number name most)
 determined contents number name most (Ok bytes) short h = inr (rw (h.0, h.1) (sym (given bytes.items most short)))
 determined contents number name most (Err faults.Failed) any h = inr (rw h refl)

@@ -48,11 +48,11 @@ texts_of (Ok bytes) = bytes.items ∷ []
 texts_of (Err fault) = []
 
 -- No more bytes are given than were asked for, and only what has more is too long.
-abbrev pub IsWithin : ℕ → Result (Vec ℕ Global) FetchFault → Type 0
-IsWithin most (Ok bytes) = length bytes.items ≤ most
-IsWithin most (Err faults.Failed) = Unit {0}
-IsWithin most (Err (faults.TooLong k)) = most < k
-IsWithin most (Err faults.Memory) = Unit {0}
+abbrev pub IsAtMost : ℕ → Result (Vec ℕ Global) FetchFault → Type 0
+IsAtMost most (Ok bytes) = length bytes.items ≤ most
+IsAtMost most (Err faults.Failed) = Unit {0}
+IsAtMost most (Err (faults.TooLong k)) = most < k
+IsAtMost most (Err faults.Memory) = Unit {0}
 
 -- The contents agree with what the fetch of this number and name answered: it failed where it was
 -- to fail, gave all that the name holds, or counted it.
@@ -70,7 +70,7 @@ pub record Fetches (old new : ShelfView) (name : List ℕ) (most : ℕ) (result 
   -- what it gives is kept, for every shelf
   pub given : new.given ≡ old.given ++ texts_of result
   -- it gives at most so many bytes
-  pub within : IsWithin most result
+  pub within : IsAtMost most result
   -- where the contents are told, it answers by them; its number is the length of the log
   pub told : IfSome old.told (λ contents. IsAsTold contents (length old.log) name result)
   -- it changes neither what is held nor which fetches fail

@@ -4,7 +4,6 @@ ghost use Rattle.std.specs.Prelude.{◌≡◌, ◌++◌, [], ◌∷◌, length, 
 use crate::Ending;
 use dp_base::Memory;
 use std::alloc::Global;
-use std::marker::Model;
 
 /// The fetches of a shelf, the first of them first.
 #[derive(Drop)]
@@ -19,7 +18,7 @@ struct Logged {
     ending: Ending,
 }
 
-impl Model for Log {
+impl std::marker::Model for Log {
     ghost use Rattle.std.specs.Prelude.{List, map};
     ghost use Rattle.dp_io.specs.Shelf.{Entry};
 

@@ -7,7 +7,6 @@ ghost use Rattle.std.specs.Str.{bytes_eq};
 use crate::{Ending, FetchFault, Log, Shelf, Texts};
 use dp_base::Memory;
 use std::alloc::Global;
-use std::marker::Model;
 
 /// A shelf that holds what it was given, and fails where it was told to.
 ///
@@ -27,7 +26,7 @@ struct Held {
     bytes: Vec<u8>,
 }
 
-impl Model for MemShelf {
+impl std::marker::Model for MemShelf {
     ghost use Rattle.std.specs.Prelude.{map, reverse};
     ghost use Rattle.dp_io.specs.MemShelf.{MemShelfView};
 

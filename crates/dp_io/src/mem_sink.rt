@@ -4,7 +4,6 @@ ghost use Rattle.std.specs.Prelude.{◌≡◌, ◌<◌, ◌+◌, ◌++◌, ◌^�
 use crate::{Sink, SinkFailed, Texts};
 use dp_base::Memory;
 use std::alloc::Global;
-use std::marker::Model;
 
 /// A sink with room for so many bytes, which fails where it was told to.
 ///
@@ -21,7 +20,7 @@ pub struct MemSink {
     texts: Texts,
 }
 
-impl Model for MemSink {
+impl std::marker::Model for MemSink {
     ghost use Rattle.std.specs.Prelude.{◌≤◌, ◌*◌, ◌^◌, length, vec_capacity};
     ghost use Rattle.dp_io.specs.MemSink.{MemSinkView};
 

@@ -2,8 +2,6 @@
 ghost use Rattle.std.specs.Prelude.{◌≡◌, ◌++◌, [], ◌∷◌, List, ℕ};
 ghost use Rattle.std.specs.Borrow.{ftrue};
 
-use std::marker::Model;
-
 /// The texts that were taken so far, the first of them first. They stand in contracts alone: they
 /// take no memory, and nothing is done with them when the program runs.
 #[derive(Drop)]
@@ -11,7 +9,7 @@ pub struct Texts {
     pub ghost items: { List (List ℕ) },
 }
 
-impl Model for Texts {
+impl std::marker::Model for Texts {
     ghost also_owns = { λ _. ftrue };
 }
 

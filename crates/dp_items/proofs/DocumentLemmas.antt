@@ -11,12 +11,12 @@ use Rattle.dp_meaning.specs.declared.why.Why.TheVariants.{Expected}
 use Rattle.dp_meaning.specs.Faults.{fault}
 use Rattle.dp_meaning.specs.Items.{Piece, Item, piece_of, first_at, items_of, items_of_pieces}
 use Rattle.dp_meaning.specs.Meaning.{unless_lines}
-use Rattle.dp_items.specs.declared.line.LineSpan.{LineSpan}
-use Rattle.dp_items.specs.declared.item_span.ItemSpan.{ItemSpan}
-use Rattle.dp_items.specs.declared.item_span.ItemSpans.{ItemSpans}
+use Rattle.dp_items.specs.declared.line.LineRange.{LineRange}
+use Rattle.dp_items.specs.declared.item_range.ItemRange.{ItemRange}
+use Rattle.dp_items.specs.declared.item_range.ItemRanges.{ItemRanges}
 use Rattle.dp_items.specs.Tokens.{IsPieceOf, ArePiecesOf, pieces_of_text}
 use Rattle.dp_items.specs.Lines.{is_no_line_end, kept_pieces, line_of, item_of, AreOneRun, AreLinesOf}
-use Rattle.dp_items.specs.ItemSpans.{no_line, more_of, item_in, IsItemSpan, AreItemsOf}
+use Rattle.dp_items.specs.ItemRanges.{no_line, more_of, item_in, IsItemRange, AreItemsOf}
 use Rattle.dp_items.specs.Documents.{with_end, items_of_text, IsDocument}
 use Rattle.dp_items.proofs.PieceLemmas.{pieces_of_tokens}
 
@@ -42,12 +42,12 @@ pieces_of_kept bytes (t ∷ ts) = chosen (is_no_line_end t.kind) ∙ ap (λ (l :
     chosen true = refl
     chosen false = refl
 
-module _ (bytes : List ℕ) (tokens : List Token) (lines : List LineSpan) where
+module _ (bytes : List ℕ) (tokens : List Token) (lines : List LineRange) where
   pub lines_are_one_run : AreLinesOf (length bytes) (pieces_of_text bytes tokens) lines
       → AreOneRun 0 lines (length (pieces_of_text bytes (kept_tokens tokens)))
   lines_are_one_run are = subst (λ (l : List Piece). AreOneRun 0 lines (length l)) (sym (pieces_of_kept bytes tokens)) are.one_run
 
-  module _ (items : ItemSpans) (lines_are : AreLinesOf (length bytes) (pieces_of_text bytes tokens) lines)
+  module _ (items : ItemRanges) (lines_are : AreLinesOf (length bytes) (pieces_of_text bytes tokens) lines)
       (items_are : AreItemsOf (length bytes) (pieces_of_text bytes (kept_tokens tokens)) lines items) where
     pub is_document : AreTokensOf bytes tokens → length bytes ≤ 2 ^ 26
         → IsDocument bytes (kept_tokens tokens) lines items (length bytes)
@@ -65,7 +65,7 @@ module _ (bytes : List ℕ) (tokens : List Token) (lines : List LineSpan) where
         ∙ ap (λ (l : List Piece). items_of (length bytes) (map (line_of l) lines)) (pieces_of_kept bytes tokens)
         ∙ ap (items_of (length bytes)) lines_are.lines)
 
-pub first_line_stands : (end : ℕ) (pieces : List Piece) (lines : List LineSpan) (before : ℕ) (d : LineSpan)
+pub first_line_stands : (end : ℕ) (pieces : List Piece) (lines : List LineRange) (before : ℕ) (d : LineRange)
     → before ≢ 0 → before ≤ length lines
     → unless_lines end (map (line_of pieces) (take before lines))
     ≡ fault Expected (first_at end (line_of pieces (get_or lines 0 d)).pieces)
@@ -74,19 +74,19 @@ first_line_stands end pieces [] (suc n) d some h = absurd (omega arith)
 first_line_stands end pieces (line ∷ lines) (suc n) d some h = refl
 
 -- the item at a place, put together from its stretch
-pub item_there : (pieces : List Piece) (lines : List LineSpan) (items : List ItemSpan) (place : ℕ) (span : ItemSpan)
-    (first : LineSpan) (item : Item)
-    → place < length items → All (IsItemSpan pieces lines) items
-    → span ≡ get_or items place span → first ≡ get_or lines span.line first
-    → item ≡ item_of pieces first (more_of lines span) span.next
+pub item_there : (pieces : List Piece) (lines : List LineRange) (items : List ItemRange) (place : ℕ) (range : ItemRange)
+    (first : LineRange) (item : Item)
+    → place < length items → All (IsItemRange pieces lines) items
+    → range ≡ get_or items place range → first ≡ get_or lines range.line first
+    → item ≡ item_of pieces first (more_of lines range) range.next
     → slice_get (map (item_in pieces lines) items) place ≡ Some item
-item_there pieces lines items place span first item inside each span_is first_is item_is =
-    let is : IsItemSpan pieces lines span = subst (IsItemSpan pieces lines) (sym span_is) (each place span inside) in
+item_there pieces lines items place range first item inside each range_is first_is item_is =
+    let is : IsItemRange pieces lines range = subst (IsItemRange pieces lines) (sym range_is) (each place range inside) in
     let in_order = is.in_order in
     let within = is.within in
-    let line : get_or lines span.line no_line ≡ first = get_or_default lines span.line no_line first (omega arith) ∙ sym first_is in
+    let line : get_or lines range.line no_line ≡ first = get_or_default lines range.line no_line first (omega arith) ∙ sym first_is in
     slice_get-map (item_in pieces lines) items place
-    ∙ ap (option_map (item_in pieces lines)) (slice_get-get_or items place span inside)
-    ∙ ap (λ (s : ItemSpan). Some (item_in pieces lines s)) (sym span_is)
-    ∙ ap (λ (l : LineSpan). Some (item_of pieces l (more_of lines span) span.next)) line
+    ∙ ap (option_map (item_in pieces lines)) (slice_get-get_or items place range inside)
+    ∙ ap (λ (s : ItemRange). Some (item_in pieces lines s)) (sym range_is)
+    ∙ ap (λ (l : LineRange). Some (item_of pieces l (more_of lines range) range.next)) line
     ∙ ap Some (sym item_is)

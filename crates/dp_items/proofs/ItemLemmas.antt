@@ -6,7 +6,7 @@ use Rattle.std.proofs.Math.Seq.{take-add}
 use Rattle.std.proofs.lemmas.List.{length-append, length-take, drop-append-le, drop-drop, length-map}
 use Rattle.std.proofs.lemmas.Option.{slice_get_past}
 use Rattle.dp_meaning.specs.Items.{Piece, begins_item, pieces_of, value_pieces}
-use Rattle.dp_items.specs.declared.line.LineSpan.{LineSpan}
+use Rattle.dp_items.specs.declared.line.LineRange.{LineRange}
 use Rattle.dp_items.specs.Lines.{line_of, item_of, AreOneRun, IsItem}
 
 -- ---- stretches of a list
@@ -26,33 +26,33 @@ empty_stretch xs a = let none : a - a ≡ 0 = omega arith in rw none refl
 
 -- ---- runs of lines
 
-pub run_ahead : (from : ℕ) (spans : List LineSpan) (past : ℕ) → AreOneRun from spans past → from ≤ past
+pub run_ahead : (from : ℕ) (ranges : List LineRange) (past : ℕ) → AreOneRun from ranges past → from ≤ past
 run_ahead from [] past run = omega arith
-run_ahead from (span ∷ spans) past run =
+run_ahead from (range ∷ ranges) past run =
     let some = run.0.some in
-    let rest = run_ahead span.past spans past run.1 in omega arith
+    let rest = run_ahead range.past ranges past run.1 in omega arith
 
 -- a line of a run is a stretch
-pub run_at : (from : ℕ) (spans : List LineSpan) (past i : ℕ) (d : LineSpan) → AreOneRun from spans past
-    → i < length spans
-    → ((get_or spans i d).first < (get_or spans i d).past) × ((get_or spans i d).past ≤ past)
+pub run_at : (from : ℕ) (ranges : List LineRange) (past i : ℕ) (d : LineRange) → AreOneRun from ranges past
+    → i < length ranges
+    → ((get_or ranges i d).first < (get_or ranges i d).past) × ((get_or ranges i d).past ≤ past)
 run_at from [] past i d run h = absurd (omega arith)
-run_at from (span ∷ spans) past zero d run h =
+run_at from (range ∷ ranges) past zero d run h =
     let first = run.0.first in
     let some = run.0.some in
-    let rest = run_ahead span.past spans past run.1 in (omega arith, omega arith)
-run_at from (span ∷ spans) past (suc i) d run h = run_at span.past spans past i d run.1 (omega arith)
+    let rest = run_ahead range.past ranges past run.1 in (omega arith, omega arith)
+run_at from (range ∷ ranges) past (suc i) d run h = run_at range.past ranges past i d run.1 (omega arith)
 
 -- the pieces of a run are one stretch
-run_pieces : (pieces : List Piece) (from : ℕ) (spans : List LineSpan) (past : ℕ) → AreOneRun from spans past
-    → flat_map pieces_of (map (line_of pieces) spans) ≡ slice_range pieces from past
+run_pieces : (pieces : List Piece) (from : ℕ) (ranges : List LineRange) (past : ℕ) → AreOneRun from ranges past
+    → flat_map pieces_of (map (line_of pieces) ranges) ≡ slice_range pieces from past
 run_pieces pieces from [] past run = sym (ap (slice_range pieces from) (sym run) ∙ empty_stretch pieces from)
-run_pieces pieces from (span ∷ spans) past run =
+run_pieces pieces from (range ∷ ranges) past run =
     let some = run.0.some in
-    let ahead = run_ahead span.past spans past run.1 in
-    ap (λ (k : ℕ). slice_range pieces k span.past ++ flat_map pieces_of (map (line_of pieces) spans)) run.0.first
-    ∙ ap (λ (l : List Piece). slice_range pieces from span.past ++ l) (run_pieces pieces span.past spans past run.1)
-    ∙ stretches pieces from span.past past (omega arith) ahead
+    let ahead = run_ahead range.past ranges past run.1 in
+    ap (λ (k : ℕ). slice_range pieces k range.past ++ flat_map pieces_of (map (line_of pieces) ranges)) run.0.first
+    ∙ ap (λ (l : List Piece). slice_range pieces from range.past ++ l) (run_pieces pieces range.past ranges past run.1)
+    ∙ stretches pieces from range.past past (omega arith) ahead
 
 -- ---- items
 
@@ -61,7 +61,7 @@ begins_with_two [] e = absurd (cc)
 begins_with_two (p ∷ []) e = absurd (cc)
 begins_with_two (p ∷ q ∷ pieces) e = omega arith
 
-module _ (pieces : List Piece) (first : LineSpan) (more : List LineSpan) (past next : ℕ) (is : IsItem pieces first more past next) where
+module _ (pieces : List Piece) (first : LineRange) (more : List LineRange) (past next : ℕ) (is : IsItem pieces first more past next) where
   pub two : 2 ≤ length (slice_range pieces first.first first.past)
   two = begins_with_two _ is.begins
 
@@ -86,14 +86,14 @@ module _ (pieces : List Piece) (first : LineSpan) (more : List LineSpan) (past n
       ∙ ap (λ (l : List Piece). drop 2 (slice_range pieces first.first first.past) ++ l) (sym (run_pieces pieces first.past more past is.one_run))
 
 -- a line by its place
-pub line_by_place : (pieces : List Piece) (spans : List LineSpan) (i : ℕ) (d : LineSpan) → i < length spans
-    → slice_get (map pieces_of (map (line_of pieces) spans)) i
-    ≡ Some (slice_range pieces (get_or spans i d).first (get_or spans i d).past)
+pub line_by_place : (pieces : List Piece) (ranges : List LineRange) (i : ℕ) (d : LineRange) → i < length ranges
+    → slice_get (map pieces_of (map (line_of pieces) ranges)) i
+    ≡ Some (slice_range pieces (get_or ranges i d).first (get_or ranges i d).past)
 line_by_place pieces [] i d h = absurd (omega arith)
-line_by_place pieces (span ∷ spans) zero d h = refl
-line_by_place pieces (span ∷ spans) (suc i) d h = line_by_place pieces spans i d (omega arith)
+line_by_place pieces (range ∷ ranges) zero d h = refl
+line_by_place pieces (range ∷ ranges) (suc i) d h = line_by_place pieces ranges i d (omega arith)
 
-pub no_line : (pieces : List Piece) (spans : List LineSpan) (i : ℕ) → length spans ≤ i
-    → slice_get (map pieces_of (map (line_of pieces) spans)) i ≡ None
-no_line pieces spans i h =
-    slice_get_past _ i (rw (length-map (map (line_of pieces) spans) pieces_of, length-map spans (line_of pieces)) h)
+pub no_line : (pieces : List Piece) (ranges : List LineRange) (i : ℕ) → length ranges ≤ i
+    → slice_get (map pieces_of (map (line_of pieces) ranges)) i ≡ None
+no_line pieces ranges i h =
+    slice_get_past _ i (rw (length-map (map (line_of pieces) ranges) pieces_of, length-map ranges (line_of pieces)) h)

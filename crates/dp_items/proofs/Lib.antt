@@ -2,5 +2,5 @@ pub mod Places
 pub mod ItemLemmas
 pub mod PieceLemmas
 pub mod LineLemmas
-pub mod ItemSpanLemmas
+pub mod ItemRangeLemmas
 pub mod DocumentLemmas

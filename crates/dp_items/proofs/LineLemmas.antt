@@ -6,7 +6,7 @@ use Rattle.std.proofs.lemmas.Bool.Decides.{nat_tests}
 use Rattle.dp_lexer.specs.declared.Kind.{Kind}
 use Rattle.dp_lexer.specs.declared.Kind.TheVariants.{Word, Number, Colon, Star, LineEnd}
 use Rattle.dp_meaning.specs.Items.{Piece, Line, with_piece, lines_of, has_pieces}
-use Rattle.dp_items.specs.declared.line.LineSpan.{LineSpan}
+use Rattle.dp_items.specs.declared.line.LineRange.{LineRange}
 use Rattle.dp_items.specs.Lines.{is_no_line_end, kept_pieces, line_of, AreOneRun, unless_empty, AreLinesOf}
 use Rattle.dp_items.proofs.Places.{drop_at, drop_none}
 use Rattle.dp_items.proofs.ItemLemmas.{stretches, empty_stretch}
@@ -50,35 +50,35 @@ keeps p rest other = ap (λ b. cond b (p ∷ kept_pieces rest) (kept_pieces rest
 drops : (p : Piece) (rest : List Piece) → p.kind ≡ LineEnd → kept_pieces (p ∷ rest) ≡ kept_pieces rest
 drops p rest is = ap (λ k. cond (is_no_line_end k) (p ∷ kept_pieces rest) (kept_pieces rest)) is
 
-one_stretch : (b : Bool) (from : ℕ) (span : LineSpan) → nat_lt span.first span.past ≡ b → from ≡ span.first
-    → span.first ≤ span.past
-    → span.ends ≤ 2 ^ 26 → AreOneRun from (cond b (span ∷ []) []) span.past
-one_stretch true from span test run h limit = (record { first = sym run; some = grind (arith, nat_tests); limit = limit }, refl)
-one_stretch false from span test run h limit = grind (arith, nat_tests)
+one_stretch : (b : Bool) (from : ℕ) (range : LineRange) → nat_lt range.first range.past ≡ b → from ≡ range.first
+    → range.first ≤ range.past
+    → range.ends ≤ 2 ^ 26 → AreOneRun from (cond b (range ∷ []) []) range.past
+one_stretch true from range test run h limit = (record { first = sym run; some = grind (arith, nat_tests); limit = limit }, refl)
+one_stretch false from range test run h limit = grind (arith, nat_tests)
 
 pub none_of : {X : Type 0} (found : Option X) → ((x : X) → found ≡ Some x → ⊥) → found ≡ None
 none_of None other = refl
 none_of (Some x) other = absurd (other x refl)
 
 -- one more stretch, unless it is empty
-run_push : (from : ℕ) (spans : List LineSpan) (span : LineSpan) → AreOneRun from spans span.first
-    → span.first ≤ span.past → span.ends ≤ 2 ^ 26
-    → AreOneRun from (spans ++ unless_empty span) span.past
-run_push from [] span run h limit = one_stretch (nat_lt span.first span.past) from span refl run h limit
-run_push from (s ∷ spans) span run h limit = (run.0, run_push s.past spans span run.1 h limit)
+run_push : (from : ℕ) (ranges : List LineRange) (range : LineRange) → AreOneRun from ranges range.first
+    → range.first ≤ range.past → range.ends ≤ 2 ^ 26
+    → AreOneRun from (ranges ++ unless_empty range) range.past
+run_push from [] range run h limit = one_stretch (nat_lt range.first range.past) from range refl run h limit
+run_push from (s ∷ ranges) range run h limit = (run.0, run_push s.past ranges range run.1 h limit)
 
 module _ (end : ℕ) (pieces : List Piece) where
   abbrev kept : List Piece
   kept = kept_pieces pieces
 
   -- the lines so far, and the pieces of the next one
-  pub record AreLinesSoFar (spans : List LineSpan) (first past at : ℕ) : Type 0 where
+  pub record AreLinesSoFar (ranges : List LineRange) (first past at : ℕ) : Type 0 where
     pub in_order : first ≤ past
     pub behind : past ≤ at
     pub within : past ≤ length (kept_pieces pieces)
     pub left : drop past (kept_pieces pieces) ≡ kept_pieces (drop at pieces)
-    pub one_run : AreOneRun 0 spans first
-    pub so_far : map (line_of (kept_pieces pieces)) spans ++ filter has_pieces (onto (slice_range (kept_pieces pieces) first past) (lines_of end (drop at pieces)))
+    pub one_run : AreOneRun 0 ranges first
+    pub so_far : map (line_of (kept_pieces pieces)) ranges ++ filter has_pieces (onto (slice_range (kept_pieces pieces) first past) (lines_of end (drop at pieces)))
         ≡ filter has_pieces (lines_of end pieces)
 
   pub at_start : AreLinesSoFar [] 0 0 0
@@ -95,61 +95,61 @@ module _ (end : ℕ) (pieces : List Piece) where
   same_test first past len e = grind (arith, nat_tests)
 
   -- a line is dropped where its stretch is empty
-  shown : (span : LineSpan) (others : List Line) → span.past ≤ length kept
-      → filter has_pieces (line_of kept span ∷ others)
-      ≡ map (line_of kept) (unless_empty span) ++ filter has_pieces others
-  shown span others h =
-      let long : length (slice_range kept span.first span.past) ≡ span.past - span.first =
-      omega (arith, length-take (span.past - span.first) (drop span.first kept), length-drop span.first kept) in
-      ap (λ b. cond b (line_of kept span ∷ filter has_pieces others) (filter has_pieces others)) (same_test span.first span.past _ long)
-      ∙ chosen (nat_lt span.first span.past)
+  shown : (range : LineRange) (others : List Line) → range.past ≤ length kept
+      → filter has_pieces (line_of kept range ∷ others)
+      ≡ map (line_of kept) (unless_empty range) ++ filter has_pieces others
+  shown range others h =
+      let long : length (slice_range kept range.first range.past) ≡ range.past - range.first =
+      omega (arith, length-take (range.past - range.first) (drop range.first kept), length-drop range.first kept) in
+      ap (λ b. cond b (line_of kept range ∷ filter has_pieces others) (filter has_pieces others)) (same_test range.first range.past _ long)
+      ∙ chosen (nat_lt range.first range.past)
     where
-      chosen : (b : Bool) → cond b (line_of kept span ∷ filter has_pieces others) (filter has_pieces others)
-          ≡ map (line_of kept) (cond b (span ∷ []) []) ++ filter has_pieces others
+      chosen : (b : Bool) → cond b (line_of kept range ∷ filter has_pieces others) (filter has_pieces others)
+          ≡ map (line_of kept) (cond b (range ∷ []) []) ++ filter has_pieces others
       chosen true = refl
       chosen false = refl
 
   -- the lines so far with one that ends here
-  closes : (spans : List LineSpan) (span : LineSpan) (at : ℕ) (others : List Line)
-      → AreLinesSoFar spans span.first span.past at
-      → lines_of end (drop at pieces) ≡ record { pieces = []; ends = span.ends } ∷ others
-      → map (line_of kept) (spans ++ unless_empty span) ++ filter has_pieces others
+  closes : (ranges : List LineRange) (range : LineRange) (at : ℕ) (others : List Line)
+      → AreLinesSoFar ranges range.first range.past at
+      → lines_of end (drop at pieces) ≡ record { pieces = []; ends = range.ends } ∷ others
+      → map (line_of kept) (ranges ++ unless_empty range) ++ filter has_pieces others
       ≡ filter has_pieces (lines_of end pieces)
-  closes spans span at others so_far is =
-      let now : List Piece = slice_range kept span.first span.past in
-      let first : onto (slice_range kept span.first span.past) (lines_of end (drop at pieces)) ≡ line_of kept span ∷ others =
-      ap (onto now) is ∙ ap (λ (l : List Piece). record { pieces = l; ends = span.ends } ∷ others) (append-nil now) in
-      ap (λ (l : List Line). l ++ filter has_pieces others) (map-append (line_of kept) spans (unless_empty span))
-      ∙ append_assoc (map (line_of kept) spans) (map (line_of kept) (unless_empty span)) (filter has_pieces others)
-      ∙ ap (λ (l : List Line). map (line_of kept) spans ++ l) (sym (shown span others so_far.within))
-      ∙ ap (λ (l : List Line). map (line_of kept) spans ++ filter has_pieces l) (sym first)
+  closes ranges range at others so_far is =
+      let now : List Piece = slice_range kept range.first range.past in
+      let first : onto (slice_range kept range.first range.past) (lines_of end (drop at pieces)) ≡ line_of kept range ∷ others =
+      ap (onto now) is ∙ ap (λ (l : List Piece). record { pieces = l; ends = range.ends } ∷ others) (append-nil now) in
+      ap (λ (l : List Line). l ++ filter has_pieces others) (map-append (line_of kept) ranges (unless_empty range))
+      ∙ append_assoc (map (line_of kept) ranges) (map (line_of kept) (unless_empty range)) (filter has_pieces others)
+      ∙ ap (λ (l : List Line). map (line_of kept) ranges ++ l) (sym (shown range others so_far.within))
+      ∙ ap (λ (l : List Line). map (line_of kept) ranges ++ filter has_pieces l) (sym first)
       ∙ so_far.so_far
 
-  pub ends_line : (spans : List LineSpan) (span : LineSpan) (at : ℕ) (p : Piece)
-      → AreLinesSoFar spans span.first span.past at
-      → slice_get pieces at ≡ Some p → p.kind ≡ LineEnd → span.ends ≡ p.at → p.at < 2 ^ 26
-      → AreLinesSoFar (spans ++ unless_empty span) span.past span.past (at + 1)
+  pub ends_line : (ranges : List LineRange) (range : LineRange) (at : ℕ) (p : Piece)
+      → AreLinesSoFar ranges range.first range.past at
+      → slice_get pieces at ≡ Some p → p.kind ≡ LineEnd → range.ends ≡ p.at → p.at < 2 ^ 26
+      → AreLinesSoFar (ranges ++ unless_empty range) range.past range.past (at + 1)
   unfolding lines_of
-  ends_line spans span at p so_far here kind ends limit =
+  ends_line ranges range at p so_far here kind ends limit =
       let cut = drop_at pieces at p here in
       let others : List Line = lines_of end (drop (at + 1) pieces) in
-      let line : lines_of end (drop at pieces) ≡ record { pieces = []; ends = span.ends } ∷ lines_of end (drop (at + 1) pieces) =
+      let line : lines_of end (drop at pieces) ≡ record { pieces = []; ends = range.ends } ∷ lines_of end (drop (at + 1) pieces) =
       ap (lines_of end) cut ∙ ap (λ k. with_piece k p others) kind ∙ ap (λ e. record { pieces = []; ends = e } ∷ others) (sym ends) in
       record {
         in_order = omega arith;
         behind = (let behind = so_far.behind in omega arith);
         within = so_far.within;
         left = so_far.left ∙ ap kept_pieces cut ∙ drops p (drop (at + 1) pieces) kind;
-        one_run = run_push 0 spans span so_far.one_run so_far.in_order (omega arith);
-        so_far = ap (λ (l : List Piece). map (line_of kept) (spans ++ unless_empty span) ++ filter has_pieces (onto l others)) (empty_stretch kept span.past)
-            ∙ ap (λ (l : List Line). map (line_of kept) (spans ++ unless_empty span) ++ filter has_pieces l) (onto_none others)
-            ∙ closes spans span at others so_far line;
+        one_run = run_push 0 ranges range so_far.one_run so_far.in_order (omega arith);
+        so_far = ap (λ (l : List Piece). map (line_of kept) (ranges ++ unless_empty range) ++ filter has_pieces (onto l others)) (empty_stretch kept range.past)
+            ∙ ap (λ (l : List Line). map (line_of kept) (ranges ++ unless_empty range) ++ filter has_pieces l) (onto_none others)
+            ∙ closes ranges range at others so_far line;
       }
 
-  pub goes_on : (spans : List LineSpan) (first past at : ℕ) (p : Piece) → AreLinesSoFar spans first past at
-      → slice_get pieces at ≡ Some p → (p.kind ≡ LineEnd → ⊥) → AreLinesSoFar spans first (past + 1) (at + 1)
+  pub goes_on : (ranges : List LineRange) (first past at : ℕ) (p : Piece) → AreLinesSoFar ranges first past at
+      → slice_get pieces at ≡ Some p → (p.kind ≡ LineEnd → ⊥) → AreLinesSoFar ranges first (past + 1) (at + 1)
   unfolding lines_of
-  goes_on spans first past at p so_far here other =
+  goes_on ranges first past at p so_far here other =
       let cut = drop_at pieces at p here in
       let others : List Line = lines_of end (drop (at + 1) pieces) in
       let in_order = so_far.in_order in
@@ -167,20 +167,20 @@ module _ (end : ℕ) (pieces : List Piece) where
         within = (let size = ap length left in omega (arith, length-drop past kept));
         left = sym (drop-drop 1 past kept) ∙ ap (drop 1) left;
         one_run = so_far.one_run;
-        so_far = ap (λ (l : List Line). map (line_of kept) spans ++ filter has_pieces l) line ∙ so_far.so_far;
+        so_far = ap (λ (l : List Line). map (line_of kept) ranges ++ filter has_pieces l) line ∙ so_far.so_far;
       }
 
-  pub at_end : (spans : List LineSpan) (span : LineSpan) (at : ℕ) → AreLinesSoFar spans span.first span.past at
-      → slice_get pieces at ≡ None → span.ends ≡ end → end ≤ 2 ^ 26 → AreLinesOf end pieces (spans ++ unless_empty span)
+  pub at_end : (ranges : List LineRange) (range : LineRange) (at : ℕ) → AreLinesSoFar ranges range.first range.past at
+      → slice_get pieces at ≡ None → range.ends ≡ end → end ≤ 2 ^ 26 → AreLinesOf end pieces (ranges ++ unless_empty range)
   unfolding lines_of
-  at_end spans span at so_far none ends limit =
+  at_end ranges range at so_far none ends limit =
       let cut = drop_none pieces at none in
-      let line : lines_of end (drop at pieces) ≡ record { pieces = []; ends = span.ends } ∷ [] =
+      let line : lines_of end (drop at pieces) ≡ record { pieces = []; ends = range.ends } ∷ [] =
       ap (lines_of end) cut ∙ ap (λ e. record { pieces = []; ends = e } ∷ []) (sym ends) in
       let size = ap length (so_far.left ∙ ap kept_pieces cut) in
       let within = so_far.within in
-      let past : span.past ≡ length kept = omega (arith, length-drop span.past kept) in
+      let past : range.past ≡ length kept = omega (arith, length-drop range.past kept) in
       record {
-        one_run = subst (AreOneRun 0 (spans ++ unless_empty span)) past (run_push 0 spans span so_far.one_run so_far.in_order (omega arith));
-        lines = sym (append-nil (map (line_of kept) (spans ++ unless_empty span))) ∙ closes spans span at [] so_far line;
+        one_run = subst (AreOneRun 0 (ranges ++ unless_empty range)) past (run_push 0 ranges range so_far.one_run so_far.in_order (omega arith));
+        lines = sym (append-nil (map (line_of kept) (ranges ++ unless_empty range))) ∙ closes ranges range at [] so_far line;
       }

@@ -1,4 +1,4 @@
 pub mod Tokens
 pub mod Lines
-pub mod ItemSpans
+pub mod ItemRanges
 pub mod Documents

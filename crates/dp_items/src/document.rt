@@ -6,14 +6,13 @@ ghost use Rattle.dp_meaning.specs.Meaning.{unless_lines};
 ghost use Rattle.dp_items.specs.Documents.{with_end};
 
 use crate::item::Item;
-use crate::item_span::{ItemSpans, items_of};
-use crate::line::{LineSpan, lines_of, without_line_ends};
+use crate::item_range::{ItemRanges, items_of};
+use crate::line::{LineRange, lines_of, without_line_ends};
 use crate::pieces::Pieces;
 use dp_base::Memory;
 use dp_lexer::Token;
 use dp_meaning::{Fault, Why};
 use std::alloc::Global;
-use std::marker::Model;
 
 /// A text as its items, and the lines that stand before the first of them.
 #[derive(Drop)]
@@ -21,13 +20,13 @@ pub struct Document<'a> {
     bytes: &'a [u8],
     // Line ends aside.
     tokens: Vec<Token>,
-    lines: Vec<LineSpan>,
-    items: ItemSpans,
+    lines: Vec<LineRange>,
+    items: ItemRanges,
     // How many bytes the text has.
     end: u32,
 }
 
-impl<'a> Model for Document<'a> {
+impl<'a> std::marker::Model for Document<'a> {
     ghost use Rattle.dp_items.specs.Documents.{ItemsOfText, items_of_text, IsDocument};
 
     ghost Value = { ItemsOfText };
@@ -81,13 +80,13 @@ impl<'a> Document<'a> {
         requires { place < length self.now.items }
         ensures { slice_get self.now.items place ≡ Some result }
     {
-        let span = self.items.items[place];
+        let range = self.items.items[place];
         Item::of(
             Pieces::of(self.bytes, &self.tokens),
-            self.lines[span.line],
-            &self.lines[span.line + 1..span.lines_past],
-            span.past,
-            span.next,
+            self.lines[range.line],
+            &self.lines[range.line + 1..range.lines_past],
+            range.past,
+            range.next,
         )
     }
 

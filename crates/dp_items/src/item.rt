@@ -4,23 +4,22 @@ ghost use Rattle.dp_meaning.specs.Entries.{agent_lines};
 ghost use Rattle.dp_meaning.specs.Items.{after_colon, begins_item, item_at, pieces_of, value_pieces};
 ghost use Rattle.dp_items.specs.Lines.{item_of, IsItem};
 
-use crate::line::LineSpan;
+use crate::line::LineRange;
 use crate::pieces::Pieces;
-use std::marker::Model;
 
 /// An item of a text.
 #[derive(Drop)]
 pub struct Item<'a> {
     // Those of the whole text, line ends aside.
     pieces: Pieces<'a>,
-    first: LineSpan,
-    more: &'a [LineSpan],
+    first: LineRange,
+    more: &'a [LineRange],
     // Where the last line ends.
     past: usize,
     next: u32,
 }
 
-impl<'a> Model for Item<'a> {
+impl<'a> std::marker::Model for Item<'a> {
     ghost use Rattle.dp_meaning.specs.Items as spec;
     ghost use Rattle.dp_items.specs.Lines.{item_of, IsItem};
 
@@ -36,8 +35,8 @@ impl<'a> Item<'a> {
     #[inline]
     pub(crate) fn of(
         pieces: Pieces<'a>,
-        first: LineSpan,
-        more: &'a [LineSpan],
+        first: LineRange,
+        more: &'a [LineRange],
         past: usize,
         next: u32,
     ) -> Item<'a>
@@ -55,7 +54,7 @@ impl<'a> Item<'a> {
 
     /// What holds of every item. It does nothing.
     #[inline]
-    pub fn kept(&self)
+    pub fn invariant(&self)
         ensures begins { begins_item self.now.first.pieces ≡ true }
         ensures next { self.now.next ≤ 2 ^ 26 }
         ensures ends { self.now.first.ends ≤ 2 ^ 26 }
@@ -97,7 +96,7 @@ impl<'a> Item<'a> {
     pub fn after_colon(&self) -> Pieces<'a>
         ensures { result ≡ after_colon self.now }
     {
-        self.kept();
+        self.invariant();
         self.first_line().from(2)
     }
 

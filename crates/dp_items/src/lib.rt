@@ -3,7 +3,7 @@
 
 mod document;
 mod item;
-mod item_span;
+mod item_range;
 mod line;
 mod pieces;
 

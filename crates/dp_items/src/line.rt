@@ -10,7 +10,7 @@ use std::alloc::{AllocError, Global};
 /// The pieces from `first` up to `past`, line ends aside, and where the line's end stands, or the
 /// text's.
 #[derive(Clone, Copy)]
-pub(crate) struct LineSpan {
+pub(crate) struct LineRange {
     pub first: usize,
     pub past: usize,
     pub ends: u32,
@@ -27,7 +27,7 @@ pub(crate) fn without_line_ends(alloc: Global, tokens: &[Token]) -> Result<Vec<T
         .collect(alloc)
 }
 
-fn add_unless_empty(lines: &mut Vec<LineSpan>, line: LineSpan) -> Result<(), Memory>
+fn add_unless_empty(lines: &mut Vec<LineRange>, line: LineRange) -> Result<(), Memory>
     ensures { IfOk result (λ _. lines.new.items ≡ lines.old.items ++ unless_empty line) }
 {
     if line.first < line.past {
@@ -37,21 +37,21 @@ fn add_unless_empty(lines: &mut Vec<LineSpan>, line: LineSpan) -> Result<(), Mem
 }
 
 /// The lines that have pieces, of the pieces of a text that ends at `end`.
-pub(crate) fn lines_of(alloc: Global, end: u32, pieces: &Pieces) -> Result<Vec<LineSpan>, Memory>
+pub(crate) fn lines_of(alloc: Global, end: u32, pieces: &Pieces) -> Result<Vec<LineRange>, Memory>
     requires { end ≤ 2 ^ 26 }
     ensures { IfOk result (λ lines. AreLinesOf end pieces.now lines.items) }
 {
-    pieces.kept();
+    pieces.invariant();
     let mut lines = Vec::new(alloc);
     let mut first = 0;
     let mut past = 0;
     let mut at = 0;
     while let Some(piece) = pieces.get(at) {
         if let Kind::LineEnd = piece.kind() {
-            piece.kept();
+            piece.invariant();
             add_unless_empty(
                 &mut lines,
-                LineSpan {
+                LineRange {
                     first,
                     past,
                     ends: piece.at(),
@@ -65,7 +65,7 @@ pub(crate) fn lines_of(alloc: Global, end: u32, pieces: &Pieces) -> Result<Vec<L
     }
     add_unless_empty(
         &mut lines,
-        LineSpan {
+        LineRange {
             first,
             past,
             ends: end,

@@ -5,7 +5,6 @@ ghost use Rattle.dp_meaning.specs.Items.{first_at};
 ghost use Rattle.dp_items.specs.Tokens.{ArePiecesOf, IsPiece, pieces_of_text};
 
 use dp_lexer::{Kind, Token};
-use std::marker::Model;
 
 /// A token by its bytes, and the offset at which it stands.
 #[derive(Drop)]
@@ -15,7 +14,7 @@ pub struct Piece<'a> {
     text: &'a [u8],
 }
 
-impl<'a> Model for Piece<'a> {
+impl<'a> std::marker::Model for Piece<'a> {
     ghost use Rattle.dp_meaning.specs.Items as spec;
     ghost use Rattle.dp_items.specs.Tokens.{IsPiece};
 
@@ -29,7 +28,7 @@ impl<'a> Model for Piece<'a> {
 impl<'a> Piece<'a> {
     /// What holds of every piece. It does nothing.
     #[inline]
-    pub fn kept(&self)
+    pub fn invariant(&self)
         ensures { IsPiece self.now }
     {
         let _ = &self.at;
@@ -68,7 +67,7 @@ pub struct Pieces<'a> {
     tokens: &'a [Token],
 }
 
-impl<'a> Model for Pieces<'a> {
+impl<'a> std::marker::Model for Pieces<'a> {
     ghost use Rattle.std.specs.Prelude.{List};
     ghost use Rattle.dp_meaning.specs.Items as spec;
     ghost use Rattle.dp_items.specs.Tokens.{ArePiecesOf, pieces_of_text};
@@ -92,7 +91,7 @@ impl<'a> Pieces<'a> {
 
     /// What holds of all pieces. It does nothing.
     #[inline]
-    pub fn kept(&self)
+    pub fn invariant(&self)
         ensures { length self.now ≤ 2 ^ 26 }
     {
         let _ = self.len();
@@ -169,7 +168,7 @@ impl<'a> Pieces<'a> {
     {
         match self.get(0) {
             Some(first) => {
-                first.kept();
+                first.invariant();
                 first.at()
             }
             None => end,

@@ -1,5 +1,5 @@
 -- The joint actions that a well-formed front has fixed and those of a joint policy exist, and the weights of joint
--- histories and classes are weights where pushes are allowed.
+-- histories and classes are weights where weights can be updated.
 use Rattle.std.proofs.Common.{◌≡◌, ℕ, zero, suc, ◌+◌, ◌-◌, ◌<◌, ◌≤◌, pos, cond, eqb, List, [], ◌∷◌, sym, subst, arith}
 use Rattle.dp_laws.proofs.KeptActions.{history_length}
 use Rattle.dp_laws.proofs.OwnHistories.{Within, own_histories_within}
@@ -12,7 +12,7 @@ use Rattle.dp_spec.specs.JointHistory.{IsJointHistory, trees_after_history}
 use Rattle.dp_spec.specs.Model.{Model, joint_actions, joint_observations}
 use Rattle.dp_spec.specs.PolicyTree.{IsPolicyOf, PolicyTree}
 use Rattle.dp_spec.specs.Quantities.{class_weight_in, history_weight_in}
-use Rattle.dp_spec.specs.Sizes.{AreWeights, CanPush, weight_limit}
+use Rattle.dp_spec.specs.Sizes.{AreWeights, CanUpdateWeights, weight_limit}
 use Rattle.dp_spec.specs.SizesOfEarnings.{IsActing}
 use Rattle.dp_spec.specs.Value.{joint_root_action}
 use Rattle.dp_spec.specs.WellFormed.{AreAgentFronts, IsFront}
@@ -46,18 +46,18 @@ pub policy_acting : (m : Model) (h : ℕ) (qs : List PolicyTree) → IsPolicyOf 
     → IsActing m h (λ H. joint_root_action m (trees_after_history m qs H))
 policy_acting m h qs p t H lt hist = root_joint_action_below m (h - suc t) (trees_after_history m qs H) (trees_after_history_fit m h qs p t (suc (h - suc t)) H (omega arith) hist)
 
--- where pushes are allowed the weights of a joint history are weights of its time
-pub history_weights : (A : Arithmetic) (C : Calls) (m : Model) (h : ℕ) → CanPush A C m h
+-- where weights can be updated the weights of a joint history are weights of its time
+pub history_weights : (A : Arithmetic) (C : Calls) (m : Model) (h : ℕ) → CanUpdateWeights A C m h
     → (act : List ℕ → ℕ) (t : ℕ) (H : List ℕ) → t ≤ h → IsActing m t act → IsJointHistory (joint_observations m) t H
     → AreWeights A.is_exact m t (history_weight_in A m act H)
 history_weights A C m h can act zero [] le acts hist = can.started
 history_weights A C m h can act zero (o ∷ H) le acts hist = absurd hist
 history_weights A C m h can act (suc t) [] le acts hist = absurd hist
 history_weights A C m h can act (suc t) (o ∷ H) le acts hist =
-    can.pushed t (history_weight_in A m act H) (act H) o le (history_weights A C m h can act t H (omega arith) (λ i H lt p. acts i H (omega arith) p) hist.1) (acts t H (omega arith) hist.1) hist.0
+    can.updated t (history_weight_in A m act H) (act H) o le (history_weights A C m h can act t H (omega arith) (λ i H lt p. acts i H (omega arith) p) hist.1) (acts t H (omega arith) hist.1) hist.0
 
 -- and within their limit so are those of a joint class
-pub class_weights : (A : Arithmetic) (C : Calls) (m : Model) (h : ℕ) → CanPush A C m h → (F : Front) (c : ℕ)
+pub class_weights : (A : Arithmetic) (C : Calls) (m : Model) (h : ℕ) → CanUpdateWeights A C m h → (F : Front) (c : ℕ)
     → IsFront m h F → F.stage < h → total_size m (class_weight_in A m F c) ≤ weight_limit A.is_exact m F.stage
     → AreWeights A.is_exact m F.stage (class_weight_in A m F c)
 unfolding class_weight_in

@@ -3,7 +3,7 @@ use Rattle.std.proofs.Common.{◌≡◌, ℕ, zero, suc, ◌+◌, ◌-◌, ◌<�
 use Rattle.std.proofs.lemmas.Int.{ints}
 use Rattle.dp_base.proofs.Order.{add_le_right}
 use Rattle.dp_laws.proofs.AdvancedFronts.{action_at, action_before, as_many_agents, class_in_range, counts_are_pairs, pair_weight, weight_same, weight_same_to}
-use Rattle.dp_laws.proofs.AgreeingActions.{chosen_action_agrees, chosen_joint_action}
+use Rattle.dp_laws.proofs.AgreeingActions.{chosen_action_agrees}
 use Rattle.dp_laws.proofs.JointPairs.{int_sum_pairs}
 use Rattle.dp_laws.proofs.LinearSteps.{reward_of_histories}
 use Rattle.dp_laws.proofs.LongerLook.{longer_look_le}
@@ -24,6 +24,7 @@ use Rattle.dp_base.proofs.Members.{IsIn, filter-IsIn, some_in}
 use Rattle.dp_base.proofs.GreatestValues.{greatest_ext, greatest_of_part, le_greatest}
 use Rattle.dp_laws.proofs.HistorySums.{int_history_sum_ext, int_history_sum_group}
 use Rattle.std.proofs.lemmas.Bool.{eqb-true}
+use Rattle.dp_spec.specs.ClassSteps.{chosen_joint_action}
 
 -- with look k + 1 a joint action earns its reward and the look-ahead with look k of what follows
 pub action_look_ahead_is : (m : Model) (r : ℕ) (w : ℕ → ℕ) (a k : ℕ)

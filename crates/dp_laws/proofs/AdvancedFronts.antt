@@ -6,8 +6,7 @@ use Rattle.std.proofs.lemmas.Bool.Decides.{nat_tests}
 use Rattle.std.proofs.lemmas.List.{get_or_append_left, get_or_push, length-replicate}
 use Rattle.std.proofs.lemmas.List.FromFn.{get_or-map-range_with_len}
 use Rattle.std.proofs.lemmas.Nat.{div-mul-add, mod-mul-add}
-use Rattle.dp_laws.proofs.AgreeingActions.{actions_for, chosen_joint_action}
-use Rattle.dp_laws.proofs.JointPairs.{pair_counts, pair_injective, pair_number}
+use Rattle.dp_laws.proofs.JointPairs.{pair_injective}
 use Rattle.dp_laws.proofs.LinearSteps.{weights_after_histories}
 use Rattle.dp_laws.proofs.OwnHistories.{Within, next_history_below, own_histories_within}
 use Rattle.dp_laws.proofs.KeptActions.{history_length}
@@ -24,6 +23,7 @@ use Rattle.dp_spec.proofs.JointNumberLaws.{AreBelow, joint_number_below, parts_b
 use Rattle.dp_base.proofs.NaturalSumLaws.{nat_sum_ext, nat_sum_one}
 use Rattle.std.proofs.lemmas.Bool.{cases_eq}
 use Rattle.dp_laws.proofs.HistorySums.{nat_history_sum_ext}
+use Rattle.dp_spec.specs.ClassSteps.{actions_for, chosen_joint_action, pair_counts, pair_number}
 
 -- ---- the lists of all agents
 -- each own history of the stage has a class
@@ -158,7 +158,8 @@ module _ (m : Model) (h : ℕ) (F : Front) (front : IsFront m h F) where
   pub counts_are_pairs : class_counts G.agents ≡ pair_counts (class_counts F.agents) m.observations
   counts_are_pairs = counts_advanced front.agents
 
-  class_is_pair : (o : ℕ) (H : List ℕ) → o < joint_observations m → IsJointHistory (joint_observations m) F.stage H →
+  -- a joint class of the advanced front is that of a pair
+  pub class_is_pair : (o : ℕ) (H : List ℕ) → o < joint_observations m → IsJointHistory (joint_observations m) F.stage H →
       joint_class m G (o ∷ H) ≡ pair_number (class_counts F.agents) m.observations (joint_class m F H) o
   unfolding joint_class joint_observations
   class_is_pair o H q p =

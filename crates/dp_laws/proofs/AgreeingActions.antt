@@ -6,7 +6,7 @@ use Rattle.std.proofs.lemmas.Bool.Decides.{nat_tests}
 use Rattle.std.proofs.lemmas.List.{get_or-set_other}
 use Rattle.dp_spec.specs.Bound.{agreeing_actions, agrees, all_agree}
 use Rattle.dp_spec.specs.Front.{AgentFront, Front, class_counts}
-use Rattle.dp_spec.specs.JointNumbers.{joint_number, parts_of, product}
+use Rattle.dp_spec.specs.JointNumbers.{parts_of, product}
 use Rattle.dp_spec.specs.Model.{IsModel, Model, joint_actions}
 use Rattle.dp_spec.specs.Steps.{IsUnassigned, with_choice}
 use Rattle.dp_base.specs.Sums.{numbers_below}
@@ -15,14 +15,9 @@ use Rattle.dp_spec.specs.WellFormed.AreAgentFronts.{and_agent, no_agents}
 use Rattle.dp_spec.proofs.JointNumberLaws.{AreBelow, joint_number_below, parts_below, parts_of-joint_number, positive_left, positive_right}
 use Rattle.dp_base.proofs.Members.{IsIn, IsIn-below, IsIn-filter}
 use Rattle.std.proofs.lemmas.Bool.{and_parts, cases_eq}
+use Rattle.dp_spec.specs.ClassSteps.{actions_for, chosen_joint_action}
 
 -- ---- the chosen actions
--- the actions that are chosen for classes cs, and 0 where none is
-abbrev pub actions_for : List AgentFront → List ℕ → List ℕ
-actions_for [] cs = []
-actions_for (d ∷ ds) [] = []
-actions_for (d ∷ ds) (c ∷ cs) = unwrap_or (get_or d.chosen c None) 0 ∷ actions_for ds cs
-
 agrees_with_own : (o : Option ℕ) → agrees o (unwrap_or o 0) ≡ true
 agrees_with_own None = refl
 agrees_with_own (Some b) = grind (arith, nat_tests)
@@ -43,10 +38,6 @@ chosen_below no_agents p cs h = tt
 chosen_below (and_agent k ks) p [] h = absurd h
 chosen_below (and_agent {b = b} {d = d} k ks) p (c ∷ cs) h =
     (own_below b (get_or d.chosen c None) (positive_left b _ 0 p) (λ a e. k.chosen_below c a h.0 e), chosen_below ks (positive_right b _ 0 p) cs h.1)
-
--- the joint action that is chosen for joint class C, with 0 for each class that has none
-unfoldable pub chosen_joint_action : Model → Front → ℕ → ℕ
-chosen_joint_action m F C = joint_number m.actions (actions_for F.agents (parts_of (class_counts F.agents) C))
 
 -- it agrees
 pub chosen_action_agrees : (m : Model) → IsModel m → (h : ℕ) (F : Front) → IsFront m h F → (C : ℕ)

@@ -41,7 +41,8 @@ module _ (m : Model) (F : Front) (i c a : ℕ) where
   unfolding fixed_joint_action
   actions_chosen = λ k H. joint_number m.actions (fixed_chosen i c a F.agents (length H) (own_histories m.observations H) k)
 
-  joint_class_chosen : joint_class m G ≡ joint_class m F
+  -- the joint classes stay
+  pub joint_class_chosen : joint_class m G ≡ joint_class m F
   unfolding joint_class
   joint_class_chosen = λ k H. joint_number (counts_chosen i c a F.agents k) (classes_chosen i c a F.agents (own_histories m.observations H) k)
 

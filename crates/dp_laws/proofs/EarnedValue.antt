@@ -15,7 +15,7 @@ use Rattle.dp_spec.specs.Value.{backward_value, joint_root_action, policy_value,
 use Rattle.dp_base.proofs.GreatestValues.{greatest_ext}
 use Rattle.dp_base.proofs.NaturalSumLaws.{nat_sum_ext}
 
--- what a recursion that pushes weights forwards returns
+-- what a recursion that updates weights returns
 abbrev pub recursive_value : Model → ℕ → (ℕ → ℕ) → List PolicyTree → ℤ
 recursive_value m zero w qs = pos 0
 recursive_value m (suc r) w qs = weighted_reward m r w (joint_root_action m qs) +ℤ int_sum (joint_observations m) (λ o. recursive_value m r (weights_after m w (joint_root_action m qs) o) (trees_after m qs o))

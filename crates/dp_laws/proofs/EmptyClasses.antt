@@ -1,5 +1,5 @@
--- A class of total 0 is equivalent to every class.
-use Rattle.std.proofs.Common.{◌≡◌, ℕ, ◌*◌, ◌<◌, Bool, true, false, cond, eqb, refl, arith}
+-- A class of total 0 is equivalent to every class, and every class to it.
+use Rattle.std.proofs.Common.{◌≡◌, ◌⊎◌, inl, inr, sym, ℕ, ◌*◌, ◌<◌, Bool, true, false, cond, eqb, refl, arith}
 use Rattle.dp_spec.specs.Front.{Front, fixed_joint_action}
 use Rattle.dp_spec.specs.JointHistory.{history_weight}
 use Rattle.dp_spec.specs.Merge.{AreEquivalent, class_of_agent, class_of_others, class_total, place_weight}
@@ -28,6 +28,11 @@ zero_sides : (a b p q : ℕ) → p ≡ 0 → a ≡ 0 → p * b ≡ q * a
 zero_sides a b p q e f = rw (e, f) (omega arith)
 
 -- so its weights are in proportion to those of every class
-pub empty_class_is_equivalent : (m : Model) (F : Front) (i c c' : ℕ) → class_total m F i c ≡ 0
-    → AreEquivalent m F i c c'
-empty_class_is_equivalent m F i c c' e = record { same = λ x s p q. zero_sides (class_total m F i c) (class_total m F i c') (place_weight m F i c x s) (place_weight m F i c' x s) (no_weight m F i c x s e q) e }
+first_empty : (m : Model) (F : Front) (i c c' : ℕ) → class_total m F i c ≡ 0 → AreEquivalent m F i c c'
+first_empty m F i c c' e = record { same = λ x s p q. zero_sides (class_total m F i c) (class_total m F i c') (place_weight m F i c x s) (place_weight m F i c' x s) (no_weight m F i c x s e q) e }
+
+-- whichever of the two it is
+pub empty_class_is_equivalent : (m : Model) (F : Front) (i c c' : ℕ)
+    → (class_total m F i c ≡ 0) ⊎ (class_total m F i c' ≡ 0) → AreEquivalent m F i c c'
+empty_class_is_equivalent m F i c c' (inl e) = first_empty m F i c c' e
+empty_class_is_equivalent m F i c c' (inr e) = record { same = λ x s p q. sym ((first_empty m F i c' c e).same x s p q) }

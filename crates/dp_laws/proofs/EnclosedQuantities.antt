@@ -1,7 +1,7 @@
 -- In a sound arithmetic what is computed for each quantity encloses its exact definition.
 use Rattle.std.proofs.Common.{◌≡◌, ℕ, zero, suc, ◌+◌, ◌-◌, ◌*◌, ◌^◌, ◌<◌, ◌≤◌, Bool, true, false, cond, eqb, ℤ, pos, ◌*ℤ◌, List, [], ◌∷◌, refl, ap, ◌∙◌, subst, arith}
 use Rattle.dp_spec.specs.declared.span.Span.{Span}
-use Rattle.dp_spec.proofs.QuantityScales.{scale_after_carry, scale_after_reward, scale_after_step, scale_after_tail, scale_at_stage, scale_of_first, scale_of_next}
+use Rattle.dp_spec.proofs.QuantityScales.{reward_factor_is, step_scale_is, scale_after_carry, scale_after_reward, scale_after_step, scale_after_tail, scale_at_stage, scale_of_first, scale_of_next}
 use Rattle.dp_laws.proofs.TableBound.{look_ahead_le_table}
 use Rattle.dp_spec.specs.Arithmetic.{Arithmetic, point}
 use Rattle.dp_spec.specs.Bound.{agreeing_actions, bound_of}
@@ -15,7 +15,7 @@ use Rattle.dp_spec.specs.Model.{IsModel, Model, joint_actions, joint_observation
 use Rattle.dp_spec.specs.Quantities.{action_look_ahead_in, bound_in, class_weight_in, earned_reward_in, history_weight_in, look_ahead_in, mdp_table_in, span_history_sum, span_sum, weighted_reward_in, weighted_table_in, weights_after_in}
 use Rattle.dp_base.specs.Sums.{greatest, int_sum, nat_sum, numbers_below}
 
-module _ (m : Model) (A : Arithmetic) (R : Enclosure) (ok : IsSound m A R) where
+module _ (m : Model) (A : Arithmetic) (R : Enclosure) (ok : IsSound m.scales A R) where
   -- equal scales and equal weights
   pub weighs_same : (T T' w w' : ℕ) (s : Span) → T ≡ T' → w ≡ w' → R.Weighs T w s → R.Weighs T' w' s
   weighs_same T T' w w' s e f h = subst (λ (t : ℕ). R.Weighs t w' s) e (subst (λ (x : ℕ). R.Weighs T x s) f h)
@@ -69,6 +69,19 @@ module _ (m : Model) (A : Arithmetic) (R : Enclosure) (ok : IsSound m A R) where
   earns_history_sum F n (suc t) x s h = earns_history_sum F n t _ _ (λ H p. earns_sum F n _ _ (λ o q. h (o ∷ H) (q, p)))
 
   -- ---- weights and rewards
+  -- a weight times a reward, by the scale of a step
+  gain_of : (T w r : ℕ) (x : ℤ) (s : Span) → R.Weighs T w s →
+      R.Earns (T * (m.scales.discount * step_scale m ^ r) * m.scales.reward)
+      (pos w *ℤ (x *ℤ pos (m.scales.discount * step_scale m ^ r))) (A.gain s x r)
+  gain_of T w r x s h =
+      subst (λ (n : ℕ). R.Earns (T * n * m.scales.reward) (pos w *ℤ (x *ℤ pos n)) (A.gain s x r)) (reward_factor_is m r) (ok.gain T w r x s h)
+
+  -- a value of the table times a chance, by the scale of a step
+  carry_of : (F p : ℕ) (x u : ℤ) → R.IsUpperBound F x u
+      → R.IsUpperBound (F * step_scale m) (pos (p * m.scales.obs * m.scales.gain) *ℤ x) (A.carry u p)
+  carry_of F p x u h =
+      subst (λ (n : ℕ). R.IsUpperBound (F * n) (pos (p * m.scales.obs * m.scales.gain) *ℤ x) (A.carry u p)) (step_scale_is m) (ok.carry F p x u h)
+
   -- the weights one step on
   pub weights_after_enclosed : (T : ℕ) (w : ℕ → ℕ) (ws : ℕ → Span) (a o t : ℕ)
       → ((s : ℕ) → s < m.states → R.Weighs T (w s) (ws s))
@@ -84,7 +97,7 @@ module _ (m : Model) (A : Arithmetic) (R : Enclosure) (ok : IsSound m A R) where
   unfolding weighted_reward weighted_reward_in
   weighted_reward_enclosed T r w ws a h =
       earns_sum _ m.states _ _ (λ s p. earns_sum _ m.states _ _ (λ t q. earns_sum _ (joint_observations m) _ _ (λ o u.
-      earns_same _ _ _ _ (scale_after_reward m T r) (ok.gain _ _ r (reward_at m a s t o) _ (ok.chance _ _ (trans_at m a s t) (obs_at m a t o) _ (h s p))))))
+      earns_same _ _ _ _ (scale_after_reward m T r) (gain_of _ _ r (reward_at m a s t o) _ (ok.chance _ _ (trans_at m a s t) (obs_at m a t o) _ (h s p))))))
 
   -- ---- tables
   -- a reward of the table, from the weight 1
@@ -94,7 +107,7 @@ module _ (m : Model) (A : Arithmetic) (R : Enclosure) (ok : IsSound m A R) where
       let e : 1 * (p * z) ≡ p * z = omega arith in
       let scale : 1 * (m.scales.trans * m.scales.obs) * (m.scales.discount * step_scale m ^ r) * m.scales.reward ≡ m.scales.reward * step_scale m ^ suc r = scale_after_reward m 1 r ∙ omega arith in
       subst (λ (n : ℕ). R.Earns (m.scales.reward * step_scale m ^ suc r) (pos n *ℤ (x *ℤ pos (m.scales.discount * step_scale m ^ r))) (A.gain (A.chance A.one p z) x r)) e
-      (earns_same _ _ _ _ scale (ok.gain _ _ r x _ (ok.chance _ _ p z _ ok.one)))
+      (earns_same _ _ _ _ scale (gain_of _ _ r x _ (ok.chance _ _ p z _ ok.one)))
 
   -- the table
   pub mdp_table_enclosed : (r s : ℕ)
@@ -104,7 +117,7 @@ module _ (m : Model) (A : Arithmetic) (R : Enclosure) (ok : IsSound m A R) where
       upper_greatest _ _ _ (numbers_below (joint_actions m)) (λ a.
       ok.more_upper _ _ _ _ _
       (ok.upper_end _ _ _ (earns_sum _ m.states _ _ (λ t q. earns_sum _ (joint_observations m) _ _ (λ o u. table_reward_enclosed r (trans_at m a s t) (obs_at m a t o) (reward_at m a s t o)))))
-      (upper_sum _ m.states _ _ (λ t q. upper_same _ _ _ _ (scale_after_carry m r) (ok.carry _ (trans_at m a s t) _ _ (mdp_table_enclosed r t)))))
+      (upper_sum _ m.states _ _ (λ t q. upper_same _ _ _ _ (scale_after_carry m r) (carry_of _ (trans_at m a s t) _ _ (mdp_table_enclosed r t)))))
 
   -- weights against the table
   pub weighted_table_enclosed : (T r : ℕ) (w : ℕ → ℕ) (ws : ℕ → Span)

@@ -2,7 +2,7 @@
 use Rattle.std.proofs.Common.{◌≡◌, ℕ, zero, suc, ◌<◌, ◌≤◌, Bool, pos, ◌+ℤ◌, ◌≤ℤ◌, List, refl, ap, ◌∙◌, subst}
 use Rattle.std.specs.Int.{int_min}
 use Rattle.dp_spec.specs.declared.span.Span.{Span}
-use Rattle.dp_laws.proofs.Recursion.{span_sum_ext}
+use Rattle.dp_laws.proofs.SpanSums.{span_sum_ext}
 use Rattle.dp_base.proofs.Sums.{int_sum_ext}
 use Rattle.dp_spec.specs.Arithmetic.{Arithmetic, span_add}
 use Rattle.dp_spec.specs.Calls.{IsPoint, size}

@@ -3,7 +3,7 @@ use Rattle.std.proofs.Common.{◌≡◌, ℕ, zero, suc, ◌+◌, ◌-◌, ◌*�
 use Rattle.std.proofs.Math.Nat.{mul-le-mul_right}
 use Rattle.std.proofs.lemmas.Nat.{pow-add}
 use Rattle.dp_spec.specs.declared.span.Span.{Span}
-use Rattle.dp_laws.proofs.ExactSizes.{pushed_total, reward_total}
+use Rattle.dp_laws.proofs.ExactSizes.{updated_total, reward_total}
 use Rattle.dp_laws.proofs.ExactValueSizes.{looks_most, value_most}
 use Rattle.dp_spec.proofs.ModeCondition.{reward_most}
 use Rattle.dp_laws.proofs.OrderedSpans.{classes_total, total_size}
@@ -44,7 +44,7 @@ module _ (m : Model) (is : IsModel m) where
       let O = joint_observations m in
       let V = λ (H : List ℕ). total_size m (history_weight_in (exact m.scales) m act H) in
       let each = nat_history_sum_le O t (λ H. nat_sum O (λ o. total_size m (history_weight_in (exact m.scales) m act (o ∷ H)))) (λ H. V H * step_scale m)
-      (λ H p. pushed_total m is (history_weight_in (exact m.scales) m act H) (act H) (acts t H (omega arith) p)) in
+      (λ H p. updated_total m is (history_weight_in (exact m.scales) m act H) (act H) (acts t H (omega arith) p)) in
       let times = nat_history_sum_times O t V (step_scale m) in
       let rest = mul-le-mul_right (step_scale m) (histories_total act t (λ i H p h. acts i H (omega arith) h)) in
       let e = scale_of_next m t in
@@ -115,7 +115,7 @@ module _ (m : Model) (is : IsModel m) where
   advanced_most F act acts chosen =
       let n = product (class_counts F.agents) in
       let W = λ (C : ℕ). class_weight_in (exact m.scales) m F C in
-      let each = nat_sum_le n (λ C. nat_sum (joint_observations m) (λ o. total_size m (weights_after_in (exact m.scales) m (W C) (act C) o))) (λ C. total_size m (W C) * step_scale m) (λ C p. pushed_total m is (W C) (act C) (chosen C p)) in
+      let each = nat_sum_le n (λ C. nat_sum (joint_observations m) (λ o. total_size m (weights_after_in (exact m.scales) m (W C) (act C) o))) (λ C. total_size m (W C) * step_scale m) (λ C p. updated_total m is (W C) (act C) (chosen C p)) in
       let times = nat_sum_times n (λ C. total_size m (W C)) (step_scale m) in
       let all = mul-le-mul_right (step_scale m) (front_total F n acts) in
       let e = scale_of_next m F.stage in

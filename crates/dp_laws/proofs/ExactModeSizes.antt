@@ -4,13 +4,13 @@ use Rattle.std.proofs.Math.Nat.{le-mul_of_pos_right, mul-le-mul_left, mul-le-mul
 use Rattle.std.proofs.lemmas.Nat.{pow-add}
 use Rattle.dp_spec.specs.declared.span.Span.{Span}
 use Rattle.dp_laws.proofs.ExactHistorySizes.{advanced_most, class_rewards_most, class_looks_most, earned_most, front_total, histories_total}
-use Rattle.dp_laws.proofs.ExactPushes.{exact_can_push, chance_point, chances_step, power_grows, weight_room, whole_room}
-use Rattle.dp_laws.proofs.ExactSizes.{chance_size, gained_total, reward_factor_is, reward_total, tail_size}
+use Rattle.dp_laws.proofs.ExactWeightUpdates.{exact_can_update_weights, chance_point, chances_step, power_grows, weight_room, whole_room}
+use Rattle.dp_laws.proofs.ExactSizes.{chance_size, gained_total, reward_total, tail_size}
 use Rattle.dp_laws.proofs.ExactValueSizes.{looks_most, one_size, table_most, table_parts_most, value_most, weighted_table_most, worth_most}
 use Rattle.dp_laws.proofs.ActingHistories.{class_weights, front_acting}
 use Rattle.dp_spec.proofs.ModeCondition.{reward_most, reward_most_some, step_scale_some}
 use Rattle.dp_laws.proofs.OrderedSpans.{total_size}
-use Rattle.dp_spec.proofs.QuantityScales.{step_scale_is, weights_times_value}
+use Rattle.dp_spec.proofs.QuantityScales.{reward_factor_is, step_scale_is, weights_times_value}
 use Rattle.dp_spec.specs.Arithmetic.{exact, reward_factor}
 use Rattle.dp_spec.specs.Calls.{IsPoint, exact_calls, size}
 use Rattle.dp_spec.specs.Front.{Front, fixed_joint_action}
@@ -21,8 +21,8 @@ use Rattle.dp_spec.specs.Model.{IsModel, Model, joint_actions, joint_observation
 use Rattle.dp_spec.specs.PolicyTree.{IsPolicyOf, PolicyTree}
 use Rattle.dp_spec.specs.Quantities.{class_weight_in, history_weight_in, mdp_table_in}
 use Rattle.dp_spec.specs.Sizes.{AreWeights, CanReward, IsStep, reward_size}
-use Rattle.dp_spec.specs.SizesOfEarnings.{CanEarn, CanEvaluate, IsActing, earned_size, worth_size}
-use Rattle.dp_spec.specs.SizesOfFronts.{CanAdvance, IsChoosing, advanced_size, class_reward_size, CanBound, CanClassify, class_look_size}
+use Rattle.dp_spec.specs.SizesOfEarnings.{CanEvaluate, IsActing, earned_size, worth_size}
+use Rattle.dp_spec.specs.SizesOfFronts.{CanRefine, IsChoosing, advanced_size, class_reward_size, class_look_size}
 use Rattle.dp_spec.specs.SizesOfLookAhead.{CanLookAhead, next_look_size, weighted_table_size}
 use Rattle.dp_spec.specs.SizesOfTable.{CanTabulate, table_later_size, table_reward_size}
 use Rattle.dp_base.specs.Sums.{nat_sum}
@@ -103,14 +103,6 @@ module _ (m : Model) (is : IsModel m) (h : ℕ) (some : 0 < h) (mode : true ≡ 
   pub exact_can_reward : CanReward (exact m.scales) (exact_calls m.scales) m h
   unfolding exact
   exact_can_reward = record { gain = may_gain; add = rewards_fit }
-
-  -- all parts of what is earned
-  earned_fits : (act : List ℕ → ℕ) (f : ℕ) → f ≤ h → IsActing m f act → earned_size (exact m.scales) m act h f < 2 ^ 127
-  earned_fits act f le acts = let most = earned_most m is act h f le acts in let room = whole_room m is h some mode f le in omega arith
-
-  -- in exact mode earnings can be added up
-  pub exact_can_earn : CanEarn (exact m.scales) m h
-  exact_can_earn = record { add = earned_fits }
 
   -- all parts of the worth of a joint policy
   worth_fits : (t r : ℕ) (ws : ℕ → Span) (qs : List PolicyTree) → t + r ≡ h → AreWeights true m t ws
@@ -204,7 +196,7 @@ module _ (m : Model) (is : IsModel m) (h : ℕ) (some : 0 < h) (mode : true ≡ 
   -- what a front has earned and its best look-aheads
   looks_of_front_fit : (F : Front) (r k : ℕ) → IsFront m h F → F.stage + suc r ≡ h
       → earned_size (exact m.scales) m (fixed_joint_action m F) h F.stage + class_look_size (exact m.scales) m r F k
-      < 2 ^ 127
+      ≤ 2 ^ 126
   looks_of_front_fit F r k front e =
       let acts = front_acting m h F front in
       let earned = earned_most m is (fixed_joint_action m F) h F.stage (omega arith) acts in
@@ -228,16 +220,7 @@ module _ (m : Model) (is : IsModel m) (h : ℕ) (some : 0 < h) (mode : true ≡ 
   weights_of_class : (F : Front) (C : ℕ) → IsFront m h F → F.stage < h
       → AreWeights true m F.stage (class_weight_in (exact m.scales) m F C)
   unfolding exact
-  weights_of_class F C front lt = class_weights (exact m.scales) (exact_calls m.scales) m h (exact_can_push m is h some mode) F C front lt (class_limit F C front)
-
-  -- in exact mode weights of joint classes can be added up
-  pub exact_can_classify : CanClassify (exact m.scales) m h
-  unfolding exact
-  exact_can_classify = record { add = weights_fit; weights = weights_of_class }
-
-  -- in exact mode the bound of a front can be added up
-  pub exact_can_bound : CanBound (exact m.scales) m h
-  exact_can_bound = record { add = looks_of_front_fit }
+  weights_of_class F C front lt = class_weights (exact m.scales) (exact_calls m.scales) m h (exact_can_update_weights m is h some mode) F C front lt (class_limit F C front)
 
   -- all next weights of a front's joint classes
   advanced_fits : (F : Front) (act : ℕ → ℕ) → IsFront m h F → F.stage < h → IsChoosing m F act
@@ -258,6 +241,13 @@ module _ (m : Model) (is : IsModel m) (h : ℕ) (some : 0 < h) (mode : true ≡ 
       let room = whole_room m is h some mode (suc F.stage) (omega arith) in
       omega arith
 
-  -- in exact mode a front can be advanced
-  pub exact_can_advance : CanAdvance (exact m.scales) m h
-  exact_can_advance = record { weights = advanced_fits; earned = rewards_of_front_fit }
+  -- in exact mode a front can be refined
+  pub exact_can_refine : (F : Front) → IsFront m h F → F.stage < h → CanRefine (exact m.scales) m h F
+  unfolding exact
+  exact_can_refine F front lt = record {
+    weights = λ C. weights_of_class F C front lt;
+    classify = weights_fit (fixed_joint_action m F) F.stage (omega arith) (front_acting m h F front);
+    bound = λ r k e. looks_of_front_fit F r k front e;
+    advance = λ act chosen. advanced_fits F act front lt chosen;
+    rewards = λ r act e chosen. rewards_of_front_fit F r act front e chosen;
+  }

@@ -1,13 +1,13 @@
 -- In exact arithmetic magnitudes are multiplied, so what weights come to is bounded by their sum.
-use Rattle.std.proofs.Common.{◌≡◌, ◌⊎◌, inl, inr, ℕ, suc, ◌*◌, ◌^◌, ◌<◌, ◌≤◌, max, ℤ, pos, ◌*ℤ◌, unsigned_abs, refl, ap, ◌∙◌, arith}
+use Rattle.std.proofs.Common.{◌≡◌, inl, inr, ℕ, suc, ◌*◌, ◌^◌, ◌<◌, ◌≤◌, max, ℤ, pos, ◌*ℤ◌, unsigned_abs, ap, ◌∙◌, arith}
 use Rattle.std.proofs.lemmas.Int.{unsigned_abs-mul}
 use Rattle.std.proofs.Math.Nat.{pow-suc, mul-le-mul_left, mul-le-mul_right}
 use Rattle.dp_spec.specs.declared.span.Span.{Span}
 use Rattle.dp_spec.specs.declared.scales.Scales.{Scales}
 use Rattle.dp_spec.proofs.ModeCondition.{reward_at_most, reward_most}
 use Rattle.dp_laws.proofs.OrderedSpans.{total_size}
-use Rattle.dp_spec.proofs.QuantityScales.{step_scale_is}
-use Rattle.dp_laws.proofs.SizeSums.{pushed_size_le}
+use Rattle.dp_spec.proofs.QuantityScales.{reward_factor_is, step_scale_is}
+use Rattle.dp_laws.proofs.SizeSums.{updated_size_le}
 use Rattle.dp_spec.specs.Arithmetic.{exact, reward_factor}
 use Rattle.dp_spec.specs.Calls.{size}
 use Rattle.dp_spec.specs.LookAhead.{weights_after}
@@ -16,17 +16,15 @@ use Rattle.dp_spec.specs.Quantities.{weights_after_in}
 use Rattle.dp_spec.specs.Sizes.{reward_size}
 use Rattle.dp_base.specs.Sums.{nat_sum}
 use Rattle.dp_base.proofs.NaturalSumLaws.{nat_sum_at, nat_sum_ext, nat_sum_le, nat_sum_scale, nat_sum_swap, nat_sum_times}
+use Rattle.std.proofs.lemmas.Bool.{cases_lt}
 
 -- ---- the operations
 max_times : (a b n : ℕ) → max (a * n) (b * n) ≡ max a b * n
 max_times a b n =
-    elim (either a b) [
-      | inl le ↦ let more = mul-le-mul_right n le in let e : max a b ≡ b = omega arith in rw e (omega arith)
+    elim (cases_lt a b) [
+      | inl lt ↦ let le : a ≤ b = omega arith in let more = mul-le-mul_right n le in let e : max a b ≡ b = omega arith in rw e (omega arith)
       | inr le ↦ let more = mul-le-mul_right n le in let e : max a b ≡ a = omega arith in rw e (omega arith)
     ]
-  where
-    either : (a b : ℕ) → (a ≤ b) ⊎ (b ≤ a)
-    either a b = grind arith
 
 -- a span whose ends are multiplied
 size_times : (w v : Span) (n : ℕ) → unsigned_abs v.low ≡ unsigned_abs w.low * n
@@ -64,15 +62,10 @@ pub tail_size : (c : Scales) (w : Span) (v : ℤ) → unsigned_abs ((exact c).ta
 unfolding exact
 tail_size c w v = let le : unsigned_abs w.low ≤ size w = omega arith in rw (unsigned_abs-mul w.low v) (mul-le-mul_right (unsigned_abs v) le)
 
--- the factor of a reward by the step scale
-pub reward_factor_is : (m : Model) (r : ℕ) → reward_factor m.scales r ≡ m.scales.discount * step_scale m ^ r
-unfolding reward_factor step_scale
-reward_factor_is m r = refl
-
 -- one weight with its chances and discount, and with its reward
-pushed_part : (c : Scales) (w : Span) (p z : ℕ)
+updated_part : (c : Scales) (w : Span) (p z : ℕ)
     → size ((exact c).later ((exact c).chance w p z)) ≡ size w * (p * z * c.gain)
-pushed_part c w p z = later_size c ((exact c).chance w p z) ∙ ap (λ (n : ℕ). n * c.gain) (chance_size c w p z) ∙ omega arith
+updated_part c w p z = later_size c ((exact c).chance w p z) ∙ ap (λ (n : ℕ). n * c.gain) (chance_size c w p z) ∙ omega arith
 
 -- one weight with its chances and reward
 gained_part : (m : Model) (w : Span) (p z r : ℕ) (x : ℤ)
@@ -107,11 +100,11 @@ module _ (m : Model) (is : IsModel m) where
       over_t w z g d n f e = nat_sum_ext n _ (λ t. w * f t * (z * g)) (λ t h. omega arith) ∙ nat_sum_scale n w (z * g) f ∙ ap (λ (x : ℕ). w * x * (z * g)) e ∙ omega arith
 
   -- the parts of a next weight are those of the exact definition, from the magnitudes
-  pushed_parts : (ws : ℕ → Span) (a o t : ℕ)
+  updated_parts : (ws : ℕ → Span) (a o t : ℕ)
       → nat_sum m.states (λ s. size ((exact m.scales).later ((exact m.scales).chance (ws s) (trans_at m a s t) (obs_at m a t o))))
       ≡ weights_after m (λ s. size (ws s)) a o t
   unfolding weights_after
-  pushed_parts ws a o t = nat_sum_ext m.states _ _ (λ s p. pushed_part m.scales (ws s) (trans_at m a s t) (obs_at m a t o))
+  updated_parts ws a o t = nat_sum_ext m.states _ _ (λ s p. updated_part m.scales (ws s) (trans_at m a s t) (obs_at m a t o))
 
   -- all parts of all next weights together
   parts_total : (ws : ℕ → Span) (a : ℕ) → a < joint_actions m
@@ -127,16 +120,16 @@ module _ (m : Model) (is : IsModel m) where
       let all = parts_total ws a pa in
       let some = nat_sum_at (joint_observations m) (λ o. nat_sum m.states (λ t. weights_after m (λ s. size (ws s)) a o t)) o po in
       let one = nat_sum_at m.states (λ t. weights_after m (λ s. size (ws s)) a o t) t pt in
-      let e = pushed_parts ws a o t in omega arith
+      let e = updated_parts ws a o t in omega arith
 
   -- all next weights together
-  pub pushed_total : (ws : ℕ → Span) (a : ℕ) → a < joint_actions m
+  pub updated_total : (ws : ℕ → Span) (a : ℕ) → a < joint_actions m
       → nat_sum (joint_observations m) (λ o. total_size m (weights_after_in (exact m.scales) m ws a o))
       ≤ total_size m ws * step_scale m
-  pushed_total ws a pa =
+  updated_total ws a pa =
       let all = parts_total ws a pa in
       let each = nat_sum_le (joint_observations m) (λ o. total_size m (weights_after_in (exact m.scales) m ws a o)) (λ o. nat_sum m.states (λ t. weights_after m (λ s. size (ws s)) a o t))
-      (λ o p. nat_sum_le m.states _ _ (λ t q. let le = pushed_size_le (exact m.scales) m ws a o t in let e = pushed_parts ws a o t in omega arith)) in
+      (λ o p. nat_sum_le m.states _ _ (λ t q. let le = updated_size_le (exact m.scales) m ws a o t in let e = updated_parts ws a o t in omega arith)) in
       omega arith
 
   -- ---- rewards

@@ -2,7 +2,7 @@
 use Rattle.std.proofs.Common.{◌≡◌, ℕ, zero, suc, ◌+◌, ◌*◌, ◌^◌, ◌<◌, ◌≤◌, ◌+ℤ◌, unsigned_abs, List, refl, ap, arith}
 use Rattle.std.proofs.Math.Nat.{pow-suc, mul-le-mul_left, mul-le-mul_right, mul-le-mul}
 use Rattle.dp_spec.specs.declared.span.Span.{Span}
-use Rattle.dp_laws.proofs.ExactSizes.{carry_size, gained_total, pushed_total, reward_total, tail_size}
+use Rattle.dp_laws.proofs.ExactSizes.{carry_size, gained_total, updated_total, reward_total, tail_size}
 use Rattle.dp_spec.proofs.ModeCondition.{reward_most}
 use Rattle.dp_laws.proofs.OneStep.{trees_after_fit, root_joint_action_below}
 use Rattle.dp_laws.proofs.OrderedSpans.{total_size}
@@ -56,7 +56,7 @@ module _ (m : Model) (is : IsModel m) where
       let reward = reward_total m is ws a r a_in in
       let each = nat_sum_le O (λ o. worth_size (exact m.scales) m r (W o) (trees_after m qs o)) (λ o. total_size m (W o) * value_most m r) (λ o q. worth_most r (W o) (trees_after m qs o) (trees_after_fit m r qs o q p)) in
       let times = nat_sum_times O (λ o. total_size m (W o)) (value_most m r) in
-      let pushed = mul-le-mul_right (value_most m r) (pushed_total m is ws a a_in) in
+      let updated = mul-le-mul_right (value_most m r) (updated_total m is ws a a_in) in
       let both = one_step_more (total_size m ws) r in
       omega arith
 
@@ -132,7 +132,7 @@ module _ (m : Model) (is : IsModel m) where
       let reward = reward_total m is ws a r pa in
       let each = nat_sum_le O (λ o. unsigned_abs (look_ahead_in (exact m.scales) m r (W o) k)) (λ o. total_size m (W o) * value_most m r) (λ o q. small (W o)) in
       let times = nat_sum_times O (λ o. total_size m (W o)) (value_most m r) in
-      let pushed = mul-le-mul_right (value_most m r) (pushed_total m is ws a pa) in
+      let updated = mul-le-mul_right (value_most m r) (updated_total m is ws a pa) in
       let both = one_step_more (total_size m ws) r in
       omega arith
 

@@ -1,21 +1,22 @@
 -- A bound tree that fits a front bounds every joint policy that keeps it.
-use Rattle.std.proofs.Common.{◌≡◌, inl, inr, ℕ, suc, ◌+◌, ◌-◌, ◌<◌, ◌≤◌, ℤ, pos, ◌≤ℤ◌, List, get_or, refl, sym, subst, arith}
+use Rattle.std.proofs.Common.{◌≡◌, inl, inr, ℕ, suc, ◌+◌, ◌-◌, ◌<◌, ◌≤◌, Bool, ℤ, pos, ◌*ℤ◌, ◌≤ℤ◌, List, get_or, refl, sym, subst, arith}
 use Rattle.std.specs.Int.{int_min}
 use Rattle.dp_laws.proofs.EnclosedQuantities.{bound_enclosed}
 use Rattle.dp_laws.proofs.KeptBound.{keeper_under_bound}
 use Rattle.dp_laws.proofs.KeptSteps.{keeps_some_next}
 use Rattle.dp_laws.proofs.LosslessMerging.{merging_loses_nothing}
+use Rattle.dp_laws.proofs.Modes.{model_arithmetic_sound}
 use Rattle.dp_base.proofs.Order.{equal_or_less, mul_le_right}
 use Rattle.dp_laws.proofs.OutwardArithmetic.{IsAbove, smaller_above}
 use Rattle.dp_base.proofs.Ring.{zle_trans, zle_of}
 use Rattle.dp_laws.proofs.RootFront.{policy_keeps_root, root_is_front}
 use Rattle.dp_laws.proofs.WellFormedSteps.{after_choice_is_front, merged_is_front}
-use Rattle.dp_spec.specs.Arithmetic.{Arithmetic}
+use Rattle.dp_spec.specs.Arithmetic.{Arithmetic, arithmetic}
 use Rattle.dp_spec.specs.Bound.{bound_of}
 use Rattle.dp_spec.specs.BoundTree.{AllLeavesAtMost, BoundTree, BoundTrees, LeavesAtMost, branch, leaf, merge, more_bound_trees, no_bound_trees}
 use Rattle.dp_spec.specs.Certificate.{FitsRoot}
 use Rattle.dp_spec.specs.Claims.{BoundsEveryPolicy}
-use Rattle.dp_spec.specs.Enclosure.{Enclosure, IsSound}
+use Rattle.dp_spec.specs.Enclosure.{Enclosure, IsSound, enclosure}
 use Rattle.dp_spec.specs.Fitting.{FitEachAction, FitsFront, front_bound}
 use Rattle.dp_spec.specs.Front.{Front}
 use Rattle.dp_spec.specs.Keeping.{KeepsFront}
@@ -28,13 +29,13 @@ use Rattle.dp_spec.specs.Value.{policy_value}
 use Rattle.dp_spec.specs.WellFormed.{IsFront}
 
 -- ---- in a sound arithmetic
-module _ (A : Arithmetic) (R : Enclosure) (m : Model) (is : IsModel m) (ok : IsSound m A R) (h look : ℕ) where
+module _ (A : Arithmetic) (R : Enclosure) (m : Model) (is : IsModel m) (ok : IsSound m.scales A R) (h look : ℕ) where
   -- u in the unit is at least the value v
   abbrev Bounds : ℤ → ℤ → Type 0
   Bounds u v = IsAbove (value_scale m h) (R.unit (value_scale m h)) v u
 
   -- no joint policy that keeps a front is worth more than its computed bound
-  front_bound_bounds : (F : Front) (qs : List PolicyTree) → IsFront m h F → IsPolicyOf m h qs → KeepsFront m F qs
+  pub front_bound_bounds : (F : Front) (qs : List PolicyTree) → IsFront m h F → IsPolicyOf m h qs → KeepsFront m F qs
       → Bounds (front_bound A m h look F) (policy_value m h qs)
   unfolding front_bound
   front_bound_bounds F qs front policy keeps =
@@ -88,3 +89,10 @@ module _ (A : Arithmetic) (R : Enclosure) (m : Model) (is : IsModel m) (ok : IsS
       let front = root_is_front m h is in
       let keeps = policy_keeps_root m h qs policy in
       fitting_tree_bounds (policy_value m h qs) u 0 T (root_front m) _ qs front fits policy keeps (zle_of _ _ refl) (front_bound_bounds (root_front m) qs front policy keeps) below
+
+-- in the arithmetic of a mode no joint policy that keeps a front is worth more than its computed bound
+pub keeper_under_computed_bound : (m : Model) → IsModel m → (h look : ℕ) (F : Front) (qs : List PolicyTree) (e : Bool)
+    → IsFront m h F → IsPolicyOf m h qs → KeepsFront m F qs →
+    (policy_value m h qs *ℤ pos ((enclosure e).unit (value_scale m h))) ≤ℤ (front_bound (arithmetic e m.scales) m h look F *ℤ pos (value_scale m h))
+keeper_under_computed_bound m is h look F qs e front policy keeps =
+    front_bound_bounds (arithmetic e m.scales) (enclosure e) m is (model_arithmetic_sound m is e) h look F qs front policy keeps

@@ -7,10 +7,9 @@ use Rattle.std.proofs.lemmas.List.{length-replicate}
 use Rattle.std.proofs.lemmas.Nat.{mod_below, mul-pow}
 use Rattle.std.proofs.Math.ListN.{length-set}
 use Rattle.std.proofs.Math.Nat.{mul-le-mul, mul-le-mul_left, pow-suc, pow-zero}
-use Rattle.dp_laws.proofs.ClassCounts.{classes-le-members}
+use Rattle.dp_laws.proofs.ClassCounts.{classes-le-members, joint_classes_within_histories}
 use Rattle.dp_laws.proofs.CompleteFronts.{new_class}
 use Rattle.dp_laws.proofs.Keeping.{last_member, last_member_is}
-use Rattle.dp_laws.proofs.KeptSteps.{same_parts}
 use Rattle.dp_laws.proofs.MergedAgents.{length-without}
 use Rattle.dp_laws.proofs.TreeDepth.{choice_assigns_one, complete_has_none}
 use Rattle.dp_spec.specs.Front.{AgentFront, Front, class_counts}
@@ -21,7 +20,7 @@ use Rattle.dp_spec.specs.Steps.{IsUnassigned, advanced_agent, advanced_agents, a
 use Rattle.dp_spec.specs.WellFormed.{AreAgentFronts, AreApart, IsAgentFront, IsFront, KeepsHistoriesApart}
 use Rattle.dp_spec.specs.WellFormed.AreAgentFronts.{and_agent, no_agents}
 use Rattle.dp_spec.specs.Wide.{has_room, is_room, is_wide, next_class_counts, unassigned_count, widens}
-use Rattle.dp_spec.proofs.JointNumberLaws.{part_below, positive_right}
+use Rattle.dp_spec.proofs.JointNumberLaws.{part_below, positive_right, same_parts}
 
 -- ---- tests
 
@@ -274,6 +273,13 @@ apart_counts {f} no_agents apart = power_of_one f
 apart_counts {f} (and_agent {b = b} {n = n} {ns = ns} {d = d} front fronts) apart =
     rw (mul-pow n (product ns) f) (mul-le-mul (apart_count b n f d front apart.0) (apart_counts fronts apart.1))
 
+-- joint classes are as many as joint histories
+pub apart_classes : (m : Model) (h : ℕ) (F : Front) → IsFront m h F → KeepsHistoriesApart m F
+    → product (class_counts F.agents) ≡ joint_observations m ^ F.stage
+unfolding joint_observations
+apart_classes m h F front apart =
+    let least = apart_counts front.agents apart in let most = joint_classes_within_histories m h F front in omega arith
+
 -- so a front with room that keeps histories apart is within the limit of stage cells
 pub apart_within_cells : (m : Model) (h : ℕ) (F : Front) → IsFront m h F → F.stage < h → KeepsHistoriesApart m F
     → has_room m h F ≡ true → m.states * joint_observations m ^ F.stage ≤ 2 ^ 22
@@ -281,3 +287,10 @@ unfolding joint_observations
 apart_within_cells m h F front lt apart room =
     let cells = room_states m (product (class_counts F.agents)) (sym (room_before m h F lt) ∙ room) in
     let more = mul-le-mul_left m.states (apart_counts front.agents apart) in omega arith
+
+-- ---- single steps keep histories apart
+pub chosen_keeps_apart : (m : Model) (F : Front) (i c a : ℕ) → KeepsHistoriesApart m F → KeepsHistoriesApart m (chosen_front F i c a)
+chosen_keeps_apart m F i c a apart = choice_apart F.stage i c a m.observations F.agents apart
+
+pub advanced_keeps_apart : (m : Model) (F : Front) → KeepsHistoriesApart m F → KeepsHistoriesApart m (advanced_front m F)
+advanced_keeps_apart m F apart = advance_apart F.stage m.observations F.agents apart

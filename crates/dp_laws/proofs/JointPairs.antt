@@ -2,22 +2,12 @@
 use Rattle.std.proofs.Common.{◌≡◌, ℕ, ◌+◌, ◌*◌, ◌/◌, ◌%◌, ◌<◌, ℤ, pos, ◌+ℤ◌, List, [], ◌∷◌, length, refl, sym, ap, ◌∙◌, arith}
 use Rattle.std.proofs.lemmas.Int.{ints}
 use Rattle.std.proofs.lemmas.Nat.{div-mul-add, mod-mul-add}
-use Rattle.dp_laws.proofs.KeptSteps.{same_parts}
 use Rattle.dp_base.proofs.Sums.{int_sum_ext, int_sum_prod, int_sum_swap}
 use Rattle.dp_spec.specs.Front.{next_own_histories}
 use Rattle.dp_spec.specs.JointNumbers.{joint_number, parts_of, product}
 use Rattle.dp_base.specs.Sums.{int_sum}
-use Rattle.dp_spec.proofs.JointNumberLaws.{AreBelow, joint_number-parts_of, parts_below, parts_of-joint_number, row_below}
-
--- as many as pairs, agent by agent
-abbrev pub pair_counts : List ℕ → List ℕ → List ℕ
-pair_counts [] ns = []
-pair_counts (c ∷ cs) [] = []
-pair_counts (c ∷ cs) (n ∷ ns) = c * n ∷ pair_counts cs ns
-
--- joint class C followed by joint observation o, as a joint number
-abbrev pub pair_number : List ℕ → List ℕ → ℕ → ℕ → ℕ
-pair_number cs ns C o = joint_number (pair_counts cs ns) (next_own_histories ns (parts_of cs C) (parts_of ns o))
+use Rattle.dp_spec.proofs.JointNumberLaws.{AreBelow, joint_number-parts_of, parts_below, parts_of-joint_number, row_below, same_parts}
+use Rattle.dp_spec.specs.ClassSteps.{pair_counts, pair_number}
 
 pub next_below : (cs ns xs ps : List ℕ) → length ns ≡ length cs → AreBelow cs xs → AreBelow ns ps
     → AreBelow (pair_counts cs ns) (next_own_histories ns xs ps)
@@ -32,7 +22,8 @@ nothing : (xs : List ℕ) → AreBelow [] xs → xs ≡ []
 nothing [] h = refl
 nothing (x ∷ xs) h = absurd h
 
-next_injective : (cs ns xs ps ys qs : List ℕ) → length ns ≡ length cs → AreBelow cs xs → AreBelow ns ps
+-- different own histories and observations lead to different own histories
+pub next_injective : (cs ns xs ps ys qs : List ℕ) → length ns ≡ length cs → AreBelow cs xs → AreBelow ns ps
     → AreBelow cs ys → AreBelow ns qs → next_own_histories ns xs ps ≡ next_own_histories ns ys qs
     → (xs ≡ ys) × (ps ≡ qs)
 next_injective [] [] xs ps ys qs e hx hp hy hq same = (nothing xs hx ∙ sym (nothing ys hy), nothing ps hp ∙ sym (nothing qs hq))
@@ -65,7 +56,8 @@ pair_injective cs ns C o D u e hC ho hD hu same =
 one_place : (f : ℕ → ℤ) → pos 0 +ℤ f 0 ≡ pos 0 +ℤ (pos 0 +ℤ f 0)
 one_place f = omega (arith, ints)
 
-pair_step : (c n : ℕ) (cs ns : List ℕ) (x C p o : ℕ) → C < product cs → o < product ns →
+-- the number of a pair, agent by agent
+pub pair_step : (c n : ℕ) (cs ns : List ℕ) (x C p o : ℕ) → C < product cs → o < product ns →
     (x * n + p) * product (pair_counts cs ns) + pair_number cs ns C o ≡ pair_number (c ∷ cs) (n ∷ ns) (x * product cs + C) (p * product ns + o)
 pair_step c n cs ns x C p o hC ho =
     let first : (x * product cs + C) / product cs ≡ x = div-mul-add x (product cs) C hC in

@@ -3,13 +3,9 @@ use Rattle.std.proofs.Common.{◌≡◌, ℕ, zero, suc, ◌+◌, ◌*◌, ◌/�
 use Rattle.std.proofs.lemmas.Nat.{div-mul-add, mod-mul-add}
 use Rattle.dp_base.proofs.Sums.{int_sum_ext, int_sum_prod, int_sum_swap}
 use Rattle.dp_spec.specs.JointNumbers.{joint_number, parts_of, product}
-use Rattle.dp_spec.specs.Merge.{inserted, without}
+use Rattle.dp_spec.specs.Merge.{inserted, without, placed_number}
 use Rattle.dp_base.specs.Sums.{int_sum}
 use Rattle.dp_spec.proofs.JointNumberLaws.{AreBelow, joint_number-parts_of, length-below, parts_below, parts_of-joint_number}
-
--- the joint number whose part at place i is c and whose others have joint number x
-abbrev pub placed_number : ℕ → List ℕ → ℕ → ℕ → ℕ
-placed_number i ns c x = joint_number ns (inserted i c (parts_of (without i ns) x))
 
 -- ---- lists
 pub get_or-inserted : (i c : ℕ) (ps : List ℕ) → i ≤ length ps → get_or (inserted i c ps) i 0 ≡ c
@@ -77,7 +73,8 @@ joint_is_placed i ns xs p h =
 place_first : (n : ℕ) (ns : List ℕ) (c x : ℕ) → x < product ns → c * product ns + x ≡ placed_number zero (n ∷ ns) c x
 place_first n ns c x h = ap (λ (z : ℕ). c * product ns + z) (sym (joint_number-parts_of ns x h))
 
-place_later : (i n : ℕ) (ns : List ℕ) (y c x : ℕ) → x < product (without i ns)
+-- a place behind the first agent
+pub place_later : (i n : ℕ) (ns : List ℕ) (y c x : ℕ) → x < product (without i ns)
     → y * product ns + placed_number i ns c x ≡ placed_number (suc i) (n ∷ ns) c (y * product (without i ns) + x)
 place_later i n ns y c x h =
     let first : (y * product (without i ns) + x) / product (without i ns) ≡ y = div-mul-add y (product (without i ns)) x h in

@@ -4,7 +4,7 @@ use Rattle.std.specs.Prelude.{unwrap_or}
 use Rattle.std.specs.List.{range_with_len}
 use Rattle.std.proofs.lemmas.List.{get_or-set_other, get_or-set_same, get_or_append_left, get_or_push}
 use Rattle.std.proofs.lemmas.List.FromFn.{get_or-map-range_with_len}
-use Rattle.std.proofs.lemmas.Nat.{div-mul-add, mod-mul-add, mod_below}
+use Rattle.std.proofs.lemmas.Nat.{mod_below}
 use Rattle.std.proofs.Math.Nat.{pow-suc}
 use Rattle.dp_laws.proofs.Keeping.{tree_at_fits}
 use Rattle.dp_laws.proofs.CompleteFronts.{new_class, some_at}
@@ -19,7 +19,7 @@ use Rattle.dp_spec.specs.PolicyTree.IsJointPolicy.{and_agent as and_policy, no_a
 use Rattle.dp_spec.specs.Steps.{IsUnassigned, advanced_agent, advanced_agents, advanced_front, advanced_if, all_chosen, chosen_front, front_after_choice, is_complete, with_choice}
 use Rattle.dp_spec.specs.WellFormed.{AreAgentFronts, IsAgentFront, IsFront}
 use Rattle.dp_spec.specs.WellFormed.AreAgentFronts.{and_agent as and_front, no_agents as no_fronts}
-use Rattle.dp_spec.proofs.JointNumberLaws.{part_below, positive_right}
+use Rattle.dp_spec.proofs.JointNumberLaws.{part_below, positive_right, same_parts}
 use Rattle.std.proofs.lemmas.Bool.{and_parts, cases_eq}
 use Rattle.dp_base.proofs.Order.{last_or_before}
 
@@ -62,13 +62,6 @@ pub keeps_some_choice : (m : Model) (h : ℕ) (F : Front) (qs : List PolicyTree)
 keeps_some_choice m h F qs i c front lt policy keeps free = choose (h - suc F.stage) (omega arith) front.agents policy keeps i c free
 
 -- ---- advancing
--- equal numbers have equal parts
-pub same_parts : (n p j p' j' : ℕ) → j < n → j' < n → p * n + j ≡ p' * n + j' → (p ≡ p') × (j ≡ j')
-same_parts n p j p' j' lt lt' e = (
-  sym (div-mul-add p n j lt) ∙ ap (λ (z : ℕ). z / n) e ∙ div-mul-add p' n j' lt',
-  sym (mod-mul-add p n j lt) ∙ ap (λ (z : ℕ). z % n) e ∙ mod-mul-add p' n j' lt',
-)
-
 keeps_next : (b n f : ℕ) (d : AgentFront) (q : PolicyTree) → IsAgentFront b n f d → KeepsAgentFront n f d q
     → all_chosen d.chosen ≡ true → KeepsAgentFront n (suc f) (advanced_agent n f d) q
 unfolding advanced_agent

@@ -1,8 +1,8 @@
 -- how a merged front weighs, and which joint actions agree with it
-use Rattle.std.proofs.Common.{◌≡◌, ◌≢◌, inl, inr, ℕ, zero, suc, ◌+◌, ◌<◌, ◌≤◌, Bool, true, false, cond, ◌&&◌, eqb, ltb, List, [], ◌∷◌, length, get_or, filter, Option, None, refl, sym, ap, ◌∙◌, subst, arith}
+use Rattle.std.proofs.Common.{◌≡◌, ◌≢◌, inl, inr, ℕ, zero, suc, ◌+◌, ◌<◌, ◌≤◌, Bool, true, false, cond, ◌&&◌, eqb, List, [], ◌∷◌, length, get_or, filter, Option, None, refl, sym, ap, ◌∙◌, subst, arith}
 use Rattle.std.proofs.lemmas.Bool.Decides.{nat_tests}
 use Rattle.dp_laws.proofs.AdvancedFronts.{both_tests, classes_below}
-use Rattle.dp_laws.proofs.JointPlaces.{below_others, joint_is_placed, parts-placed, placed_injective, placed_number}
+use Rattle.dp_laws.proofs.JointPlaces.{below_others, joint_is_placed, parts-placed, placed_injective}
 use Rattle.dp_laws.proofs.MergedAgents.{get_or-renumbered, get_or-without_above, get_or-without_below, length-without}
 use Rattle.dp_laws.proofs.MergedTrees.{fixed_joint_action_merged}
 use Rattle.dp_laws.proofs.OwnHistories.{own_histories_within}
@@ -10,7 +10,7 @@ use Rattle.dp_spec.specs.Bound.{agreeing_actions, agrees, all_agree}
 use Rattle.dp_spec.specs.Front.{AgentFront, Front, class_counts, class_weight, fixed_joint_action, joint_class, own_classes, own_histories}
 use Rattle.dp_spec.specs.JointHistory.{IsJointHistory, history_weight, nat_history_sum}
 use Rattle.dp_spec.specs.JointNumbers.{joint_number, parts_of, product}
-use Rattle.dp_spec.specs.Merge.{class_of_agent, class_of_others, inserted, merged_agents, merged_front, place_weight, renumbered, without}
+use Rattle.dp_spec.specs.Merge.{class_of_agent, class_of_others, inserted, merged_agents, merged_front, place_weight, renumbered, without, placed_number, kept_class}
 use Rattle.dp_spec.specs.Model.{Model, joint_actions, joint_observations}
 use Rattle.dp_spec.specs.Steps.{IsUnassigned}
 use Rattle.dp_base.specs.Sums.{numbers_below}
@@ -37,7 +37,8 @@ module _ (m : Model) (h : ℕ) (F : Front) (front : IsFront m h F) (i : ℕ) (i_
   unfolding class_of_agent
   agent_in_range H p = below_at i _ _ i_in (classes_in H p)
 
-  others_in_range : (H : List ℕ) → IsJointHistory (joint_observations m) F.stage H
+  -- and so is the joint class of the others
+  pub others_in_range : (H : List ℕ) → IsJointHistory (joint_observations m) F.stage H
       → class_of_others m F i H < product (without i (class_counts F.agents))
   unfolding class_of_others
   others_in_range H p = joint_number_below _ _ (below_others i _ _ (classes_in H p))
@@ -98,10 +99,6 @@ class_renumbered zero a b (d ∷ ds) [] h = renumbered_none a b h
 class_renumbered (suc i) a b (d ∷ ds) [] h = renumbered_none a b h
 class_renumbered zero a b (d ∷ ds) (x ∷ xs) h = get_or-renumbered a b d.class_of x h
 class_renumbered (suc i) a b (d ∷ ds) (x ∷ xs) h = class_renumbered i a b ds xs h
-
--- the old class that has become class c, where second was joined into another
-abbrev pub kept_class : ℕ → ℕ → ℕ
-kept_class second c = cond (ltb c second) c (suc c)
 
 -- ---- weights
 same_test : (a b k c w : ℕ) → a < b → a ≢ c → cond (eqb (renumbered a b k) c) w 0 ≡ cond (eqb k (kept_class b c)) w 0

@@ -3,11 +3,11 @@ use Rattle.std.proofs.Common.{◌≡◌, ℕ, zero, suc, ◌+◌, ◌-◌, ◌*�
 use Rattle.std.proofs.Math.Nat.{le-mul_of_pos_right, mul-le-mul, mul-le-mul_right, mul_assoc, mul_comm}
 use Rattle.std.proofs.lemmas.Nat.{pow-add}
 use Rattle.dp_laws.proofs.ExactHistorySizes.{start_total as exact_start_total}
-use Rattle.dp_laws.proofs.ExactPushes.{exact_can_push, power_grows, weight_room, whole_room}
-use Rattle.dp_laws.proofs.ExactSizes.{pushed_total, reward_total}
+use Rattle.dp_laws.proofs.ExactWeightUpdates.{exact_can_update_weights, power_grows, weight_room, whole_room}
+use Rattle.dp_laws.proofs.ExactSizes.{updated_total, reward_total}
 use Rattle.dp_spec.proofs.ModeCondition.{reward_most}
 use Rattle.dp_laws.proofs.OrderedSpans.{total_size, weight_ordered}
-use Rattle.dp_laws.proofs.OutwardModeSizes.{outward_can_push, reward_room, state_squares}
+use Rattle.dp_laws.proofs.OutwardModeSizes.{outward_can_update_weights, reward_room, state_squares}
 use Rattle.dp_laws.proofs.OutwardSizes.{spread_total, start_total as outward_start_total}
 use Rattle.dp_laws.proofs.RowSizes.{next_rows_are_weights, next_rows_total, row_acts, rows_total}
 use Rattle.dp_spec.proofs.QuantityScales.{scale_of_first, scale_of_next}
@@ -20,7 +20,7 @@ use Rattle.dp_spec.specs.Quantities.{weights_after_in}
 use Rattle.dp_spec.specs.SharedPolicy.{IsSharedOf, SharedPolicy}
 use Rattle.dp_spec.specs.SharedWorth.{joint_row_action, joint_row_count, row_weight_in}
 use Rattle.dp_spec.specs.Sizes.{AreWeights, reward_size}
-use Rattle.dp_spec.specs.SizesOfRows.{CanShare, rows_earn_size, rows_push_size}
+use Rattle.dp_spec.specs.SizesOfRows.{CanShare, rows_earn_size, rows_update_size}
 use Rattle.dp_base.specs.Sums.{nat_sum}
 use Rattle.dp_spec.proofs.ModelLaws.{some_state}
 use Rattle.dp_base.proofs.NaturalSumLaws.{nat_sum_add, nat_sum_const, nat_sum_le, nat_sum_most, nat_sum_times}
@@ -33,13 +33,13 @@ regroup d p x q k e = omega (arith, ap (λ (n : ℕ). d * n * x) e)
 
 module _ (m : Model) (is : IsModel m) (h : ℕ) (some : 0 < h) (mode : true ≡ is_exact_mode m h) (p : SharedPolicy) (shared : IsSharedOf m h p) where
   -- all next weights of a stage
-  exact_push : (t : ℕ) → rows_push_size (exact m.scales) m p t ≤ rows_total (exact m.scales) m p t * step_scale m
-  unfolding rows_push_size
-  exact_push t =
+  exact_update : (t : ℕ) → rows_update_size (exact m.scales) m p t ≤ rows_total (exact m.scales) m p t * step_scale m
+  unfolding rows_update_size
+  exact_update t =
       let R = joint_row_count p t in
       let W = λ (j : ℕ). row_weight_in (exact m.scales) m p t j in
       let each = nat_sum_le R (λ j. nat_sum (joint_observations m) (λ o. total_size m (weights_after_in (exact m.scales) m (W j) (joint_row_action m p t j) o))) (λ j. total_size m (W j) * step_scale m)
-      (λ j hj. pushed_total m is (W j) (joint_row_action m p t j) (row_acts m h p shared.agents t j hj)) in
+      (λ j hj. updated_total m is (W j) (joint_row_action m p t j) (row_acts m h p shared.agents t j hj)) in
       let times = nat_sum_times R (λ j. total_size m (W j)) (step_scale m) in omega arith
 
   -- all weights of a stage
@@ -52,21 +52,21 @@ module _ (m : Model) (is : IsModel m) (h : ℕ) (some : 0 < h) (mode : true ≡ 
       let single = ap (λ (n : ℕ). n * total_size m (λ s. (exact m.scales).start (start_at m s))) one in omega arith
   exact_rows (suc t) =
       let next = next_rows_total (exact m.scales) m p t in
-      let push = exact_push t in
+      let update = exact_update t in
       let rest = mul-le-mul_right (step_scale m) (exact_rows t) in
       let e = scale_of_next m t in omega arith
 
   -- they are weights of the stage
   exact_weights : (t : ℕ) → t < h → (j : ℕ) → j < joint_row_count p t → AreWeights true m t (row_weight_in (exact m.scales) m p t j)
   unfolding exact
-  exact_weights zero lt j inside = (exact_can_push m is h some mode).started
+  exact_weights zero lt j inside = (exact_can_update_weights m is h some mode).started
   exact_weights (suc t) lt j inside =
-      next_rows_are_weights (exact m.scales) (exact_calls m.scales) m h (exact_can_push m is h some mode) p shared.agents t (omega arith) (exact_weights t (omega arith)) (exact_rows (suc t)) j inside
+      next_rows_are_weights (exact m.scales) (exact_calls m.scales) m h (exact_can_update_weights m is h some mode) p shared.agents t (omega arith) (exact_weights t (omega arith)) (exact_rows (suc t)) j inside
 
   -- all next weights fit
-  exact_push_fits : (t : ℕ) → t < h → rows_push_size (exact m.scales) m p t < 2 ^ 127
-  exact_push_fits t lt =
-      let push = exact_push t in
+  exact_update_fits : (t : ℕ) → t < h → rows_update_size (exact m.scales) m p t < 2 ^ 127
+  exact_update_fits t lt =
+      let update = exact_update t in
       let rest = mul-le-mul_right (step_scale m) (exact_rows t) in
       let e = scale_of_next m t in
       let grown = power_grows m is h some mode (suc t) lt in
@@ -112,10 +112,10 @@ module _ (m : Model) (is : IsModel m) (h : ℕ) (horizon : h ≤ 24) (p : Shared
       omega arith
 
   -- all next weights of a stage
-  outward_push : (t : ℕ) → t < h → ((j : ℕ) → j < joint_row_count p t → AreWeights false m t (row_weight_in (outward m.scales) m p t j))
-      → rows_push_size (outward m.scales) m p t ≤ rows_total (outward m.scales) m p t + 2 ^ 39
-  unfolding rows_push_size
-  outward_push t lt weights =
+  outward_update : (t : ℕ) → t < h → ((j : ℕ) → j < joint_row_count p t → AreWeights false m t (row_weight_in (outward m.scales) m p t j))
+      → rows_update_size (outward m.scales) m p t ≤ rows_total (outward m.scales) m p t + 2 ^ 39
+  unfolding rows_update_size
+  outward_update t lt weights =
       let R = joint_row_count p t in
       let c = m.states * (m.states + m.states * joint_observations m) in
       let W = λ (j : ℕ). row_weight_in (outward m.scales) m p t j in
@@ -130,7 +130,7 @@ module _ (m : Model) (is : IsModel m) (h : ℕ) (horizon : h ≤ 24) (p : Shared
       ((j : ℕ) → j < joint_row_count p t → AreWeights false m t (row_weight_in (outward m.scales) m p t j)) × (rows_total (outward m.scales) m p t ≤ 2 ^ 41 + t * 2 ^ 39)
   unfolding outward
   outward_rows zero lt = (
-    λ j inside. (outward_can_push m is h horizon).started,
+    λ j inside. (outward_can_update_weights m is h horizon).started,
     let one = one_joint_row shared.agents in
         let all = outward_start_total m is in
         let states = is.sizes.states_limit in
@@ -140,17 +140,17 @@ module _ (m : Model) (is : IsModel m) (h : ℕ) (horizon : h ≤ 24) (p : Shared
   outward_rows (suc t) lt =
       let before = outward_rows t (omega arith) in
       let next = next_rows_total (outward m.scales) m p t in
-      let push = outward_push t (omega arith) before.0 in
-      let total : rows_total (outward m.scales) m p (suc t) ≤ 2 ^ 41 + suc t * 2 ^ 39 = omega (arith, before.1, next, push) in
+      let update = outward_update t (omega arith) before.0 in
+      let total : rows_total (outward m.scales) m p (suc t) ≤ 2 ^ 41 + suc t * 2 ^ 39 = omega (arith, before.1, next, update) in
       let steps : suc t ≤ 2 ^ 5 = omega arith in
       let small : rows_total (outward m.scales) m p (suc t) ≤ 2 ^ 63 + suc t * (m.states * m.states) = omega arith in
-      (next_rows_are_weights (outward m.scales) (outward_calls m.scales) m h (outward_can_push m is h horizon) p shared.agents t (omega arith) before.0 small, total)
+      (next_rows_are_weights (outward m.scales) (outward_calls m.scales) m h (outward_can_update_weights m is h horizon) p shared.agents t (omega arith) before.0 small, total)
 
   -- all next weights fit
-  outward_push_fits : (t : ℕ) → t < h → rows_push_size (outward m.scales) m p t < 2 ^ 127
-  outward_push_fits t lt =
+  outward_update_fits : (t : ℕ) → t < h → rows_update_size (outward m.scales) m p t < 2 ^ 127
+  outward_update_fits t lt =
       let rows = outward_rows t lt in
-      let push = outward_push t lt rows.0 in omega (arith, rows.1, push)
+      let update = outward_update t lt rows.0 in omega (arith, rows.1, update)
 
   -- what they earn
   outward_earned : (f : ℕ) → f ≤ h → rows_earn_size (outward m.scales) m p h f ≤ f * 2 ^ 104
@@ -174,7 +174,7 @@ exact_can_share : (m : Model) → IsModel m → (h : ℕ) → 0 < h → true ≡
 unfolding exact
 exact_can_share m is h some mode = record {
   weights = λ p t j shared lt inside. exact_weights m is h some mode p shared t lt j inside;
-  push = λ p t shared lt. exact_push_fits m is h some mode p shared t lt;
+  update = λ p t shared lt. exact_update_fits m is h some mode p shared t lt;
   earned = λ p shared. exact_earned_fits m is h some mode p shared;
 }
 
@@ -182,7 +182,7 @@ outward_can_share : (m : Model) → IsModel m → (h : ℕ) → h ≤ 24 → Can
 unfolding outward
 outward_can_share m is h horizon = record {
   weights = λ p t j shared lt inside. (outward_rows m is h horizon p shared t lt).0 j inside;
-  push = λ p t shared lt. outward_push_fits m is h horizon p shared t lt;
+  update = λ p t shared lt. outward_update_fits m is h horizon p shared t lt;
   earned = λ p shared. outward_earned_fits m is h horizon p shared;
 }
 

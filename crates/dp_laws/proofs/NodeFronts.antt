@@ -21,7 +21,7 @@ use Rattle.dp_spec.specs.Fitting.{FitEachAction, FitsFront, front_bound}
 use Rattle.dp_spec.specs.Front.{AgentFront, Front}
 use Rattle.dp_spec.specs.JointNumbers.{product}
 use Rattle.dp_spec.specs.Merge.{merged_agents, merged_front, without}
-use Rattle.dp_spec.specs.Mode.{IsWithin, own_history_count}
+use Rattle.dp_spec.specs.Mode.{IsWithinLimits, own_history_count}
 use Rattle.dp_spec.specs.Model.{IsModel, Model, joint_actions, joint_observations}
 use Rattle.dp_spec.specs.Qualities.{Node, nodes_of, nodes_of_choices}
 use Rattle.dp_spec.specs.Steps.{IsUnassigned, advanced_agents, advanced_if, all_chosen, chosen_front, front_after_choice, is_complete, root_agent, root_front, with_choice}
@@ -30,6 +30,7 @@ use Rattle.dp_spec.specs.WellFormed.AreAgentFronts.{and_agent, no_agents}
 use Rattle.dp_spec.specs.Wide.{has_room, is_room, is_wide, next_class_counts, none_count, unassigned_count, widens}
 use Rattle.dp_spec.proofs.JointNumberLaws.{positive_left}
 use Rattle.dp_spec.proofs.ModelLaws.{some_joint_observation}
+use Rattle.dp_base.proofs.AllOfLists.{all_weaker}
 
 -- ---- what every step keeps
 module _ (A : Arithmetic) (m : Model) (is : IsModel m) (h look : ℕ) (Kept : Front → ℕ → Type 0)
@@ -86,10 +87,6 @@ nodes_have_room A m h look T is fits =
     T fits (root_has_room m h is)
 
 -- ---- histories apart
-
--- a fact of all is one of all where it follows
-all_weaker : {X : Type 0} (P Q : X → Type 0) (xs : List X) → ((x : X) → P x → Q x) → All P xs → All Q xs
-all_weaker P Q xs f all = λ i x e. f (get_or xs i x) (all i x e)
 
 pub nodes_keep_apart : (A : Arithmetic) (m : Model) (h look : ℕ) (T : BoundTree) → IsModel m → FitsRoot A m h look T → A.is_exact ≡ false →
     All (λ n. KeepsHistoriesApart m n.front) (nodes_of A m h look 0 T (root_front m) (front_bound A m h look (root_front m)))
@@ -155,7 +152,7 @@ next_counts_within {f} (and_agent {b = b} {n = n} {ns = ns} {d = d} front fronts
     let here : length d.chosen * n ≤ n ^ suc f = rw (pow-suc n f) (mul-le-mul_right n (classes_within_histories b n f d front)) in
     rw (mul-pow n (product ns) (suc f)) (mul-le-mul here (next_counts_within fronts))
 
-module _ (m : Model) (is : IsModel m) (h : ℕ) (limits : IsWithin m h) where
+module _ (m : Model) (is : IsModel m) (h : ℕ) (limits : IsWithinLimits m h) where
   -- as many inner nodes as own histories, and one less
   abbrev IsCounted : Front → ℕ → Type 0
   IsCounted F above =
@@ -265,6 +262,6 @@ module _ (m : Model) (is : IsModel m) (h : ℕ) (limits : IsWithin m h) where
       T fits root_counted)
 
 -- within the limits of version 1 no node is wide
-pub no_wide_node_in_one : (A : Arithmetic) (m : Model) (h look : ℕ) (T : BoundTree) → IsModel m → IsWithin m h → FitsRoot A m h look T →
+pub no_wide_node_in_one : (A : Arithmetic) (m : Model) (h look : ℕ) (T : BoundTree) → IsModel m → IsWithinLimits m h → FitsRoot A m h look T →
     All (λ n. is_wide m h n.above n.front ≡ false) (nodes_of A m h look 0 T (root_front m) (front_bound A m h look (root_front m)))
 no_wide_node_in_one A m h look T is limits fits = no_wide_node m is h limits A look T fits

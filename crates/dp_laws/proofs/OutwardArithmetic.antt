@@ -5,10 +5,10 @@ use Rattle.std.specs.Int.{int_min, int_max}
 use Rattle.dp_base.proofs.Ring.{v, nat, ◌⊗◌, by_ring, by_order, zmul_comm, zle_of, zle_trans, zmul_le, zadd_le, zadd_mul}
 use Rattle.dp_base.proofs.Floors.{mul_down_le, le_mul_up}
 use Rattle.dp_base.proofs.Order.{le_max_left, le_max_right, le_of_mul_le_left, max_is_either, min_is_either, mul_le_right}
-use Rattle.dp_spec.proofs.QuantityScales.{step_scale_is}
-use Rattle.dp_spec.specs.Arithmetic.{outward}
+use Rattle.dp_spec.specs.declared.scales.Scales.{Scales}
+use Rattle.dp_spec.specs.Arithmetic.{outward, reward_factor}
 use Rattle.dp_spec.specs.Enclosure.{IsSound, containment}
-use Rattle.dp_spec.specs.Model.{IsModel, Model, step_scale}
+use Rattle.dp_spec.specs.Calls.{AreInRange}
 use Rattle.dp_base.specs.Rounding.{by_sign, mul_down, mul_up}
 
 -- ---- over the scale T and in the unit u
@@ -184,25 +184,24 @@ chance_above T u w p z a b l some some' h =
     same_above _ _ u _ _ _ (product_of_scales T a b) (product_of_chances w p z) (times_above (T * a) u z b (pos w *ℤ pos p) (mul_up l (pos p) a) some' (times_above T u p a (pos w) l some h))
 
 -- each operation of the outward arithmetic is sound
-pub outward_sound : (m : Model) → IsModel m → IsSound m (outward m.scales) containment
+pub outward_sound : (c : Scales) → AreInRange c → IsSound c (outward c) containment
 unfolding outward
-outward_sound m ok = record {
-  start = λ b. record { from = start_below m.scales.start (10 ^ 12) b ok.scales.start; to = start_above m.scales.start (10 ^ 12) b ok.scales.start };
+outward_sound c ok = record {
+  start = λ b. record { from = start_below c.start (10 ^ 12) b ok.start.0; to = start_above c.start (10 ^ 12) b ok.start.0 };
   one = record { from = zle_of _ _ refl; to = zle_of _ _ refl };
   chance = λ T w p z s h. record {
-    from = chance_below T (10 ^ 12) w p z m.scales.trans m.scales.obs s.low ok.scales.trans ok.scales.obs h.from;
-    to = chance_above T (10 ^ 12) w p z m.scales.trans m.scales.obs s.high ok.scales.trans ok.scales.obs h.to;
+    from = chance_below T (10 ^ 12) w p z c.trans c.obs s.low ok.trans.0 ok.obs.0 h.from;
+    to = chance_above T (10 ^ 12) w p z c.trans c.obs s.high ok.trans.0 ok.obs.0 h.to;
   };
   later = λ T w s h. record {
-    from = times_below T (10 ^ 12) m.scales.gain m.scales.discount (pos w) s.low ok.scales.discount h.from;
-    to = times_above T (10 ^ 12) m.scales.gain m.scales.discount (pos w) s.high ok.scales.discount h.to;
+    from = times_below T (10 ^ 12) c.gain c.discount (pos w) s.low ok.discount.0 h.from;
+    to = times_above T (10 ^ 12) c.gain c.discount (pos w) s.high ok.discount.0 h.to;
   };
   gain = λ T w rest r s h. record {
-    from = gain_below T (10 ^ 12) (10 ^ 9) (m.scales.discount * step_scale m ^ rest) m.scales.reward 1000 w s.low s.high r (omega arith) (thousands_positive _ ok.scales.reward) refl h.from h.to;
-    to = gain_above T (10 ^ 12) (10 ^ 9) (m.scales.discount * step_scale m ^ rest) m.scales.reward 1000 w s.low s.high r (omega arith) (thousands_positive _ ok.scales.reward) refl h.from h.to;
+    from = gain_below T (10 ^ 12) (10 ^ 9) (reward_factor c rest) c.reward 1000 w s.low s.high r (omega arith) (thousands_positive _ ok.reward.0) refl h.from h.to;
+    to = gain_above T (10 ^ 12) (10 ^ 9) (reward_factor c rest) c.reward 1000 w s.low s.high r (omega arith) (thousands_positive _ ok.reward.0) refl h.from h.to;
   };
-  carry = λ F p x u h. subst (λ (n : ℕ). IsAbove (F * n) (10 ^ 9) (pos (p * m.scales.obs * m.scales.gain) *ℤ x) (mul_up (mul_up u (pos p) m.scales.trans) (pos m.scales.gain) m.scales.discount)) (step_scale_is m)
-      (carry_above F (10 ^ 9) p m.scales.obs m.scales.trans m.scales.discount m.scales.gain x u ok.scales.trans ok.scales.discount h);
+  carry = λ F p x u h. carry_above F (10 ^ 9) p c.obs c.trans c.discount c.gain x u ok.trans.0 ok.discount.0 h;
   tail = λ T w F x u s h o. tail_above T F (10 ^ 12) (10 ^ 9) w s.low s.high x u (omega arith) h.from h.to o;
   no_weight = λ T. record { from = none_below T (10 ^ 12); to = none_above T (10 ^ 12) };
   more_weight = λ T x y a b p q. record { from = sum_below T (10 ^ 12) (pos x) (pos y) _ _ p.from q.from; to = sum_above T (10 ^ 12) (pos x) (pos y) _ _ p.to q.to };

@@ -8,7 +8,7 @@ use Rattle.dp_laws.proofs.ActingHistories.{class_weights, front_acting, history_
 use Rattle.dp_laws.proofs.OneStep.{trees_after_fit, root_joint_action_below}
 use Rattle.dp_laws.proofs.OrderedSpans.{classes_total, total_size, weight_ordered}
 use Rattle.dp_laws.proofs.OutwardLookSizes.{looks_room}
-use Rattle.dp_laws.proofs.OutwardModeSizes.{limit_room, next_weights, outward_can_push, reward_room, state_squares}
+use Rattle.dp_laws.proofs.OutwardModeSizes.{limit_room, next_weights, outward_can_update_weights, reward_room, state_squares}
 use Rattle.dp_laws.proofs.OutwardSizes.{next_total, start_total}
 use Rattle.dp_laws.proofs.SizeSums.{action_look_le, agreeing_below}
 use Rattle.dp_spec.specs.Arithmetic.{outward}
@@ -21,8 +21,8 @@ use Rattle.dp_spec.specs.Model.{IsModel, Model, joint_observations}
 use Rattle.dp_spec.specs.PolicyTree.{IsPolicyOf, PolicyTree}
 use Rattle.dp_spec.specs.Quantities.{action_look_ahead_in, class_weight_in, history_weight_in, weights_after_in}
 use Rattle.dp_spec.specs.Sizes.{AreWeights, reward_size, weight_limit}
-use Rattle.dp_spec.specs.SizesOfEarnings.{CanEarn, CanEvaluate, IsActing, earned_size, worth_size}
-use Rattle.dp_spec.specs.SizesOfFronts.{CanAdvance, IsChoosing, advanced_size, class_reward_size, CanBound, CanClassify, CanRefine, class_look_size}
+use Rattle.dp_spec.specs.SizesOfEarnings.{CanEvaluate, IsActing, earned_size, worth_size}
+use Rattle.dp_spec.specs.SizesOfFronts.{IsChoosing, advanced_size, class_reward_size, CanRefine, class_look_size}
 use Rattle.dp_base.specs.Sums.{greatest, nat_sum}
 use Rattle.dp_spec.specs.Value.{joint_root_action, trees_after}
 use Rattle.dp_spec.specs.WellFormed.{IsFront}
@@ -93,7 +93,7 @@ module _ (m : Model) (is : IsModel m) (h : ℕ) (horizon : h ≤ 24) (k : ℕ) (
       → IsJointHistory (joint_observations m) t H
       → AreWeights false m t (history_weight_in (outward m.scales) m act H)
   unfolding outward
-  weights_of act t H le acts hist = history_weights (outward m.scales) (outward_calls m.scales) m h (outward_can_push m is h horizon) act t H le acts hist
+  weights_of act t H le acts hist = history_weights (outward m.scales) (outward_calls m.scales) m h (outward_can_update_weights m is h horizon) act t H le acts hist
 
   -- what is earned by the time
   earned_room : (act : List ℕ → ℕ) (f : ℕ) → f ≤ h → f ≤ suc k → IsActing m f act
@@ -164,13 +164,13 @@ module _ (m : Model) (is : IsModel m) (h : ℕ) (horizon : h ≤ 24) (k : ℕ) (
       let all_few = mul-le-mul_right (2 ^ 40) (histories_until F.stage few) in omega arith
 
   -- they are weights of the stage
-  pub weights_of_class : (F : Front) (C : ℕ) → IsFront m h F → F.stage < h → F.stage ≤ k
+  weights_of_class : (F : Front) (C : ℕ) → IsFront m h F → F.stage < h → F.stage ≤ k
       → AreWeights false m F.stage (class_weight_in (outward m.scales) m F C)
   unfolding outward
-  weights_of_class F C front lt few = class_weights (outward m.scales) (outward_calls m.scales) m h (outward_can_push m is h horizon) F C front lt (class_limit F C front lt few)
+  weights_of_class F C front lt few = class_weights (outward m.scales) (outward_calls m.scales) m h (outward_can_update_weights m is h horizon) F C front lt (class_limit F C front lt few)
 
   -- all weights of a time fit
-  pub weights_fit : (act : List ℕ → ℕ) (t : ℕ) → t ≤ h → t ≤ suc k → IsActing m t act
+  weights_fit : (act : List ℕ → ℕ) (t : ℕ) → t ≤ h → t ≤ suc k → IsActing m t act
       → nat_history_sum (joint_observations m) t (λ H. total_size m (history_weight_in (outward m.scales) m act H))
       < 2 ^ 127
   weights_fit act t le until acts = let all = histories_total act t le acts in let few = mul-le-mul_right (2 ^ 40) (histories_to t until) in omega arith
@@ -200,15 +200,15 @@ module _ (m : Model) (is : IsModel m) (h : ℕ) (horizon : h ≤ 24) (k : ℕ) (
       omega arith
 
   -- what a front has earned and its best look-aheads
-  pub front_fits : (F : Front) (r look : ℕ) → IsFront m h F → F.stage + suc r ≡ h → F.stage ≤ k
+  front_fits : (F : Front) (r look : ℕ) → IsFront m h F → F.stage + suc r ≡ h → F.stage ≤ k
       → earned_size (outward m.scales) m (fixed_joint_action m F) h F.stage + class_look_size (outward m.scales) m r F look
-      < 2 ^ 127
+      ≤ 2 ^ 126
   front_fits F r look front e few =
       let earned = earned_most (fixed_joint_action m F) F.stage (omega arith) (omega arith) (front_acting m h F front) in
       let looks = class_looks_most F r look front e few in omega arith
 
   -- all next weights of a front's joint classes
-  pub advanced_fits : (F : Front) (act : ℕ → ℕ) → IsFront m h F → F.stage < h → F.stage ≤ k → IsChoosing m F act
+  advanced_fits : (F : Front) (act : ℕ → ℕ) → IsFront m h F → F.stage < h → F.stage ≤ k → IsChoosing m F act
       → advanced_size (outward m.scales) m F act < 2 ^ 127
   unfolding advanced_size
   advanced_fits F act front lt few chosen =
@@ -223,7 +223,7 @@ module _ (m : Model) (is : IsModel m) (h : ℕ) (horizon : h ≤ 24) (k : ℕ) (
       omega arith
 
   -- what a front has earned and its rewards
-  pub rewards_of_front_fit : (F : Front) (r : ℕ) (act : ℕ → ℕ) → IsFront m h F → F.stage + suc r ≡ h → F.stage ≤ k → IsChoosing m F act
+  rewards_of_front_fit : (F : Front) (r : ℕ) (act : ℕ → ℕ) → IsFront m h F → F.stage + suc r ≡ h → F.stage ≤ k → IsChoosing m F act
       → earned_size (outward m.scales) m (fixed_joint_action m F) h F.stage + class_reward_size (outward m.scales) m r F act
       < 2 ^ 127
   unfolding class_reward_size
@@ -245,29 +245,4 @@ module _ (m : Model) (is : IsModel m) (h : ℕ) (horizon : h ≤ 24) (k : ℕ) (
     bound = λ r look e. front_fits F r look front e few;
     advance = λ act chosen. advanced_fits F act front lt few chosen;
     rewards = λ r act e chosen. rewards_of_front_fit F r act front e few chosen;
-  }
-
--- ---- up to the last stage
-module _ (m : Model) (is : IsModel m) (h : ℕ) (horizon : h ≤ 24) (cells : m.states * joint_observations m ^ (h - 1) ≤ 2 ^ 22) where
-  -- in outward mode earnings can be added up
-  pub outward_can_earn : CanEarn (outward m.scales) m h
-  outward_can_earn = record { add = λ act f le acts. let most = earned_most m is h horizon (h - 1) cells act f le (omega arith) acts in omega arith }
-
-  -- weights of joint classes can be added up
-  pub outward_can_classify : CanClassify (outward m.scales) m h
-  unfolding outward
-  outward_can_classify = record {
-    add = λ act t le acts. weights_fit m is h horizon (h - 1) cells act t le (omega arith) acts;
-    weights = λ F C front lt. weights_of_class m is h horizon (h - 1) cells F C front lt (omega arith);
-  }
-
-  -- the bound of a front can be added up
-  pub outward_can_bound : CanBound (outward m.scales) m h
-  outward_can_bound = record { add = λ F r look front e. front_fits m is h horizon (h - 1) cells F r look front e (omega arith) }
-
-  -- a front can be advanced
-  pub outward_can_advance : CanAdvance (outward m.scales) m h
-  outward_can_advance = record {
-    weights = λ F act front lt chosen. advanced_fits m is h horizon (h - 1) cells F act front lt (omega arith) chosen;
-    earned = λ F r act front e chosen. rewards_of_front_fit m is h horizon (h - 1) cells F r act front e (omega arith) chosen;
   }

@@ -12,6 +12,7 @@ use Rattle.dp_spec.proofs.ModeCondition.{reward_most, reward_most_within, step_s
 use Rattle.dp_base.proofs.Order.{mul_le_right}
 use Rattle.dp_laws.proofs.OrderedSpans.{IsOrdered, total_size, weight_ordered}
 use Rattle.dp_laws.proofs.OutwardArithmetic.{outward_sound}
+use Rattle.dp_spec.proofs.ScaleRange.{scales_in_range}
 use Rattle.dp_laws.proofs.OutwardModeSizes.{limit_room, next_weights, reward_room, table_room, weight_le, weight_of}
 use Rattle.dp_laws.proofs.OutwardSizes.{tail_most}
 use Rattle.dp_base.proofs.Ring.{zle_of}
@@ -57,7 +58,7 @@ module _ (m : Model) (is : IsModel m) where
   true_most : (r k : ℕ) (w : ℕ → ℕ) → unsigned_abs (look_ahead m r w k) ≤ nat_sum m.states w * value_most m r
   true_most r k w =
       let spans = λ (s : ℕ). point (pos (w s)) in
-      let e : look_ahead_in (exact m.scales) m r spans k ≡ look_ahead m r w k = look_ahead_enclosed m (exact m.scales) equality (exact_sound m) is 1 r k w spans (λ s p. refl) in
+      let e : look_ahead_in (exact m.scales) m r spans k ≡ look_ahead m r w k = look_ahead_enclosed m (exact m.scales) equality (exact_sound m.scales) is 1 r k w spans (λ s p. refl) in
       let most = look_most m is r k spans in
       let f = nat_sum_ext m.states (λ s. size (spans s)) w (λ s p. same (w s)) in
       let g = ap (λ (n : ℕ). n * value_most m r) f in
@@ -92,7 +93,7 @@ module _ (m : Model) (is : IsModel m) where
   unfolding value_most
   look_from r k ws few small ordered =
       let w = λ (s : ℕ). unsigned_abs (ws s).low in
-      let above = look_ahead_enclosed m (outward m.scales) containment (outward_sound m is) is (10 ^ 12) r k w ws (λ s p. low_enclosed (ws s) (ordered s p)) in
+      let above = look_ahead_enclosed m (outward m.scales) containment (outward_sound m.scales (scales_in_range m.scales is.scales)) is (10 ^ 12) r k w ws (λ s p. low_enclosed (ws s) (ordered s p)) in
       let most = mul-le-mul_right (10 ^ 9) (true_most r k w) in
       let lows : nat_sum m.states w ≤ total_size m ws = nat_sum_le m.states w (λ s. size (ws s)) (λ s p. omega arith) in
       let value = scaled_value (nat_sum m.states w) r (reward_most m) m.scales.reward (step_scale m ^ r) (omega arith) few (reward_most_within m is) in

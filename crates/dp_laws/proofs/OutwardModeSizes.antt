@@ -1,4 +1,4 @@
--- In outward mode pushes, rewards and the table stay within their types up to a horizon of 24, by the limits.
+-- In outward mode updates of weights, rewards and the table stay within their types up to a horizon of 24, by the limits.
 use Rattle.std.proofs.Common.{◌≡◌, ℕ, zero, suc, ◌+◌, ◌-◌, ◌*◌, ◌^◌, ◌<◌, ◌≤◌, false, pos, ◌≤ℤ◌, unsigned_abs, refl, arith}
 use Rattle.std.proofs.lemmas.Bool.{false≢true}
 use Rattle.std.proofs.lemmas.Int.{ints}
@@ -13,7 +13,7 @@ use Rattle.dp_spec.specs.Arithmetic.{outward}
 use Rattle.dp_spec.specs.Calls.{IsWeight, outward_calls, size}
 use Rattle.dp_spec.specs.Model.{IsModel, Model, joint_actions, joint_observations, obs_at, reward_at, start_at, trans_at}
 use Rattle.dp_spec.specs.Quantities.{mdp_table_in, weights_after_in}
-use Rattle.dp_spec.specs.Sizes.{AreWeights, CanPush, CanReward, IsStep, reward_size}
+use Rattle.dp_spec.specs.Sizes.{AreWeights, CanUpdateWeights, CanReward, IsStep, reward_size}
 use Rattle.dp_spec.specs.SizesOfTable.{CanTabulate, table_later_size, table_reward_size}
 use Rattle.dp_base.specs.Sums.{nat_sum, numbers_below}
 use Rattle.dp_base.proofs.Members.{below-IsIn}
@@ -153,16 +153,16 @@ module _ (m : Model) (is : IsModel m) where
       limit = let all = next_total m is ws a o pa po (λ s p. weight_ordered are s p) in let before = are.limit in omega arith;
     }
 
-    -- in outward mode pushes are allowed
-    pub outward_can_push : CanPush (outward m.scales) (outward_calls m.scales) m h
+    -- in outward mode weights can be updated
+    pub outward_can_update_weights : CanUpdateWeights (outward m.scales) (outward_calls m.scales) m h
     unfolding outward
-    outward_can_push = record {
+    outward_can_update_weights = record {
       start = start_part;
       started = started_weights;
       chance = may_chance;
       later = may_later;
       add = may_add;
-      pushed = λ t ws a o lt are pa po. next_weights t ws a o are pa po;
+      updated = λ t ws a o lt are pa po. next_weights t ws a o are pa po;
     }
 
     -- ---- rewards

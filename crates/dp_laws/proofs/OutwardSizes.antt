@@ -8,7 +8,7 @@ use Rattle.dp_spec.proofs.ModeCondition.{reward_within}
 use Rattle.dp_base.proofs.Order.{le_of_mul_le_right, mul_le_right}
 use Rattle.dp_laws.proofs.OrderedSpans.{IsOrdered, high_is_size, total_size}
 use Rattle.dp_base.proofs.Ring.{zle_of, zle_pos, zle_trans}
-use Rattle.dp_laws.proofs.SizeSums.{pushed_size_le}
+use Rattle.dp_laws.proofs.SizeSums.{updated_size_le}
 use Rattle.dp_spec.specs.Arithmetic.{outward}
 use Rattle.dp_spec.specs.Calls.{size}
 use Rattle.dp_spec.specs.Model.{IsModel, Model, joint_actions, joint_observations, obs_at, reward_at, start_at, trans_at}
@@ -214,7 +214,7 @@ module _ (m : Model) (is : IsModel m) where
   next_total ws a o pa po h =
       let parts = next_parts ws a o pa po h in
       let each = nat_sum_le m.states (λ u. size (weights_after_in (outward m.scales) m ws a o u)) (λ u. nat_sum m.states (λ s. size ((outward m.scales).later ((outward m.scales).chance (ws s) (trans_at m a s u) (obs_at m a u o)))))
-      (λ u p. pushed_size_le (outward m.scales) m ws a o u) in
+      (λ u p. updated_size_le (outward m.scales) m ws a o u) in
       omega arith
 
   -- the parts of one weight after all joint observations
@@ -246,7 +246,7 @@ module _ (m : Model) (is : IsModel m) where
       let O = joint_observations m in
       let f = λ (o u s : ℕ). size ((outward m.scales).later ((outward m.scales).chance (ws s) (trans_at m a s u) (obs_at m a u o))) in
       let parts = nat_sum_le O (λ o. total_size m (weights_after_in (outward m.scales) m ws a o)) (λ o. nat_sum S (λ u. nat_sum S (λ s. f o u s)))
-      (λ o po. nat_sum_le S (λ u. size (weights_after_in (outward m.scales) m ws a o u)) (λ u. nat_sum S (λ s. f o u s)) (λ u pu. pushed_size_le (outward m.scales) m ws a o u)) in
+      (λ o po. nat_sum_le S (λ u. size (weights_after_in (outward m.scales) m ws a o u)) (λ u. nat_sum S (λ s. f o u s)) (λ u pu. updated_size_le (outward m.scales) m ws a o u)) in
       let first = nat_sum_swap O S (λ o u. nat_sum S (λ s. f o u s)) in
       let second = nat_sum_ext S (λ u. nat_sum O (λ o. nat_sum S (λ s. f o u s))) (λ u. nat_sum S (λ s. nat_sum O (λ o. f o u s))) (λ u pu. nat_sum_swap O S (λ o s. f o u s)) in
       let third = nat_sum_swap S S (λ u s. nat_sum O (λ o. f o u s)) in

@@ -1,13 +1,12 @@
 -- The worth of a plain shared policy is the forward worth of what its rows mean, in any arithmetic: its joint rows are
 -- the joint histories.
-use Rattle.std.proofs.Common.{◌≡◌, ◌≢◌, inl, inr, ℕ, zero, suc, ◌-◌, ◌<◌, ◌≤◌, true, false, cond, eqb, ℤ, pos, List, [], ◌∷◌, length, refl, sym, ap, ◌∙◌, arith}
+use Rattle.std.proofs.Common.{◌≡◌, ◌≢◌, ℕ, zero, suc, ◌-◌, ◌<◌, ◌≤◌, true, false, cond, eqb, ℤ, pos, List, [], ◌∷◌, length, refl, sym, ap, ◌∙◌, arith}
 use Rattle.std.proofs.Math.Nat.{pow-suc}
-use Rattle.std.proofs.lemmas.Bool.{cases_eq}
 use Rattle.std.proofs.lemmas.Bool.Decides.{nat_tests}
 use Rattle.dp_spec.specs.declared.span.Span.{Span}
-use Rattle.dp_laws.proofs.JointPairs.{int_sum_pairs, pair_counts, pair_injective, pair_number}
+use Rattle.dp_laws.proofs.JointPairs.{int_sum_pairs, pair_injective}
 use Rattle.dp_laws.proofs.KeptActions.{history_length}
-use Rattle.dp_laws.proofs.Recursion.{span_add_none, span_equal, span_none_add, span_sum_ext, span_sum_none}
+use Rattle.dp_laws.proofs.SpanSums.{span_equal, span_history_sum_ext, span_sum_ext, span_sum_only, span_none_add, span_sum_none}
 use Rattle.dp_laws.proofs.SharedTrees.{one_joint_row, row_trees, row_trees-start}
 use Rattle.dp_laws.proofs.SharedValue.{next_below, row_trees_do, trees_after_row}
 use Rattle.dp_spec.specs.Arithmetic.{Arithmetic, point, span_add}
@@ -24,6 +23,7 @@ use Rattle.dp_spec.specs.SharedWorth.{joint_row_action, joint_row_count, next_jo
 use Rattle.dp_base.specs.Sums.{int_sum}
 use Rattle.dp_spec.specs.Value.{joint_root_action, trees_after}
 use Rattle.dp_spec.proofs.JointNumberLaws.{AreBelow, parts_below}
+use Rattle.dp_spec.specs.ClassSteps.{pair_counts, pair_number}
 
 -- ---- sums of spans
 
@@ -40,25 +40,6 @@ two_ends : (n k : ℕ) (f : ℕ → ℕ → Span)
 two_ends n k f =
     span_sum_ext n _ _ (λ i p. span_sum_ends k (f i))
     ∙ span_sum_ends n (λ i. record { low = int_sum k (λ j. (f i j).low); high = int_sum k (λ j. (f i j).high) })
-
--- a sum of which one place counts
-span_sum_at : (n k : ℕ) (f : ℕ → Span) → k < n → ((i : ℕ) → i < n → i ≢ k → f i ≡ point (pos 0)) → span_sum n f ≡ f k
-span_sum_at zero k f lt none = absurd (omega arith)
-span_sum_at (suc n) k f lt none =
-    elim (cases_eq k n) [
-      | inl e ↦
-          ap (λ (x : Span). span_add x (f n)) (span_sum_ext n f (λ i. point (pos 0)) (λ i p. none i (omega arith) (λ same. omega (arith, same, e))) ∙ span_sum_none n)
-          ∙ span_none_add (f n) ∙ ap f (sym e)
-      | inr ne ↦
-          ap (λ (x : Span). span_add (span_sum n f) x) (none n (omega arith) (λ same. ne (sym same)))
-          ∙ span_add_none (span_sum n f) ∙ span_sum_at n k f (omega arith) (λ i p apart. none i (omega arith) apart)
-    ]
-
--- equal spans have equal sums over joint histories
-history_sum_ext : (n t : ℕ) (f g : List ℕ → Span) → ((H : List ℕ) → IsJointHistory n t H → f H ≡ g H)
-    → span_history_sum n t f ≡ span_history_sum n t g
-history_sum_ext n zero f g h = h [] tt
-history_sum_ext n (suc t) f g h = history_sum_ext n t _ _ (λ H p. span_sum_ext n _ _ (λ o q. h (o ∷ H) (q, p)))
 
 -- ---- joint rows of plain policies are pairs of a joint row and a joint observation
 
@@ -126,9 +107,9 @@ module _ (m : Model) (h : ℕ) (p : SharedPolicy) (are : AreRowsOfAgents h m.act
         let X = λ (i : ℕ) (u : ℕ) (s : ℕ). weights_after_in A m (row_weight_in A m p t i) (joint_row_action m p t i) u s in
         let K = next_joint_row m p t j o in
         let here : (s : ℕ) → row_weight_in A m p (suc t) K s ≡ X j o s = λ s.
-        span_sum_at (joint_row_count p t) j (λ i. span_sum (joint_observations m) (λ u. cond (eqb (next_joint_row m p t i u) K) (X i u s) (point (pos 0)))) hj
-        (λ i hi apart. span_sum_ext (joint_observations m) _ (λ u. point (pos 0)) (λ u hu. apart_none (next_joint_row m p t i u) K (X i u s) (λ same. apart (next_injective t i u j o step hi hu hj ho same).0)) ∙ span_sum_none (joint_observations m))
-        ∙ span_sum_at (joint_observations m) o (λ u. cond (eqb (next_joint_row m p t j u) K) (X j u s) (point (pos 0))) ho
+        span_sum_only (joint_row_count p t) j (λ i. span_sum (joint_observations m) (λ u. cond (eqb (next_joint_row m p t i u) K) (X i u s) (point (pos 0)))) hj
+        (λ i hi apart. span_sum_ext (joint_observations m) _ (λ u. point (pos 0)) (λ u hu. apart_none (next_joint_row m p t i u) K (X i u s) (λ same. apart (next_injective t i u j o step hi hu hj ho same).0)) ∙ span_sum_none (joint_observations m) (λ u. point (pos 0)) (λ u hu. refl))
+        ∙ span_sum_only (joint_observations m) o (λ u. cond (eqb (next_joint_row m p t j u) K) (X j u s) (point (pos 0))) ho
         (λ u hu apart. apart_none (next_joint_row m p t j u) K (X j u s) (λ same. apart (next_injective t j u j o step hj hu hj ho same).1))
         ∙ same_here K (X j o s) in
         λ i s. here s i
@@ -177,11 +158,11 @@ module _ (m : Model) (h : ℕ) (p : SharedPolicy) (are : AreRowsOfAgents h m.act
     rows_as_histories (suc t) lt v =
         let O = joint_observations m in
         let W = row_weight_in A m p in
-        let push = λ (j : ℕ) (w : ℕ → Span). span_sum O (λ o. v (next_joint_row m p t j o) (weights_after_in A m w (joint_row_action m p t j) o)) in
+        let update = λ (j : ℕ) (w : ℕ → Span). span_sum O (λ o. v (next_joint_row m p t j o) (weights_after_in A m w (joint_row_action m p t j) o)) in
         span_sum_over_pairs t lt (λ j. v j (W (suc t) j))
-        ∙ span_sum_ext (joint_row_count p t) _ (λ j. push j (W t j)) (λ j hj. span_sum_ext O _ _ (λ o ho. ap (v (next_joint_row m p t j o)) (next_weight t j o lt hj ho)))
-        ∙ rows_as_histories t (omega arith) push
-        ∙ history_sum_ext O t _ _ (λ H is.
+        ∙ span_sum_ext (joint_row_count p t) _ (λ j. update j (W t j)) (λ j hj. span_sum_ext O _ _ (λ o ho. ap (v (next_joint_row m p t j o)) (next_weight t j o lt hj ho)))
+        ∙ rows_as_histories t (omega arith) update
+        ∙ span_history_sum_ext O t _ _ (λ H is.
         let n = history_length O t H is in
         let acts = row_of_acts t H (omega arith) is in
         span_sum_ext O _ _ (λ o ho. rw (n, acts) refl))
@@ -194,7 +175,7 @@ module _ (m : Model) (h : ℕ) (p : SharedPolicy) (are : AreRowsOfAgents h m.act
         ap (λ (x : Span). span_add x (span_sum (joint_row_count p f) (λ j. weighted_reward_in A m (h - suc f) (row_weight_in A m p f j) (joint_row_action m p f j)))) (rows_earn_forward f (omega arith))
         ∙ ap (λ (x : Span). span_add (earned_reward_in A m act_after h f) x)
         (rows_as_histories f (omega arith) (λ j w. weighted_reward_in A m (h - suc f) w (joint_row_action m p f j))
-        ∙ history_sum_ext O f _ _ (λ H is. ap (weighted_reward_in A m (h - suc f) (history_weight_in A m act_after H)) (row_of_acts f H (omega arith) is)))
+        ∙ span_history_sum_ext O f _ _ (λ H is. ap (weighted_reward_in A m (h - suc f) (history_weight_in A m act_after H)) (row_of_acts f H (omega arith) is)))
 
 -- the worth of a plain shared policy is the forward worth of what its rows mean
 pub plain_worth_is_forward : (A : Arithmetic) (m : Model) (h : ℕ) (p : SharedPolicy) → IsSharedOf m h p → IsPlain m h p

@@ -16,6 +16,7 @@ use Rattle.dp_spec.specs.PolicyTree.{PolicyTree, root_action, subtree}
 use Rattle.dp_spec.specs.SharedForm.{AreInOrder, AreReduced, AreReducedRows, IsSharedForm, all_nexts, different_trees, place_of_tree, read_after, remaining_trees, same_tree, shared_form, shared_row, shared_rows, shared_rows_of}
 use Rattle.dp_spec.specs.SharedPolicy.{AgentRows, AreAgentRows, AreRowsOfAgents, IsSharedOf, PolicyRow, SharedPolicy, no_row, row_at, row_count, row_of_history, unfolded, unfolded_tree}
 use Rattle.dp_spec.specs.SharedPolicy.AreRowsOfAgents.{and_agent, no_agents}
+use Rattle.dp_base.proofs.Members.{filter_same}
 
 -- ---- numbers in order
 
@@ -150,9 +151,6 @@ filter_twice p r (k ∷ ks) = go (r k) refl (filter_twice p r ks)
         → filter p (cond (r k) (k ∷ filter r ks) (filter r ks)) ≡ cond (r k && p k) (k ∷ filter (λ (k : PolicyTree). r k && p k) ks) (filter (λ (k : PolicyTree). r k && p k) ks)
     go true e rest = rw (e, rest) refl
     go false e rest = rw (e, rest) refl
-
-filter_same : (p r : PolicyTree → Bool) (ks : List PolicyTree) → ((k : PolicyTree) → p k ≡ r k) → filter p ks ≡ filter r ks
-filter_same p r ks same = ap (λ (test : PolicyTree → Bool). filter test ks) (λ i k. same k i)
 
 filter_none : (ks : List PolicyTree) → filter (λ (k : PolicyTree). true) ks ≡ ks
 filter_none [] = refl

@@ -10,8 +10,8 @@ use Rattle.dp_spec.specs.Quantities.{span_sum, weights_after_in}
 use Rattle.dp_spec.specs.SharedPolicy.{AreRowsOfAgents, SharedPolicy, row_counts}
 use Rattle.dp_spec.specs.SharedPolicy.AreRowsOfAgents.{and_agent, no_agents}
 use Rattle.dp_spec.specs.SharedWorth.{actions_of_rows, joint_row_action, joint_row_count, next_joint_row, row_weight_in}
-use Rattle.dp_spec.specs.Sizes.{AreWeights, CanPush, weight_limit}
-use Rattle.dp_spec.specs.SizesOfRows.{rows_push_size}
+use Rattle.dp_spec.specs.Sizes.{AreWeights, CanUpdateWeights, weight_limit}
+use Rattle.dp_spec.specs.SizesOfRows.{rows_update_size}
 use Rattle.dp_base.specs.Sums.{nat_sum}
 use Rattle.dp_spec.proofs.JointNumberLaws.{AreBelow, joint_number_below, parts_below}
 use Rattle.dp_base.proofs.NaturalSumLaws.{nat_sum_at, nat_sum_ext, nat_sum_le, nat_sum_swap}
@@ -58,8 +58,8 @@ by_target K I O S next x =
     omega arith
 
 -- the joint rows of the next stage weigh no more than all next weights
-pub next_rows_total : (A : Arithmetic) (m : Model) (p : SharedPolicy) (t : ℕ) → rows_total A m p (suc t) ≤ rows_push_size A m p t
-unfolding rows_push_size
+pub next_rows_total : (A : Arithmetic) (m : Model) (p : SharedPolicy) (t : ℕ) → rows_total A m p (suc t) ≤ rows_update_size A m p t
+unfolding rows_update_size
 next_rows_total A m p t =
     let K = joint_row_count p (suc t) in
     let I = joint_row_count p t in
@@ -77,8 +77,8 @@ next_rows_total A m p t =
     let all = by_target K I O S (next_joint_row m p t) (λ i o s. size (W i o s)) in
     omega arith
 
--- where pushes are allowed, the weights of the joint rows of the next stage are weights within their limit
-pub next_rows_are_weights : (A : Arithmetic) (C : Calls) (m : Model) (h : ℕ) → CanPush A C m h → (p : SharedPolicy)
+-- where weights can be updated, the weights of the joint rows of the next stage are weights within their limit
+pub next_rows_are_weights : (A : Arithmetic) (C : Calls) (m : Model) (h : ℕ) → CanUpdateWeights A C m h → (p : SharedPolicy)
     → AreRowsOfAgents h m.actions m.observations p → (t : ℕ) → t < h
     → ((j : ℕ) → j < joint_row_count p t → AreWeights A.is_exact m t (row_weight_in A m p t j))
     → rows_total A m p (suc t) ≤ weight_limit A.is_exact m (suc t)
@@ -87,7 +87,7 @@ next_rows_are_weights A C m h can p are t lt weights small J inside =
     let O = joint_observations m in
     let I = joint_row_count p t in
     let W = λ (i : ℕ) (o : ℕ). weights_after_in A m (row_weight_in A m p t i) (joint_row_action m p t i) o in
-    let each : (i o : ℕ) → i < I → o < O → AreWeights A.is_exact m (suc t) (W i o) = λ i o hi ho. can.pushed t (row_weight_in A m p t i) (joint_row_action m p t i) o lt (weights i hi) (row_acts m h p are t i hi) ho in
+    let each : (i o : ℕ) → i < I → o < O → AreWeights A.is_exact m (suc t) (W i o) = λ i o hi ho. can.updated t (row_weight_in A m p t i) (joint_row_action m p t i) o lt (weights i hi) (row_acts m h p are t i hi) ho in
     let ordered : (s : ℕ) → s < m.states → IsOrdered (row_weight_in A m p (suc t) J s) = λ s ps.
     sum_ordered I (λ i. span_sum O (λ o. cond (eqb (next_joint_row m p t i o) J) (W i o s) (point (pos 0)))) (λ i hi.
     sum_ordered O (λ o. cond (eqb (next_joint_row m p t i o) J) (W i o s) (point (pos 0))) (λ o ho. where_ordered (eqb (next_joint_row m p t i o) J) (W i o s) (weight_ordered (each i o hi ho) s ps))) in

@@ -38,7 +38,7 @@ rows_earn m p h (suc f) =
 -- ---- what an arithmetic computes encloses them
 
 -- the weights of joint rows
-row_weight_enclosed : (m : Model) (A : Arithmetic) (R : Enclosure) → IsSound m A R → (p : SharedPolicy) (t j s : ℕ)
+row_weight_enclosed : (m : Model) (A : Arithmetic) (R : Enclosure) → IsSound m.scales A R → (p : SharedPolicy) (t j s : ℕ)
     → R.Weighs (m.scales.start * step_scale m ^ t) (row_weight m p t j s) (row_weight_in A m p t j s)
 row_weight_enclosed m A R ok p zero j s = weighs_same m A R ok _ _ _ _ _ (scale_of_first m) refl (ok.start (start_at m s))
 row_weight_enclosed m A R ok p (suc t) j s =
@@ -47,7 +47,7 @@ row_weight_enclosed m A R ok p (suc t) j s =
     (weighs_same m A R ok _ _ _ _ _ (scale_of_next m t) refl (weights_after_enclosed m A R ok _ _ _ (joint_row_action m p t i) o s (λ u hu. row_weight_enclosed m A R ok p t i u)))))
 
 -- what they earn
-rows_earn_enclosed : (m : Model) (A : Arithmetic) (R : Enclosure) → IsSound m A R → (p : SharedPolicy) (h f : ℕ) → f ≤ h
+rows_earn_enclosed : (m : Model) (A : Arithmetic) (R : Enclosure) → IsSound m.scales A R → (p : SharedPolicy) (h f : ℕ) → f ≤ h
     → R.Earns (value_scale m h) (rows_earn m p h f) (rows_earn_in A m p h f)
 rows_earn_enclosed m A R ok p h zero le = ok.no_gain _
 rows_earn_enclosed m A R ok p h (suc f) le =
@@ -128,12 +128,12 @@ module _ (m : Model) (h : ℕ) (p : SharedPolicy) (are : AreRowsOfAgents h m.act
   rows_reward f r = int_sum (joint_row_count p f) (λ j. weighted_reward m r (row_weight m p f j) (joint_row_action m p f j))
 
   -- the weights one step on
-  abbrev row_push : ℕ → ℕ → ℕ → ℕ → ℕ
-  row_push f j o s = weights_after m (row_weight m p f j) (joint_row_action m p f j) o s
+  abbrev row_update : ℕ → ℕ → ℕ → ℕ → ℕ
+  row_update f j o s = weights_after m (row_weight m p f j) (joint_row_action m p f j) o s
 
   -- one step from the joint rows of a stage
   rows_step : (f r : ℕ) → rows_left f (suc r)
-      ≡ rows_reward f r +ℤ int_sum (joint_row_count p f) (λ j. int_sum (joint_observations m) (λ o. int_sum m.states (λ s. pos (row_push f j o s) *ℤ backward_value m r s (trees_after m (trees_at_row f j) o))))
+      ≡ rows_reward f r +ℤ int_sum (joint_row_count p f) (λ j. int_sum (joint_observations m) (λ o. int_sum m.states (λ s. pos (row_update f j o s) *ℤ backward_value m r s (trees_after m (trees_at_row f j) o))))
   rows_step f r =
       int_sum_ext (joint_row_count p f) _ _ (λ j hj.
       one_step m r (row_weight m p f j) (trees_at_row f j)
@@ -146,15 +146,15 @@ module _ (m : Model) (h : ℕ) (p : SharedPolicy) (are : AreRowsOfAgents h m.act
       rows_step f r
       ∙ ap (λ x. rows_reward f r +ℤ x)
       (int_sum_ext (joint_row_count p f) _ _ (λ j hj. int_sum_ext (joint_observations m) _ _ (λ o ho.
-      ap (λ (qs : List PolicyTree). int_sum m.states (λ s. pos (row_push f j o s) *ℤ backward_value m r s qs)) (trees_after_row f j o step hj ho)))
-      ∙ sym (sum_by_target (joint_row_count p (suc f)) (joint_row_count p f) (joint_observations m) m.states (next_joint_row m p f) (row_push f) (λ J s. backward_value m r s (trees_at_row (suc f) J)) (λ i o hi ho. next_below f i o step hi ho)))
+      ap (λ (qs : List PolicyTree). int_sum m.states (λ s. pos (row_update f j o s) *ℤ backward_value m r s qs)) (trees_after_row f j o step hj ho)))
+      ∙ sym (sum_by_target (joint_row_count p (suc f)) (joint_row_count p f) (joint_observations m) m.states (next_joint_row m p f) (row_update f) (λ J s. backward_value m r s (trees_at_row (suc f) J)) (λ i o hi ho. next_below f i o step hi ho)))
 
   -- at the last stage nothing is left after it
   rows_end : (f : ℕ) → rows_left f 1 ≡ rows_reward f 0
   rows_end f =
       rows_step f 0
       ∙ ap (λ x. rows_reward f 0 +ℤ x)
-      (ext_two (joint_row_count p f) (joint_observations m) _ (λ j o. pos 0) (λ j o hj ho. weighted_zeros m.states (row_push f j o))
+      (ext_two (joint_row_count p f) (joint_observations m) _ (λ j o. pos 0) (λ j o hj ho. weighted_zeros m.states (row_update f j o))
       ∙ int_sum_ext (joint_row_count p f) _ (λ j. pos 0) (λ j hj. int_sum_zero (joint_observations m)) ∙ int_sum_zero (joint_row_count p f))
       ∙ omega (arith, ints)
 
@@ -191,7 +191,7 @@ value_of_unfolded m zero p shared = weighted_zeros m.states (start_at m)
 value_of_unfolded m (suc f) p shared = value_is_rows_earn m (suc f) p shared.agents f refl
 
 -- the worth of a shared policy encloses the value of the joint policy that its rows mean
-pub shared_worth_enclosed : (m : Model) (A : Arithmetic) (R : Enclosure) → IsSound m A R → (h : ℕ) (p : SharedPolicy)
+pub shared_worth_enclosed : (m : Model) (A : Arithmetic) (R : Enclosure) → IsSound m.scales A R → (h : ℕ) (p : SharedPolicy)
     → IsSharedOf m h p → R.Earns (value_scale m h) (policy_value m h (unfolded p)) (shared_worth_in A m h p)
 unfolding shared_worth_in
 shared_worth_enclosed m A R ok h p shared =

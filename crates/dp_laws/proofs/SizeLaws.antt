@@ -1,32 +1,32 @@
 -- The size records of either mode.
 use Rattle.std.proofs.Common.{◌≡◌, ℕ, ◌-◌, ◌*◌, ◌^◌, ◌<◌, ◌≤◌, Bool, true, false, List, refl, arith}
 use Rattle.dp_spec.specs.declared.scales.Scales.{Scales}
-use Rattle.dp_laws.proofs.ExactPushes.{exact_can_push}
-use Rattle.dp_laws.proofs.ExactModeSizes.{exact_can_advance, exact_can_bound, exact_can_classify, exact_can_earn, exact_can_evaluate, exact_can_look_ahead, exact_can_reward, exact_can_tabulate}
-use Rattle.dp_laws.proofs.ActingHistories.{front_acting, history_weights}
-use Rattle.dp_laws.proofs.OutwardHistorySizes.{outward_can_advance, outward_can_bound, outward_can_classify, outward_can_earn, outward_can_evaluate, outward_can_refine}
+use Rattle.dp_laws.proofs.ExactWeightUpdates.{exact_can_update_weights}
+use Rattle.dp_laws.proofs.ExactModeSizes.{exact_can_evaluate, exact_can_look_ahead, exact_can_refine, exact_can_reward, exact_can_tabulate}
+use Rattle.dp_laws.proofs.ActingHistories.{history_weights}
+use Rattle.dp_laws.proofs.OutwardHistorySizes.{outward_can_evaluate, outward_can_refine}
 use Rattle.dp_laws.proofs.OutwardLookSizes.{outward_can_look_ahead}
-use Rattle.dp_laws.proofs.OutwardModeSizes.{outward_can_push, outward_can_reward, outward_can_tabulate}
+use Rattle.dp_laws.proofs.OutwardModeSizes.{outward_can_update_weights, outward_can_reward, outward_can_tabulate}
 use Rattle.dp_spec.specs.Arithmetic.{arithmetic, exact, outward}
 use Rattle.dp_spec.specs.Calls.{calls_in, exact_calls, outward_calls}
-use Rattle.dp_spec.specs.Front.{Front, fixed_joint_action}
+use Rattle.dp_spec.specs.Front.{Front}
 use Rattle.dp_spec.specs.WellFormed.{IsFront}
 use Rattle.dp_spec.specs.JointHistory.{IsJointHistory}
 use Rattle.dp_spec.specs.Mode.{is_exact_mode}
 use Rattle.dp_spec.specs.Model.{IsModel, Model, joint_observations}
 use Rattle.dp_spec.specs.Quantities.{history_weight_in}
-use Rattle.dp_spec.specs.Sizes.{AreWeights, CanPush, CanReward}
-use Rattle.dp_spec.specs.SizesOfEarnings.{CanEarn, CanEvaluate, IsActing}
-use Rattle.dp_spec.specs.SizesOfFronts.{CanAdvance, CanBound, CanClassify, CanRefine}
+use Rattle.dp_spec.specs.Sizes.{AreWeights, CanUpdateWeights, CanReward}
+use Rattle.dp_spec.specs.SizesOfEarnings.{CanEvaluate, IsActing}
+use Rattle.dp_spec.specs.SizesOfFronts.{CanRefine}
 use Rattle.dp_spec.specs.SizesOfLookAhead.{CanLookAhead}
 use Rattle.dp_spec.specs.SizesOfTable.{CanTabulate}
 
 -- ---- up to a horizon of 24
--- pushes are allowed
-pub mode_can_push : (m : Model) → IsModel m → (h : ℕ) → 0 < h → h ≤ 24 → (e : Bool) → e ≡ is_exact_mode m h
-    → CanPush (arithmetic e m.scales) (calls_in e m.scales) m h
-mode_can_push m is h some le true mode = exact_can_push m is h some mode
-mode_can_push m is h some le false mode = outward_can_push m is h le
+-- weights can be updated
+pub mode_can_update_weights : (m : Model) → IsModel m → (h : ℕ) → 0 < h → h ≤ 24 → (e : Bool) → e ≡ is_exact_mode m h
+    → CanUpdateWeights (arithmetic e m.scales) (calls_in e m.scales) m h
+mode_can_update_weights m is h some le true mode = exact_can_update_weights m is h some mode
+mode_can_update_weights m is h some le false mode = outward_can_update_weights m is h le
 
 -- rewards are allowed
 pub mode_can_reward : (m : Model) → IsModel m → (h : ℕ) → 0 < h → h ≤ 24 → (e : Bool) → e ≡ is_exact_mode m h
@@ -51,14 +51,14 @@ exact_weights : (m : Model) → IsModel m → (h : ℕ) → 0 < h → true ≡ i
     → (act : List ℕ → ℕ) (t : ℕ) (H : List ℕ) → t ≤ h → IsActing m t act → IsJointHistory (joint_observations m) t H
     → AreWeights true m t (history_weight_in (exact m.scales) m act H)
 unfolding exact
-exact_weights m is h some mode = history_weights (exact m.scales) (exact_calls m.scales) m h (exact_can_push m is h some mode)
+exact_weights m is h some mode = history_weights (exact m.scales) (exact_calls m.scales) m h (exact_can_update_weights m is h some mode)
 
 -- and in outward mode
 outward_weights : (m : Model) → IsModel m → (h : ℕ) → h ≤ 24 → (act : List ℕ → ℕ) (t : ℕ) (H : List ℕ) → t ≤ h
     → IsActing m t act → IsJointHistory (joint_observations m) t H
     → AreWeights false m t (history_weight_in (outward m.scales) m act H)
 unfolding outward
-outward_weights m is h le = history_weights (outward m.scales) (outward_calls m.scales) m h (outward_can_push m is h le)
+outward_weights m is h le = history_weights (outward m.scales) (outward_calls m.scales) m h (outward_can_update_weights m is h le)
 
 -- the weights of a joint history are within the sum bound
 pub mode_history_weights : (m : Model) → IsModel m → (h : ℕ) → 0 < h → h ≤ 24 → (e : Bool) → e ≡ is_exact_mode m h
@@ -73,54 +73,14 @@ unfolding exact outward
 arithmetic_is_exact true c = refl
 arithmetic_is_exact false c = refl
 
--- ---- along joint histories, in outward mode within the limit of stage cells
--- earnings can be added up
-pub mode_can_earn : (m : Model) → IsModel m → (h : ℕ) → 0 < h → h ≤ 24 → (e : Bool) → e ≡ is_exact_mode m h
-    → (e ≡ false → m.states * joint_observations m ^ (h - 1) ≤ 2 ^ 22) → CanEarn (arithmetic e m.scales) m h
-mode_can_earn m is h some le true mode cells = exact_can_earn m is h some mode
-mode_can_earn m is h some le false mode cells = outward_can_earn m is h le (cells refl)
-
+-- ---- a joint policy, in outward mode within the limit of stage cells
 -- worth can be added up
 pub mode_can_evaluate : (m : Model) → IsModel m → (h : ℕ) → 0 < h → h ≤ 24 → (e : Bool) → e ≡ is_exact_mode m h
     → (e ≡ false → m.states * joint_observations m ^ (h - 1) ≤ 2 ^ 22) → CanEvaluate (arithmetic e m.scales) m h
 mode_can_evaluate m is h some le true mode cells = exact_can_evaluate m is h some mode
 mode_can_evaluate m is h some le false mode cells = outward_can_evaluate m is h le (cells refl)
 
--- weights of joint classes can be added up
-pub mode_can_classify : (m : Model) → IsModel m → (h : ℕ) → 0 < h → h ≤ 24 → (e : Bool) → e ≡ is_exact_mode m h
-    → (e ≡ false → m.states * joint_observations m ^ (h - 1) ≤ 2 ^ 22) → CanClassify (arithmetic e m.scales) m h
-mode_can_classify m is h some le true mode cells = exact_can_classify m is h some mode
-mode_can_classify m is h some le false mode cells = outward_can_classify m is h le (cells refl)
-
--- the bound of a front can be added up
-pub mode_can_bound : (m : Model) → IsModel m → (h : ℕ) → 0 < h → h ≤ 24 → (e : Bool) → e ≡ is_exact_mode m h
-    → (e ≡ false → m.states * joint_observations m ^ (h - 1) ≤ 2 ^ 22) → CanBound (arithmetic e m.scales) m h
-mode_can_bound m is h some le true mode cells = exact_can_bound m is h some mode
-mode_can_bound m is h some le false mode cells = outward_can_bound m is h le (cells refl)
-
--- a front can be advanced
-pub mode_can_advance : (m : Model) → IsModel m → (h : ℕ) → 0 < h → h ≤ 24 → (e : Bool) → e ≡ is_exact_mode m h
-    → (e ≡ false → m.states * joint_observations m ^ (h - 1) ≤ 2 ^ 22) → CanAdvance (arithmetic e m.scales) m h
-mode_can_advance m is h some le true mode cells = exact_can_advance m is h some mode
-mode_can_advance m is h some le false mode cells = outward_can_advance m is h le (cells refl)
-
 -- ---- one front
-
--- in exact mode a front can be refined
-exact_can_refine : (m : Model) → IsModel m → (h : ℕ) → 0 < h → true ≡ is_exact_mode m h → (F : Front) → IsFront m h F
-    → F.stage < h → CanRefine (exact m.scales) m h F
-unfolding exact
-exact_can_refine m is h some mode F front lt =
-    let classes = exact_can_classify m is h some mode in
-    let bounds = exact_can_bound m is h some mode in
-    let advances = exact_can_advance m is h some mode in
-    record {
-      weights = λ C. classes.weights F C front lt;
-      classify = classes.add (fixed_joint_action m F) F.stage (omega arith) (front_acting m h F front);
-      bound = λ r look e. bounds.add F r look front e;
-      advance = λ act chosen. advances.weights F act front lt chosen;
-      rewards = λ r act e chosen. advances.earned F r act front e chosen;
-    }
 
 -- a front can be refined
 pub mode_can_refine : (m : Model) → IsModel m → (h : ℕ) → 0 < h → h ≤ 24 → (e : Bool) → e ≡ is_exact_mode m h

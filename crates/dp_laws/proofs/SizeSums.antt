@@ -38,7 +38,7 @@ abs_min a b c p q = omega (arith, ints, clamps)
 
 -- ---- sums of spans
 -- the magnitude of a sum of two spans
-size_add : (a b : Span) → size (span_add a b) ≤ size a + size b
+pub size_add : (a b : Span) → size (span_add a b) ≤ size a + size b
 size_add a b = let low = abs_add a.low b.low in let high = abs_add a.high b.high in omega arith
 
 -- a sum of spans is no larger than its parts
@@ -68,11 +68,11 @@ reward_size_le A m r ws a =
     omega arith
 
 -- a next weight is no larger than its parts
-pub pushed_size_le : (A : Arithmetic) (m : Model) (ws : ℕ → Span) (a o t : ℕ)
+pub updated_size_le : (A : Arithmetic) (m : Model) (ws : ℕ → Span) (a o t : ℕ)
     → size (weights_after_in A m ws a o t)
     ≤ nat_sum m.states (λ s. size (A.later (A.chance (ws s) (trans_at m a s t) (obs_at m a t o))))
 unfolding weights_after_in
-pushed_size_le A m ws a o t = span_sum_size m.states (λ s. A.later (A.chance (ws s) (trans_at m a s t) (obs_at m a t o)))
+updated_size_le A m ws a o t = span_sum_size m.states (λ s. A.later (A.chance (ws s) (trans_at m a s t) (obs_at m a t o)))
 
 -- what is earned is no larger than its parts
 pub earned_size_le : (A : Arithmetic) (m : Model) (act : List ℕ → ℕ) (h f : ℕ)

@@ -4,7 +4,7 @@ use Rattle.dp_spec.specs.declared.span.Span.{Span}
 use Rattle.dp_laws.proofs.FittingTrees.{fitting_root_bounds}
 use Rattle.dp_base.proofs.Order.{equal_of_le, le_of_mul_le_right}
 use Rattle.dp_laws.proofs.Leaves.{greatest_leaf-at_most, greatest_leaf_below}
-use Rattle.dp_laws.proofs.Modes.{arithmetic_sound, low_reads, mode_unit}
+use Rattle.dp_laws.proofs.Modes.{model_arithmetic_sound, low_reads, mode_unit}
 use Rattle.dp_base.proofs.Ring.{zle_trans}
 use Rattle.dp_laws.proofs.RootFront.{root_is_front}
 use Rattle.dp_spec.proofs.QuantityScales.{value_scale_positive}
@@ -39,7 +39,7 @@ bounds_every_policy : (m : Model) (c : Certificate) → IsModel m → IsValid m 
     → BoundsEveryPolicy m c.horizon c.unit u
 bounds_every_policy m c is v u below =
     subst (λ (z : ℤ). BoundsEveryPolicy m c.horizon z u) (unit_of_valid m c v)
-    (fitting_root_bounds (arithmetic_for m c) (enclosure c.is_exact) m is (arithmetic_sound m is c.is_exact) c.horizon c.look c.tree u v.tree below)
+    (fitting_root_bounds (arithmetic_for m c) (enclosure c.is_exact) m is (model_arithmetic_sound m is c.is_exact) c.horizon c.look c.tree u v.tree below)
 
 -- no joint policy is worth more than the upper end
 upper_bounds : (m : Model) (c : Certificate) → IsModel m → IsValid m c → BoundsEveryPolicy m c.horizon c.unit c.upper

@@ -1,84 +1,33 @@
 -- A plan of version 1 is closed or has as many branches and merges as were allowed, since none of its nodes is wide and
 -- in exact mode a full leaf states no more than the value of the policy that its front fixes.
-use Rattle.std.proofs.Common.{◌≡◌, ◌⊎◌, inl, inr, ℕ, suc, ◌+◌, ◌-◌, ◌<◌, Bool, true, false, ℤ, ◌≤ℤ◌, List, [], ◌∷◌, ◌++◌, length, get_or, refl, sym, ap, ◌∙◌, subst, arith}
+use Rattle.std.proofs.Common.{◌≡◌, ◌⊎◌, inl, inr, ℕ, ◌<◌, Bool, true, false, ℤ, ◌≤ℤ◌, List, get_or, refl, sym, ap, ◌∙◌, subst, arith}
 use Rattle.std.specs.Prelude.{◌<ℤ◌, All, IsTrue}
-use Rattle.std.specs.Int.{int_min}
 use Rattle.std.proofs.lemmas.Bool.{cases_lt}
-use Rattle.std.proofs.lemmas.Int.{clamps, ints}
-use Rattle.std.proofs.lemmas.List.{get_or_append_left, get_or-append-add, length-append}
+use Rattle.std.proofs.lemmas.Int.{ints}
 use Rattle.dp_spec.specs.declared.span.Span.{Span}
 use Rattle.dp_laws.proofs.FullPolicies.{full_policy_keeps}
-use Rattle.dp_laws.proofs.KeptValue.{value_at_full_front}
 use Rattle.dp_laws.proofs.NodeFronts.{no_wide_node_in_one, nodes_have_room}
 use Rattle.dp_laws.proofs.QuantityLaws.{exact_quantities}
 use Rattle.dp_base.proofs.Order.{le_total}
 use Rattle.dp_base.proofs.Ring.{zle_of, zle_trans}
 use Rattle.dp_laws.proofs.SharedLaws.{plain_form_worth}
-use Rattle.dp_spec.specs.Arithmetic.{Arithmetic, arithmetic, exact}
-use Rattle.dp_spec.specs.BoundTree.{AllLeavesAtMost, BoundTree, BoundTrees, LeavesAtMost, branch, leaf, merge, more_bound_trees, no_bound_trees}
+use Rattle.dp_spec.specs.Arithmetic.{arithmetic, exact}
+use Rattle.dp_spec.specs.BoundTree.{BoundTree, branch, leaf, merge}
 use Rattle.dp_spec.specs.Certificate.{Certificate, arithmetic_for}
-use Rattle.dp_spec.specs.Fitting.{FitEachAction, FitsFront, front_bound}
-use Rattle.dp_spec.specs.Front.{Front, fixed_joint_action}
+use Rattle.dp_spec.specs.Fitting.{front_bound}
+use Rattle.dp_spec.specs.Front.{Front}
 use Rattle.dp_spec.specs.FullPolicy.{full_policy}
-use Rattle.dp_spec.specs.JointHistory.{earned_reward}
-use Rattle.dp_spec.specs.Merge.{merged_front}
-use Rattle.dp_spec.specs.Mode.{IsWithin}
+use Rattle.dp_spec.specs.Mode.{IsWithinLimits}
 use Rattle.dp_spec.specs.Model.{IsModel, Model}
 use Rattle.dp_spec.specs.Promises.{IsPlanned, PlanOptions}
-use Rattle.dp_spec.specs.Qualities.{IfLeaf, IfOpenLeaf, IsClosed, IsRefined, Node, Place, certificate_nodes, nodes_of, nodes_of_choices}
-use Rattle.dp_spec.specs.Quantities.{bound_in}
+use Rattle.dp_spec.specs.Qualities.{IfLeaf, IfOpenLeaf, IsClosed, IsRefined, Node, Place, certificate_nodes}
 use Rattle.dp_spec.specs.SharedWorth.{form_in, low_worth}
-use Rattle.dp_spec.specs.Steps.{front_after_choice, root_front}
+use Rattle.dp_spec.specs.Steps.{root_front}
 use Rattle.dp_spec.specs.Value.{policy_value}
 use Rattle.dp_spec.specs.WellFormed.{IsFront}
 use Rattle.dp_spec.specs.Wide.{has_room, is_wide}
-
--- ---- facts of all of two lists
-
-all_left : {X : Type 0} (P : X → Type 0) (xs ys : List X) → All P (xs ++ ys) → All P xs
-all_left P xs ys all = λ i x lt. subst P (get_or_append_left xs ys x i lt) (all i x (let size = length-append xs ys in omega arith))
-
-all_right : {X : Type 0} (P : X → Type 0) (xs ys : List X) → All P (xs ++ ys) → All P ys
-all_right P xs ys all = λ i x lt. subst P (get_or-append-add xs ys i x) (all (length xs + i) x (let size = length-append xs ys in omega arith))
-
-all_first : {X : Type 0} (P : X → Type 0) (x : X) (xs : List X) → All P (x ∷ xs) → P x
-all_first P x xs all = all 0 x (omega arith)
-
-all_rest : {X : Type 0} (P : X → Type 0) (x : X) (xs : List X) → All P (x ∷ xs) → All P xs
-all_rest P x xs all = λ i y lt. all (suc i) y (omega arith)
-
--- ---- the leaves of a tree by its nodes
-
-module _ (A : Arithmetic) (m : Model) (h look : ℕ) (u : ℤ) where
-  -- a leaf that states no more than its front's bound states no more than u
-  abbrev IsLow : Node → Type 0
-  IsLow n = IfLeaf n.tree (λ x. x ≤ℤ front_bound A m h look n.front → x ≤ℤ u)
-
-  least_below : (least b : ℤ) → int_min least b ≤ℤ b
-  least_below least b = omega (arith, ints, clamps)
-
-  mutual
-    low_leaves : (above : ℕ) (T : BoundTree) (F : Front) (least : ℤ) → FitsFront A m h look above T F least
-        → least ≤ℤ front_bound A m h look F → All IsLow (nodes_of A m h look above T F least) → LeavesAtMost u T
-    low_leaves above (leaf x) F least fits le low =
-        all_first IsLow (record { tree = leaf x; above = above; front = F; cap = least }) [] low (subst (λ (z : ℤ). z ≤ℤ front_bound A m h look F) (sym fits) le)
-    low_leaves above (branch i c ks) F least fits le low =
-        low_choices (suc above) ks F i c 0 least fits.2 (all_rest IsLow (record { tree = branch i c ks; above = above; front = F; cap = least }) (nodes_of_choices A m h look (suc above) ks F i c 0 least) low)
-    low_leaves above (merge i a b k) F least fits le low =
-        let G = merged_front F i a b in
-        low_leaves (suc above) k G (int_min least (front_bound A m h look G)) fits.5 (least_below least (front_bound A m h look G))
-        (all_rest IsLow (record { tree = merge i a b k; above = above; front = F; cap = least }) (nodes_of A m h look (suc above) k G (int_min least (front_bound A m h look G))) low)
-
-    low_choices : (above : ℕ) (ks : BoundTrees) (F : Front) (i c a : ℕ) (least : ℤ) → FitEachAction A m h look above ks F i c a least
-        → All IsLow (nodes_of_choices A m h look above ks F i c a least) → AllLeavesAtMost u ks
-    low_choices above no_bound_trees F i c a least fits low = tt
-    low_choices above (more_bound_trees k ks) F i c a least fits low =
-        let G = front_after_choice m F i c a in
-        let mine = nodes_of A m h look above k G (int_min least (front_bound A m h look G)) in
-        let others = nodes_of_choices A m h look above ks F i c (suc a) least in (
-          low_leaves above k G (int_min least (front_bound A m h look G)) fits.0 (least_below least (front_bound A m h look G)) (all_left IsLow mine others low),
-          low_choices above ks F i c (suc a) least fits.1 (all_right IsLow mine others low),
-        )
+use Rattle.dp_laws.proofs.FullBounds.{full_bound_is_value}
+use Rattle.dp_laws.proofs.LowTrees.{low_leaves}
 
 -- ---- open leaves
 
@@ -101,21 +50,8 @@ open_is_low s h wide lower (merge i a b k) refined narrow = tt
 
 -- ---- full leaves in exact mode
 
--- the bound of a full front is the value of the policy that it fixes
-full_bound_is_value : (m : Model) (h look : ℕ) (F : Front) → IsModel m → IsFront m h F → F.stage ≡ h
-    → front_bound (exact m.scales) m h look F ≡ policy_value m h (full_policy m F)
-unfolding front_bound
-full_bound_is_value m h look F is front e =
-    let keeps = (full_policy_keeps m h F front e).1 in
-    let none : h - F.stage ≡ 0 = omega arith in
-    ap (λ (r : ℕ). bound_in (exact m.scales) m r F look) none
-    ∙ (exact_quantities m is).bounds 0 F look
-    ∙ ap (λ (k : ℕ). earned_reward m (fixed_joint_action m F) k F.stage) (let more : F.stage + 0 ≡ h = omega arith in more)
-    ∙ ap (λ (k : ℕ). earned_reward m (fixed_joint_action m F) h k) e
-    ∙ sym (value_at_full_front m h F (full_policy m F) e keeps)
-
--- in version 1 so is the low worth of that policy
-full_worth_is_value : (m : Model) (h : ℕ) (F : Front) → IsModel m → IsWithin m h → IsFront m h F → F.stage ≡ h
+-- in version 1 the low worth of the policy of a full front is its value
+full_worth_is_value : (m : Model) (h : ℕ) (F : Front) → IsModel m → IsWithinLimits m h → IsFront m h F → F.stage ≡ h
     → low_worth (exact m.scales) m 1 h (full_policy m F) ≡ policy_value m h (full_policy m F)
 unfolding low_worth form_in
 full_worth_is_value m h F is limits front e =
@@ -123,7 +59,7 @@ full_worth_is_value m h F is limits front e =
     ap (λ (s : Span). s.low) (plain_form_worth (exact m.scales) m h (full_policy m F) is limits.some_step limits.stage_cells policy ∙ (exact_quantities m is).worths h (full_policy m F))
 
 -- a full leaf that states no more than its front's bound is low
-full_is_low : (m : Model) (e : Bool) (h look : ℕ) (F : Front) (lower x : ℤ) → e ≡ true → IsModel m → IsWithin m h → IsFront m h F
+full_is_low : (m : Model) (e : Bool) (h look : ℕ) (F : Front) (lower x : ℤ) → e ≡ true → IsModel m → IsWithinLimits m h → IsFront m h F
     → F.stage ≡ h → low_worth (arithmetic e m.scales) m 1 h (full_policy m F) ≤ℤ lower
     → x ≤ℤ front_bound (arithmetic e m.scales) m h look F → x ≤ℤ lower
 full_is_low m true h look F lower x yes' is limits front full low le =
@@ -133,7 +69,7 @@ full_is_low m false h look F lower x no' is limits front full low le = cc
 -- ---- plans
 
 module _ (m : Model) (May : List Place → ℕ → Type 0) (h : ℕ) (asked : PlanOptions) (c : Certificate) (is : IsModel m) (plan : IsPlanned m May h asked c) (one : c.version ≡ 1) where
-  limits : IsWithin m c.horizon
+  limits : IsWithinLimits m c.horizon
   limits = plan.valid.within.first one
 
   -- no node is wide

@@ -1,6 +1,8 @@
 -- What the numbers of the two arithmetics say of the exact definitions.
 use Rattle.std.specs.Prelude.{ℕ, suc, ◌+◌, ◌*◌, ◌^◌, ◌<◌, ◌≤◌, ◌≡◌, Bool, List}
+use Rattle.dp_spec.specs.declared.scales.Scales.{Scales}
 use Rattle.dp_spec.specs.declared.span.Span.{Span}
+use Rattle.dp_spec.specs.Calls.{AreInRange}
 use Rattle.dp_spec.specs.Model.{IsModel, Model, joint_observations, start_at, step_scale, value_scale}
 use Rattle.dp_spec.specs.PolicyTree.{PolicyTree}
 use Rattle.dp_spec.specs.Value.{policy_value}
@@ -12,20 +14,25 @@ use Rattle.dp_spec.specs.Bound.{bound_of}
 use Rattle.dp_spec.specs.Arithmetic.{Arithmetic, arithmetic, exact, outward}
 use Rattle.dp_spec.specs.Quantities.{action_look_ahead_in, bound_in, class_weight_in, earned_reward_in, forward_worth_in, history_weight_in, look_ahead_in, mdp_table_in, recursive_worth_in, weighted_reward_in, weights_after_in}
 use Rattle.dp_spec.specs.Enclosure.{Enclosure, IsSound, containment, enclosure, equality}
+use Rattle.dp_spec.specs.Zeros.{KeepsZero}
 
--- ---- the operations
+-- ---- the operations, over any scales, or over those in range (as the scales of a model are)
 
 -- each operation of the exact arithmetic gives the true number
 abbrev pub ExactArithmeticIsSound : Type 0
-ExactArithmeticIsSound = (m : Model) → IsSound m (exact m.scales) equality
+ExactArithmeticIsSound = (c : Scales) → IsSound c (exact c) equality
 
 -- each operation of the outward arithmetic gives a span round it
 abbrev pub OutwardArithmeticIsSound : Type 0
-OutwardArithmeticIsSound = (m : Model) → IsModel m → IsSound m (outward m.scales) containment
+OutwardArithmeticIsSound = (c : Scales) → AreInRange c → IsSound c (outward c) containment
 
 -- the same of either mode
 abbrev pub ArithmeticIsSound : Type 0
-ArithmeticIsSound = (m : Model) → IsModel m → (e : Bool) → IsSound m (arithmetic e m.scales) (enclosure e)
+ArithmeticIsSound = (c : Scales) → AreInRange c → (e : Bool) → IsSound c (arithmetic e c) (enclosure e)
+
+-- what has weight 0 or chance 0 adds nothing, over any scales
+abbrev pub ArithmeticKeepsZero : Type 0
+ArithmeticKeepsZero = (e : Bool) (c : Scales) → KeepsZero (arithmetic e c)
 
 -- ---- the quantities
 
@@ -73,7 +80,7 @@ abbrev pub ArithmeticEnclosesTheNumbers : Type 0
 ArithmeticEnclosesTheNumbers =
     (m : Model) → IsModel m → (e : Bool) → EnclosesQuantities m (arithmetic e m.scales) (enclosure e)
 
--- ---- the recursion that pushes weights forwards along the trees
+-- ---- the recursion that updates weights along the trees
 
 -- it gives the forward worth, in any arithmetic
 abbrev pub RecursionGivesForwardWorth : Type 0

@@ -18,3 +18,9 @@ pub mod SharedLaws
 pub mod SizeLaws
 pub mod TreeDepthLaws
 pub mod TreeLaws
+pub mod ClassStepLaws
+pub mod GrowthLaws
+pub mod UnequalPlaceLaws
+pub mod ReasonLaws
+pub mod TrueFitLaws
+pub mod UnchoosingLaws

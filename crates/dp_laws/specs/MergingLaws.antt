@@ -1,13 +1,14 @@
 -- Merging equivalent classes loses nothing (lossless clustering, JAIR 46 (2013)).
-use Rattle.std.specs.Prelude.{◌≡◌, ℕ, ◌<◌, ◌≤ℤ◌, List}
+use Rattle.std.specs.Prelude.{◌≡◌, ◌≢◌, ◌⊎◌, ℕ, ◌<◌, ◌≤ℤ◌, ◌==◌, ◌||◌, List, filter, length, get_or}
+use Rattle.std.specs.List.{range_with_len}
 use Rattle.dp_spec.specs.Model.{Model}
 use Rattle.dp_spec.specs.PolicyTree.{IsPolicyOf, PolicyTree}
 use Rattle.dp_spec.specs.Value.{policy_value}
-use Rattle.dp_spec.specs.Front.{Front}
+use Rattle.dp_spec.specs.Front.{AgentFront, Front}
 use Rattle.dp_spec.specs.WellFormed.{IsFront}
 use Rattle.dp_spec.specs.Keeping.{KeepsFront}
 use Rattle.dp_spec.specs.Steps.{IsUnassigned}
-use Rattle.dp_spec.specs.Merge.{AreEquivalent, class_total, merged_front}
+use Rattle.dp_spec.specs.Merge.{AreEquivalent, class_members, class_total, kept_class, merged_agent, merged_front}
 
 -- For each joint policy that keeps a front, where a and b are two classes of agent i that are equivalent and have no
 -- action, some joint policy that keeps the merged front is worth at least as much. (Nothing is asked of the totals of
@@ -26,6 +27,21 @@ KeepingTheMergedKeepsTheFront =
     (m : Model) (F : Front) (i a b : ℕ) → a < b → IsUnassigned i b F.agents → (qs : List PolicyTree) →
     KeepsFront m (merged_front F i a b) qs → KeepsFront m F qs
 
--- a class of total 0 is equivalent to every class
+-- two classes one of which has total 0 are equivalent
 abbrev pub EmptyClassesAreEquivalent : Type 0
-EmptyClassesAreEquivalent = (m : Model) (F : Front) (i a b : ℕ) → class_total m F i a ≡ 0 → AreEquivalent m F i a b
+EmptyClassesAreEquivalent =
+    (m : Model) (F : Front) (i a b : ℕ) → (class_total m F i a ≡ 0) ⊎ (class_total m F i b ≡ 0) →
+    AreEquivalent m F i a b
+
+-- Merging joins the members of both classes, in the order of own histories ..
+abbrev pub MergingJoinsMembers : Type 0
+MergingJoinsMembers =
+    (d : AgentFront) (a b : ℕ) → a < b →
+    class_members (merged_agent a b d) a
+    ≡ filter (λ x. get_or d.class_of x 0 == a || get_or d.class_of x 0 == b) (range_with_len 0 (length d.class_of))
+
+-- .. and every other class keeps its own, under its old number those from b on
+abbrev pub MergingKeepsOtherMembers : Type 0
+MergingKeepsOtherMembers =
+    (d : AgentFront) (a b c : ℕ) → a < b → a ≢ c →
+    class_members (merged_agent a b d) c ≡ class_members d (kept_class b c)

@@ -2,17 +2,18 @@
 -- apart, and within the limits of version 1 no node is wide.
 use Rattle.std.specs.Prelude.{◌≡◌, ◌↔◌, ℕ, suc, ◌*◌, ◌^◌, ◌<◌, ◌≤◌, true, false, All}
 use Rattle.dp_spec.specs.Model.{IsModel, Model, joint_observations}
-use Rattle.dp_spec.specs.Mode.{IsWithin}
+use Rattle.dp_spec.specs.Mode.{IsWithinLimits}
 use Rattle.dp_spec.specs.Arithmetic.{Arithmetic}
 use Rattle.dp_spec.specs.BoundTree.{BoundTree}
 use Rattle.dp_spec.specs.Certificate.{FitsRoot}
 use Rattle.dp_spec.specs.Fitting.{front_bound}
-use Rattle.dp_spec.specs.Front.{Front}
+use Rattle.dp_spec.specs.Front.{Front, class_counts}
 use Rattle.dp_spec.specs.Merge.{merged_front}
 use Rattle.dp_spec.specs.Qualities.{nodes_of}
 use Rattle.dp_spec.specs.Steps.{IsUnassigned, advanced_front, chosen_front, front_after_choice, root_front}
 use Rattle.dp_spec.specs.WellFormed.{IsFront, KeepsHistoriesApart}
 use Rattle.dp_spec.specs.Wide.{has_room, is_wide, widens}
+use Rattle.dp_spec.specs.JointNumbers.{product}
 
 -- ---- the steps of a front
 
@@ -46,6 +47,20 @@ abbrev pub ChoiceKeepsApart : Type 0
 ChoiceKeepsApart =
     (m : Model) (F : Front) (i c a : ℕ) → KeepsHistoriesApart m F → KeepsHistoriesApart m (front_after_choice m F i c a)
 
+-- the single steps too
+abbrev pub ChoosingKeepsApart : Type 0
+ChoosingKeepsApart =
+    (m : Model) (F : Front) (i c a : ℕ) → KeepsHistoriesApart m F → KeepsHistoriesApart m (chosen_front F i c a)
+
+abbrev pub AdvancingKeepsApart : Type 0
+AdvancingKeepsApart = (m : Model) (F : Front) → KeepsHistoriesApart m F → KeepsHistoriesApart m (advanced_front m F)
+
+-- a front that keeps histories apart has as many joint classes as there are joint histories of its stage
+abbrev pub ApartFrontsHaveAClassEach : Type 0
+ApartFrontsHaveAClassEach =
+    (m : Model) (h : ℕ) (F : Front) → IsFront m h F → KeepsHistoriesApart m F →
+    product (class_counts F.agents) ≡ joint_observations m ^ F.stage
+
 -- a front with room that keeps histories apart is within the limit of stage cells
 abbrev pub ApartFrontsAreWithinStageCells : Type 0
 ApartFrontsAreWithinStageCells =
@@ -71,6 +86,6 @@ NodesKeepApartWithoutMerges =
 -- within the limits of version 1 no node is wide
 abbrev pub NoNodeIsWideInVersionOne : Type 0
 NoNodeIsWideInVersionOne =
-    (A : Arithmetic) (m : Model) (h look : ℕ) (T : BoundTree) → IsModel m → IsWithin m h → FitsRoot A m h look T →
+    (A : Arithmetic) (m : Model) (h look : ℕ) (T : BoundTree) → IsModel m → IsWithinLimits m h → FitsRoot A m h look T →
     All (λ n. is_wide m h n.above n.front ≡ false)
     (nodes_of A m h look 0 T (root_front m) (front_bound A m h look (root_front m)))

@@ -7,9 +7,9 @@ use Rattle.dp_spec.specs.JointHistory.{IsJointHistory}
 use Rattle.dp_spec.specs.Mode.{is_exact_mode}
 use Rattle.dp_spec.specs.Model.{IsModel, Model, joint_observations}
 use Rattle.dp_spec.specs.Quantities.{history_weight_in}
-use Rattle.dp_spec.specs.Sizes.{AreWeights, CanPush, CanReward}
-use Rattle.dp_spec.specs.SizesOfEarnings.{CanEarn, CanEvaluate, IsActing}
-use Rattle.dp_spec.specs.SizesOfFronts.{CanAdvance, CanBound, CanClassify, CanRefine}
+use Rattle.dp_spec.specs.Sizes.{AreWeights, CanUpdateWeights, CanReward}
+use Rattle.dp_spec.specs.SizesOfEarnings.{CanEvaluate, IsActing}
+use Rattle.dp_spec.specs.SizesOfFronts.{CanRefine}
 use Rattle.dp_spec.specs.SizesOfLookAhead.{CanLookAhead}
 use Rattle.dp_spec.specs.SizesOfRows.{CanShare}
 use Rattle.dp_spec.specs.SizesOfTable.{CanTabulate}
@@ -18,10 +18,10 @@ use Rattle.dp_spec.specs.WellFormed.{IsFront}
 -- ---- from any weights within the sum bound, up to a horizon of 24
 
 -- the weights of the next time are computed by allowed calls
-abbrev pub ModeAllowsPushes : Type 0
-ModeAllowsPushes =
+abbrev pub ModeAllowsWeightUpdates : Type 0
+ModeAllowsWeightUpdates =
     (m : Model) → IsModel m → (h : ℕ) → 0 < h → h ≤ 24 → (e : Bool) → e ≡ is_exact_mode m h →
-    CanPush (arithmetic e m.scales) (calls_in e m.scales) m h
+    CanUpdateWeights (arithmetic e m.scales) (calls_in e m.scales) m h
 
 -- the reward of a joint action is computed by allowed calls
 abbrev pub ModeAllowsRewards : Type 0
@@ -54,37 +54,13 @@ ModeAllowsSharedWorth =
     (m : Model) → IsModel m → (h : ℕ) → 0 < h → h ≤ 24 → (e : Bool) → e ≡ is_exact_mode m h →
     CanShare (arithmetic e m.scales) m h
 
--- ---- sums along joint histories, in outward mode within the limit of stage cells
-
--- what is earned can be added up
-abbrev pub ModeAllowsEarnings : Type 0
-ModeAllowsEarnings =
-    (m : Model) → IsModel m → (h : ℕ) → 0 < h → h ≤ 24 → (e : Bool) → e ≡ is_exact_mode m h →
-    (e ≡ false → m.states * joint_observations m ^ (h - 1) ≤ 2 ^ 22) → CanEarn (arithmetic e m.scales) m h
+-- ---- a joint policy, in outward mode within the limit of stage cells
 
 -- the worth of a joint policy can be added up
 abbrev pub ModeAllowsWorth : Type 0
 ModeAllowsWorth =
     (m : Model) → IsModel m → (h : ℕ) → 0 < h → h ≤ 24 → (e : Bool) → e ≡ is_exact_mode m h →
     (e ≡ false → m.states * joint_observations m ^ (h - 1) ≤ 2 ^ 22) → CanEvaluate (arithmetic e m.scales) m h
-
--- the weights of joint classes can be added up
-abbrev pub ModeAllowsClassWeights : Type 0
-ModeAllowsClassWeights =
-    (m : Model) → IsModel m → (h : ℕ) → 0 < h → h ≤ 24 → (e : Bool) → e ≡ is_exact_mode m h →
-    (e ≡ false → m.states * joint_observations m ^ (h - 1) ≤ 2 ^ 22) → CanClassify (arithmetic e m.scales) m h
-
--- the bound of a front can be added up
-abbrev pub ModeAllowsBounds : Type 0
-ModeAllowsBounds =
-    (m : Model) → IsModel m → (h : ℕ) → 0 < h → h ≤ 24 → (e : Bool) → e ≡ is_exact_mode m h →
-    (e ≡ false → m.states * joint_observations m ^ (h - 1) ≤ 2 ^ 22) → CanBound (arithmetic e m.scales) m h
-
--- what the advance of a front adds can be added up
-abbrev pub ModeAllowsAdvances : Type 0
-ModeAllowsAdvances =
-    (m : Model) → IsModel m → (h : ℕ) → 0 < h → h ≤ 24 → (e : Bool) → e ≡ is_exact_mode m h →
-    (e ≡ false → m.states * joint_observations m ^ (h - 1) ≤ 2 ^ 22) → CanAdvance (arithmetic e m.scales) m h
 
 -- ---- one front, in outward mode where its own stage is within the limit of stage cells (as where it has room and no
 -- two histories share a class)

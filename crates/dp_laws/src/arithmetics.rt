@@ -1,6 +1,6 @@
 ghost use Rattle.dp_laws.specs.ArithmeticLaws.{ExactArithmeticIsSound, OutwardArithmeticIsSound};
 ghost use Rattle.dp_laws.specs.ArithmeticLaws.{ArithmeticIsSound, ExactArithmeticGivesTheNumbers};
-ghost use Rattle.dp_laws.specs.ArithmeticLaws.{OutwardArithmeticEnclosesTheNumbers};
+ghost use Rattle.dp_laws.specs.ArithmeticLaws.{OutwardArithmeticEnclosesTheNumbers, ArithmeticKeepsZero};
 ghost use Rattle.dp_laws.specs.ArithmeticLaws.{ArithmeticEnclosesTheNumbers, RecursionGivesForwardWorth};
 
 /// Each operation of the exact arithmetic gives the true number.
@@ -17,6 +17,11 @@ pub fn outward_arithmetic_is_sound()
 /// Each operation of the arithmetic of either mode is sound.
 pub fn arithmetic_is_sound()
     ensures { ArithmeticIsSound }
+{}
+
+/// In the arithmetic of either mode what has weight 0 or chance 0 adds nothing.
+pub fn arithmetic_keeps_zero()
+    ensures { ArithmeticKeepsZero }
 {}
 
 /// The exact arithmetic gives the number of each exact definition: weights, rewards, worth,
@@ -38,7 +43,7 @@ pub fn arithmetic_encloses_the_numbers()
     ensures { ArithmeticEnclosesTheNumbers }
 {}
 
-/// In any arithmetic the recursion that pushes weights forwards along the trees gives the
+/// In any arithmetic the recursion that updates weights along the trees gives the
 /// forward worth.
 #[tactic(auto, using(crate::proofs::Recursion::recursive_worth_is_forward))]
 pub fn recursion_gives_forward_worth()

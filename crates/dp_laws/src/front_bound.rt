@@ -1,6 +1,8 @@
 ghost use Rattle.dp_laws.specs.FrontBoundLaws.{AdvancingNeverRaisesBound, ChoiceNeverRaisesBound};
 ghost use Rattle.dp_laws.specs.FrontBoundLaws.{ChoosingNeverRaisesBound, MergingNeverRaisesBound};
-ghost use Rattle.dp_laws.specs.FrontBoundLaws.{NoKeepingPolicyAboveBound};
+ghost use Rattle.dp_laws.specs.FrontBoundLaws.{NoKeepingPolicyAboveBound, NoKeepingPolicyAboveComputedBound};
+ghost use Rattle.dp_laws.specs.FrontBoundLaws.{ChoosingNeverRaisesComputedBound, SpreadsAreNeverNegative};
+ghost use Rattle.dp_laws.specs.FrontBoundLaws.{SpreadsAreLimited};
 
 /// No policy that keeps a front is worth more than the front's bound, with any look.
 #[tactic(auto, using(crate::proofs::KeptBound::keeper_under_bound))]
@@ -34,4 +36,28 @@ pub fn merging_never_raises_bound()
 #[tactic(auto, using(crate::proofs::BoundOnPath::after_choice_bound_le))]
 pub fn choice_never_raises_bound()
     ensures { ChoiceNeverRaisesBound }
+{}
+
+/// No policy that keeps a front is worth more than the bound that is computed in the arithmetic of
+/// either mode, with any look.
+pub fn no_keeping_policy_above_computed_bound()
+    ensures { NoKeepingPolicyAboveComputedBound }
+{}
+
+/// The bound that is computed in any arithmetic does not grow where an unassigned class is given an
+/// action.
+pub fn choosing_never_raises_computed_bound()
+    ensures { ChoosingNeverRaisesComputedBound }
+{}
+
+/// In any arithmetic the spread of an unassigned class, which is how far a choice there may lower the
+/// bound, is never negative.
+pub fn spreads_are_never_negative()
+    ensures { SpreadsAreNeverNegative }
+{}
+
+/// In either mode the spread of an unassigned class is at most `2^127`, in outward mode where the
+/// front's stage is within the limit of stage cells.
+pub fn spreads_are_limited()
+    ensures { SpreadsAreLimited }
 {}

@@ -5,80 +5,153 @@ mod arithmetics;
 mod certificates;
 mod choosing;
 mod class_counts;
+mod class_steps;
 mod forward_values;
 mod front_bound;
 mod front_steps;
 mod full_fronts;
+mod growth;
 mod horizon_one;
 mod look_ahead;
 mod lossless_merging;
 mod plans;
 mod policy_trees;
+mod reasons;
 mod rooms;
 mod root_fronts;
 mod shared_policies;
 mod sizes;
 mod texts;
 mod tree_depth;
+mod true_fits;
+mod unchoosing;
+mod unequal_places;
 
-pub use arithmetics::{
-    arithmetic_encloses_the_numbers, arithmetic_is_sound, exact_arithmetic_gives_the_numbers,
-    exact_arithmetic_is_sound, outward_arithmetic_encloses_the_numbers,
-    outward_arithmetic_is_sound, recursion_gives_forward_worth,
-};
-pub use certificates::{
-    closed_certificates_are_optimal, ends_are_in_order, lower_end_is_the_value,
-    lower_end_of_version_one, valid_certificates_fit, valid_certificates_hold,
-};
-pub use choosing::{choosing_changes_no_weight, equivalence_ignores_choices};
-pub use class_counts::{
-    classes_are_at_most_own_histories, joint_classes_are_at_most_joint_histories,
-};
-pub use forward_values::{value_is_earned, value_is_earned_and_remaining};
-pub use front_bound::{
-    advancing_never_raises_bound, choice_never_raises_bound, choosing_never_raises_bound,
-    merging_never_raises_bound, no_keeping_policy_above_bound,
-};
-pub use front_steps::{
-    advancing_keeps_well_formed, choosing_keeps_well_formed, front_after_choice_is_well_formed,
-    keeping_policy_advances, keeping_policy_goes_on, keeping_policy_makes_choice,
-    merging_keeps_well_formed,
-};
-pub use full_fronts::{
-    full_front_earns_the_value, full_front_has_one_policy, full_policy_keeps_its_front,
-};
-pub use horizon_one::{constant_policy_is_policy, root_bound_is_best_constant_action};
-pub use look_ahead::{
-    action_look_ahead_bounds_every_policy, look_ahead_bounds_every_policy, more_look_never_raises,
-    more_look_never_raises_action, table_bounds_every_policy,
-};
-pub use lossless_merging::{
-    empty_classes_are_equivalent, keeping_the_merged_keeps_the_front, merging_loses_nothing,
-};
+pub use arithmetics::arithmetic_encloses_the_numbers;
+pub use arithmetics::arithmetic_is_sound;
+pub use arithmetics::arithmetic_keeps_zero;
+pub use arithmetics::exact_arithmetic_gives_the_numbers;
+pub use arithmetics::exact_arithmetic_is_sound;
+pub use arithmetics::outward_arithmetic_encloses_the_numbers;
+pub use arithmetics::outward_arithmetic_is_sound;
+pub use arithmetics::recursion_gives_forward_worth;
+pub use certificates::closed_certificates_are_optimal;
+pub use certificates::ends_are_in_order;
+pub use certificates::lower_end_is_the_value;
+pub use certificates::lower_end_of_version_one;
+pub use certificates::valid_certificates_fit;
+pub use certificates::valid_certificates_hold;
+pub use choosing::choosing_changes_no_weight;
+pub use choosing::equivalence_ignores_choices;
+pub use class_counts::classes_are_at_most_own_histories;
+pub use class_counts::joint_classes_are_at_most_joint_histories;
+pub use class_steps::advanced_earnings_are_rewards;
+pub use class_steps::advanced_weights_are_next_weights;
+pub use class_steps::apart_classes_step_as_histories;
+pub use class_steps::class_totals_fit;
+pub use class_steps::class_weights_fit;
+pub use class_steps::classes_step_as_histories;
+pub use class_steps::joined_classes_have_both_weights;
+pub use class_steps::joint_classes_hold_histories;
+pub use class_steps::kept_classes_keep_weights;
+pub use class_steps::place_weights_add_to_total;
+pub use class_steps::place_weights_are_class_weights;
+pub use class_steps::placed_numbers_are_by_row;
+pub use forward_values::value_is_earned;
+pub use forward_values::value_is_earned_and_remaining;
+pub use front_bound::advancing_never_raises_bound;
+pub use front_bound::choice_never_raises_bound;
+pub use front_bound::choosing_never_raises_bound;
+pub use front_bound::choosing_never_raises_computed_bound;
+pub use front_bound::merging_never_raises_bound;
+pub use front_bound::no_keeping_policy_above_bound;
+pub use front_bound::no_keeping_policy_above_computed_bound;
+pub use front_bound::spreads_are_limited;
+pub use front_bound::spreads_are_never_negative;
+pub use front_steps::advancing_keeps_well_formed;
+pub use front_steps::choosing_keeps_well_formed;
+pub use front_steps::front_after_choice_is_well_formed;
+pub use front_steps::keeping_policy_advances;
+pub use front_steps::keeping_policy_goes_on;
+pub use front_steps::keeping_policy_makes_choice;
+pub use front_steps::merging_keeps_well_formed;
+pub use full_fronts::full_front_earns_the_value;
+pub use full_fronts::full_front_has_one_policy;
+pub use full_fronts::full_policy_keeps_its_front;
+pub use growth::arenas_are_counted;
+pub use growth::arenas_grow;
+pub use growth::arenas_start;
+pub use growth::full_bounds_are_values;
+pub use growth::low_trees_are_closed;
+pub use growth::search_keeps_its_promises;
+pub use growth::searched_certificates_are_planned;
+pub use horizon_one::constant_policy_is_policy;
+pub use horizon_one::root_bound_is_best_constant_action;
+pub use look_ahead::action_look_ahead_bounds_every_policy;
+pub use look_ahead::action_look_ahead_scales;
+pub use look_ahead::exact_action_look_ahead_scales;
+pub use look_ahead::exact_look_ahead_scales;
+pub use look_ahead::look_ahead_bounds_every_policy;
+pub use look_ahead::look_ahead_scales;
+pub use look_ahead::more_look_never_raises;
+pub use look_ahead::more_look_never_raises_action;
+pub use look_ahead::table_bounds_every_policy;
+pub use lossless_merging::empty_classes_are_equivalent;
+pub use lossless_merging::keeping_the_merged_keeps_the_front;
+pub use lossless_merging::merging_joins_members;
+pub use lossless_merging::merging_keeps_other_members;
+pub use lossless_merging::merging_loses_nothing;
 pub use plans::plans_of_version_one_end;
-pub use policy_trees::{
-    actions_are_of_the_agent, tree_of_any_actions_exists, trees_with_equal_actions_are_equal,
-};
-pub use rooms::{
-    choices_keep_histories_apart, no_node_is_wide_in_version_one, nodes_have_room,
-    nodes_keep_apart_without_merges, steps_keep_room, widening_is_want_of_room,
-};
-pub use root_fronts::{every_policy_keeps_the_root_front, root_front_is_well_formed};
-pub use shared_policies::{
-    constant_rows_are_a_shared_form, exact_shared_worth_is_the_value, histories_reach_their_rows,
-    plain_form_has_the_forward_worth, plain_form_means_the_policy, plain_policy_is_its_plain_form,
-    plain_worth_is_forward_worth, reduced_rows_are_a_shared_form, rows_are_few,
-    shared_cells_pass_no_limit, shared_form_means_the_policy, shared_rows_mean_a_policy,
-    shared_worth_encloses_the_value,
-};
-pub use sizes::{
-    history_weights_are_within_bound, mode_allows_advances, mode_allows_bounds,
-    mode_allows_class_weights, mode_allows_earnings, mode_allows_look_ahead, mode_allows_pushes,
-    mode_allows_refining, mode_allows_rewards, mode_allows_shared_worth, mode_allows_table,
-    mode_allows_worth,
-};
-pub use texts::{certificates_have_one_text, policies_have_one_text};
-pub use tree_depth::{
-    fitting_branches_are_small, paths_below_a_front_are_short, paths_below_the_root_are_limited,
-    paths_below_the_root_are_short, paths_of_valid_trees_are_short,
-};
+pub use policy_trees::actions_are_of_the_agent;
+pub use policy_trees::tree_of_any_actions_exists;
+pub use policy_trees::trees_with_equal_actions_are_equal;
+pub use reasons::first_reason_is_what_is_found;
+pub use reasons::fitting_trees_have_right_nodes;
+pub use reasons::valid_certificates_have_no_reason;
+pub use rooms::advancing_keeps_histories_apart;
+pub use rooms::apart_fronts_have_a_class_each;
+pub use rooms::choices_keep_histories_apart;
+pub use rooms::choosing_keeps_histories_apart;
+pub use rooms::no_node_is_wide_in_version_one;
+pub use rooms::nodes_have_room;
+pub use rooms::nodes_keep_apart_without_merges;
+pub use rooms::steps_keep_room;
+pub use rooms::widening_is_want_of_room;
+pub use root_fronts::every_policy_keeps_the_root_front;
+pub use root_fronts::root_front_is_well_formed;
+pub use shared_policies::constant_rows_are_a_shared_form;
+pub use shared_policies::exact_shared_worth_is_the_value;
+pub use shared_policies::histories_reach_their_rows;
+pub use shared_policies::plain_form_has_the_forward_worth;
+pub use shared_policies::plain_form_means_the_policy;
+pub use shared_policies::plain_policy_is_its_plain_form;
+pub use shared_policies::plain_worth_is_forward_worth;
+pub use shared_policies::reduced_rows_are_a_shared_form;
+pub use shared_policies::rows_are_few;
+pub use shared_policies::shared_cells_pass_no_limit;
+pub use shared_policies::shared_form_means_the_policy;
+pub use shared_policies::shared_rows_mean_a_policy;
+pub use shared_policies::shared_worth_encloses_the_value;
+pub use sizes::history_weights_are_within_bound;
+pub use sizes::mode_allows_look_ahead;
+pub use sizes::mode_allows_refining;
+pub use sizes::mode_allows_rewards;
+pub use sizes::mode_allows_shared_worth;
+pub use sizes::mode_allows_table;
+pub use sizes::mode_allows_weight_updates;
+pub use sizes::mode_allows_worth;
+pub use texts::certificates_have_one_text;
+pub use texts::policies_have_one_text;
+pub use tree_depth::fitting_branches_are_small;
+pub use tree_depth::paths_below_a_front_are_short;
+pub use tree_depth::paths_below_the_root_are_limited;
+pub use tree_depth::paths_below_the_root_are_short;
+pub use tree_depth::paths_of_valid_trees_are_short;
+pub use true_fits::horizons_have_a_true_fit;
+pub use true_fits::room_is_within_limits;
+pub use unchoosing::choices_are_undone;
+pub use unchoosing::unchoosing_keeps_well_formed;
+pub use unequal_places::first_unequal_place_is_found;
+pub use unequal_places::least_pair_is_unique;
+pub use unequal_places::primitive_vector_is_unique;
+pub use unequal_places::primitive_vectors_decide_equivalence;

@@ -5,6 +5,8 @@ ghost use Rattle.dp_laws.specs.LookAheadLaws.{
   MoreLookNeverRaisesAction,
   TableBoundsEveryPolicy,
 };
+ghost use Rattle.dp_laws.specs.LookAheadLaws.{LookAheadScales, ActionLookAheadScales};
+ghost use Rattle.dp_laws.specs.LookAheadLaws.{ExactLookAheadScales, ExactActionLookAheadScales};
 
 /// No joint policy is worth more from a state than the table of the Markov decision process says.
 #[tactic(auto, using(crate::proofs::OneStep::value_le_table))]
@@ -34,4 +36,24 @@ pub fn more_look_never_raises()
 #[tactic(auto, using(crate::proofs::LongerLook::longer_look_action_le))]
 pub fn more_look_never_raises_action()
     ensures { MoreLookNeverRaisesAction }
+{}
+
+/// A factor times the weights gives that factor times the look-ahead, in exact numbers.
+pub fn look_ahead_scales()
+    ensures { LookAheadScales }
+{}
+
+/// The same of the look-ahead after a joint action.
+pub fn action_look_ahead_scales()
+    ensures { ActionLookAheadScales }
+{}
+
+/// A factor times the weights gives that factor times the look-ahead, in the exact arithmetic.
+pub fn exact_look_ahead_scales()
+    ensures { ExactLookAheadScales }
+{}
+
+/// The same of the look-ahead after a joint action.
+pub fn exact_action_look_ahead_scales()
+    ensures { ExactActionLookAheadScales }
 {}

@@ -1,6 +1,7 @@
 ghost use Rattle.dp_laws.specs.RoomLaws.{WideningIsWantOfRoom, RootFrontHasRoom, ChoiceKeepsRoom};
 ghost use Rattle.dp_laws.specs.RoomLaws.{MergingKeepsRoom, RootFrontKeepsApart, ChoiceKeepsApart};
 ghost use Rattle.dp_laws.specs.RoomLaws.{ApartFrontsAreWithinStageCells, NodesHaveRoom};
+ghost use Rattle.dp_laws.specs.RoomLaws.{ChoosingKeepsApart, AdvancingKeepsApart, ApartFrontsHaveAClassEach};
 ghost use Rattle.dp_laws.specs.RoomLaws.{NodesKeepApartWithoutMerges, NoNodeIsWideInVersionOne};
 
 /// A front widens exactly where a step is left after the next one and the front after a choice and
@@ -26,6 +27,23 @@ pub fn choices_keep_histories_apart()
     ensures root { RootFrontKeepsApart }
     ensures choice { ChoiceKeepsApart }
     ensures cells { ApartFrontsAreWithinStageCells }
+{}
+
+/// A choice alone keeps own histories apart.
+#[tactic(auto, using(crate::proofs::FrontRoom::chosen_keeps_apart))]
+pub fn choosing_keeps_histories_apart()
+    ensures { ChoosingKeepsApart }
+{}
+
+/// So does an advance alone.
+#[tactic(auto, using(crate::proofs::FrontRoom::advanced_keeps_apart))]
+pub fn advancing_keeps_histories_apart()
+    ensures { AdvancingKeepsApart }
+{}
+
+/// A front that keeps own histories apart has as many joint classes as its stage has joint histories.
+pub fn apart_fronts_have_a_class_each()
+    ensures { ApartFrontsHaveAClassEach }
 {}
 
 /// The front of each node of a tree that fits the root front is well formed and has room.

@@ -1,13 +1,11 @@
-ghost use Rattle.dp_laws.specs.SizeLaws.{ModeAllowsPushes, ModeAllowsRewards, ModeAllowsTable};
+ghost use Rattle.dp_laws.specs.SizeLaws.{ModeAllowsWeightUpdates, ModeAllowsRewards, ModeAllowsTable};
 ghost use Rattle.dp_laws.specs.SizeLaws.{ModeAllowsLookAhead, HistoryWeightsAreWithinBound};
-ghost use Rattle.dp_laws.specs.SizeLaws.{ModeAllowsEarnings, ModeAllowsWorth, ModeAllowsClassWeights};
-ghost use Rattle.dp_laws.specs.SizeLaws.{ModeAllowsBounds, ModeAllowsAdvances, ModeAllowsSharedWorth};
-ghost use Rattle.dp_laws.specs.SizeLaws.{ModeAllowsRefining};
+ghost use Rattle.dp_laws.specs.SizeLaws.{ModeAllowsWorth, ModeAllowsSharedWorth, ModeAllowsRefining};
 
 /// In either mode the weights of the start, and from weights within the sum bound those of the
 /// next time, are computed by allowed calls and stay within 127 bits with a sign.
-pub fn mode_allows_pushes()
-    ensures { ModeAllowsPushes }
+pub fn mode_allows_weight_updates()
+    ensures { ModeAllowsWeightUpdates }
 {}
 
 /// In either mode the reward of a joint action, from weights within the sum bound, is computed by
@@ -36,34 +34,10 @@ pub fn history_weights_are_within_bound()
     ensures { HistoryWeightsAreWithinBound }
 {}
 
-/// In exact mode always, and in outward mode within the limit of stage cells, what is earned along
-/// joint histories can be added up.
-pub fn mode_allows_earnings()
-    ensures { ModeAllowsEarnings }
-{}
-
 /// In exact mode always, and in outward mode within the limit of stage cells, the worth of a joint
 /// policy can be added up.
 pub fn mode_allows_worth()
     ensures { ModeAllowsWorth }
-{}
-
-/// In exact mode always, and in outward mode within the limit of stage cells, the weights of joint
-/// classes can be added up.
-pub fn mode_allows_class_weights()
-    ensures { ModeAllowsClassWeights }
-{}
-
-/// In exact mode always, and in outward mode within the limit of stage cells, the bound of a front
-/// can be added up.
-pub fn mode_allows_bounds()
-    ensures { ModeAllowsBounds }
-{}
-
-/// In exact mode always, and in outward mode within the limit of stage cells, what the advance of a
-/// front adds can be added up.
-pub fn mode_allows_advances()
-    ensures { ModeAllowsAdvances }
 {}
 
 /// In either mode the weights of the joint rows of a shared policy are within the sum bound of their

@@ -3,7 +3,7 @@ use Rattle.std.proofs.Common.{◌≡◌, ℕ, Bool, true, false, refl, sym, subs
 use Rattle.std.specs.Prelude.{◌==◌}
 use Rattle.std.proofs.lemmas.Bool.{cases_Bool, eqb-true}
 use Rattle.dp_base.specs.Bytes.{is_name_byte}
-use Rattle.dp_lexer.specs.declared.pieces.Class.TheVariants.{Blank, Run, Bad}
+use Rattle.dp_lexer.specs.declared.lexemes.Class.TheVariants.{Blank, Run, Bad}
 use Rattle.dp_lexer.specs.Bytes.{space, tab, carriage_return, line_feed, hash, colon, star, is_blank, is_in_alphabet}
 use Rattle.dp_lexer.specs.Tokens.{class_of}
 

@@ -2,7 +2,7 @@ pub mod Classes
 pub mod CommentSteps
 pub mod Loop
 pub mod OnlyTokens
-pub mod Piece
+pub mod Lexeme
 pub mod Rows
 pub mod Steps
 pub mod Stretches

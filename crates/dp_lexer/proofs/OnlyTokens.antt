@@ -16,7 +16,7 @@ use Rattle.dp_lexer.specs.Comments.{is_in_comment, is_kept, is_bad}
 use Rattle.dp_lexer.specs.Tokens.{with_token, tokens_from}
 use Rattle.dp_lexer.specs.TokenLaws.{offsets_of, IsOfKind, IsLongest, IsTokenOf}
 use Rattle.dp_lexer.proofs.CommentSteps.{IsOutside}
-use Rattle.dp_lexer.proofs.Piece.{tokens_at}
+use Rattle.dp_lexer.proofs.Lexeme.{tokens_at}
 use Rattle.dp_lexer.proofs.Stretches.{blank_plain, kept_from, kept-stretch}
 use Rattle.dp_lexer.proofs.Steps.{Advances, halts, goes, step_of}
 
@@ -138,7 +138,7 @@ module _ (text : List ℕ) where
       = ap (λ n. range_with_len token.start n ++ flat_map offsets_of others) (sym some) ∙ in_place in
       cc
 
-  -- where a piece is a token, the first of the list is that token
+  -- where a lexeme is a token, the first of the list is that token
   takes : (at n : ℕ) (kind : Kind) (tokens : List Token) → Advances text at n (Some kind) → All (IsTokenOf text) tokens
       → flat_map offsets_of tokens ≡ range_with_len at n ++ kept_from text (at + n)
       → ((others : List Token) → All (IsTokenOf text) others → flat_map offsets_of others ≡ kept_from text (at + n)
@@ -203,7 +203,7 @@ module _ (text : List ℕ) where
           (shape_at at token starts is) in
           let clash = sym allowed ∙ parts.1 in cc
 
-  -- one piece, and what follows it
+  -- one lexeme, and what follows it
   steps : (at n : ℕ) (kind : Option Kind) (tokens : List Token) → Advances text at n kind → All (IsTokenOf text) tokens
       → flat_map offsets_of tokens ≡ kept_from text at
       → ((others : List Token) → All (IsTokenOf text) others → flat_map offsets_of others ≡ kept_from text (at + n)

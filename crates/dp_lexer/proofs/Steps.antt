@@ -1,4 +1,4 @@
--- One step through a text: a bad byte, or a piece with what is known of its bytes.
+-- One step through a text: a bad byte, or a lexeme with what is known of its bytes.
 use Rattle.std.proofs.Common.{◌≡◌, ℕ, suc, ◌+◌, ◌≤◌, ◌<◌, Bool, true, false, cond, not, ◌||◌, List, [], ◌∷◌, length, get_or, take, drop, Option, Some, None, Err, refl, sym, ap, subst, ◌∙◌, inl, inr, arith}
 use Rattle.std.specs.Prelude.{is_some, nat_lt}
 use Rattle.std.specs.List.{prefix_len, list_all}
@@ -10,15 +10,15 @@ use Rattle.dp_base.specs.DecimalShape.{is_decimal}
 use Rattle.dp_base.specs.Names.{is_word}
 use Rattle.dp_lexer.specs.declared.Kind.{Kind}
 use Rattle.dp_lexer.specs.declared.Kind.TheVariants.{Word, Number, Colon, Star, LineEnd}
-use Rattle.dp_lexer.specs.declared.pieces.Class.{Class}
-use Rattle.dp_lexer.specs.declared.pieces.Class.TheVariants.{Blank, Comment, LineFeed, Run, Mark, Bad}
+use Rattle.dp_lexer.specs.declared.lexemes.Class.{Class}
+use Rattle.dp_lexer.specs.declared.lexemes.Class.TheVariants.{Blank, Comment, LineFeed, Run, Mark, Bad}
 use Rattle.dp_lexer.specs.Bytes.{line_feed, hash, colon, star, is_line_feed, is_no_line_feed, is_in_alphabet}
 use Rattle.dp_lexer.specs.Comments.{is_in_comment, is_bad}
 use Rattle.dp_lexer.specs.Tokens.{class_of, more_of, kind_of, with_token}
 use Rattle.dp_lexer.specs.TokenLaws.{IsOfKind, IsLongest}
 use Rattle.dp_lexer.proofs.Classes.{run, blank, line_end, comment, colon_mark, star_mark, unknown, byte_of, differs}
 use Rattle.dp_lexer.proofs.CommentSteps.{IsOutside, outside_feed}
-use Rattle.dp_lexer.proofs.Piece.{tokens_at, cut, stops, len, fits, moves}
+use Rattle.dp_lexer.proofs.Lexeme.{tokens_at, cut, stops, len, fits, moves}
 use Rattle.dp_lexer.proofs.Stretches.{IsStretch, IsPlain, named_plain, blank_plain, plain_stretch, comment_stretch}
 
 -- the bytes are of the kind, and it is the longest such slice
@@ -26,12 +26,12 @@ pub record IsShown (text : List ℕ) (at n : ℕ) (kind : Kind) : Type 0 where
   pub kind_is : IsOfKind kind (take n (drop at text))
   pub longest : IsLongest kind (get_or text (at + n) 0)
 
--- the same of a piece that is a token; nothing of another
+-- the same of a lexeme that is a token; nothing of another
 abbrev pub ShowsToken : List ℕ → ℕ → ℕ → Option Kind → Type 0
 ShowsToken text at n None = Unit {0}
 ShowsToken text at n (Some kind) = IsShown text at n kind
 
--- the tokens from an offset on are those from behind a piece on, and its own where it is one
+-- the tokens from an offset on are those from behind a lexeme on, and its own where it is one
 pub record Advances (text : List ℕ) (at n : ℕ) (kind : Option Kind) : Type 0 where
   pub some : 0 < n
   pub within : at + n ≤ length text
@@ -39,7 +39,7 @@ pub record Advances (text : List ℕ) (at n : ℕ) (kind : Option Kind) : Type 0
   pub stretch : IsStretch text at n (is_some kind)
   pub shown : ShowsToken text at n kind
 
--- a step from an offset: a bad byte stands there, or a piece
+-- a step from an offset: a bad byte stands there, or a lexeme
 pub data Step (text : List ℕ) (at : ℕ) : Type 0 where
   halts : tokens_at text at ≡ Err at → is_bad text at ≡ true → Step text at
   goes : (n : ℕ) (kind : Option Kind) → Advances text at n kind → Step text at
@@ -84,7 +84,7 @@ module _ (text : List ℕ) (at : ℕ) (inside : at < length text) (outside : IsO
   abbrev comment_more : ℕ
   comment_more = prefix_len is_no_line_feed rest
 
-  -- a piece of one byte
+  -- a lexeme of one byte
   single : (class : Class) (kind : Option Kind) → class ≡ class_of byte → (class ≡ Bad → ⊥)
       → ((others : List ℕ) → more_of class others ≡ 0) → kind_of class (byte ∷ []) ≡ kind → IsPlain (is_some kind) byte
       → ShowsToken text at 1 kind → Step text at
@@ -181,7 +181,7 @@ module _ (text : List ℕ) (at : ℕ) (inside : at < length text) (outside : IsO
           (get_or-drop (at + 1) text n 0 ∙ ap (λ i. get_or text i 0) same)
           (prefix_len_stops is_no_line_feed rest 0 below))
 
-  -- a piece that is one byte and a token
+  -- a lexeme that is one byte and a token
   mark : (b : ℕ) (class : Class) (kind : Kind) → byte ≡ b → class ≡ class_of b → (class ≡ Bad → ⊥)
       → ((others : List ℕ) → more_of class others ≡ 0) → kind_of class (b ∷ []) ≡ Some kind → IsPlain true b
       → IsOfKind kind (b ∷ [])

@@ -11,7 +11,7 @@ use Rattle.dp_lexer.specs.Bytes.{hash, is_blank, is_in_alphabet, is_line_feed}
 use Rattle.dp_lexer.specs.Comments.{is_in_comment, is_kept, is_bad}
 use Rattle.dp_lexer.proofs.Classes.{differs, name_not_blank}
 use Rattle.dp_lexer.proofs.CommentSteps.{is_open, IsOutside, outside_closed, stays_closed, stays_open}
-use Rattle.dp_lexer.proofs.Piece.{cut}
+use Rattle.dp_lexer.proofs.Lexeme.{cut}
 
 -- numbers in a row, in two parts
 range-append : (a n m : ℕ) → range_with_len a (n + m) ≡ range_with_len a n ++ range_with_len (a + n) m

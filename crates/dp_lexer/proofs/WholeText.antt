@@ -15,7 +15,7 @@ use Rattle.dp_lexer.specs.Tokens.{with_token, tokens_from, tokens_of}
 use Rattle.dp_lexer.specs.TokenLaws.{slice_of, offsets_of, IsOfKind, IsTokenOf, TokensAreOfText, FirstBadByteIsNamed}
 use Rattle.dp_lexer.proofs.CommentSteps.{IsOutside, outside_start}
 use Rattle.dp_lexer.proofs.OnlyTokens.{only_from}
-use Rattle.dp_lexer.proofs.Piece.{tokens_at}
+use Rattle.dp_lexer.proofs.Lexeme.{tokens_at}
 use Rattle.dp_lexer.proofs.Stretches.{map-range, kept_from, bad_from, kept-stretch, bad-stretch}
 use Rattle.dp_lexer.proofs.Steps.{Advances, halts, goes, step_of}
 
@@ -47,12 +47,12 @@ module _ (text : List ℕ) where
     in_place = sym (ap (filter (is_kept text)) (none_left at past));
   }
 
-  -- what begins behind a piece begins behind its start
+  -- what begins behind a lexeme begins behind its start
   later_from : (at n : ℕ) (tokens : List Token) → All (λ token. at + n ≤ token.start) tokens
       → All (λ token. at ≤ token.start) tokens
   later_from at n tokens later k d lt = omega (arith, later k d lt)
 
-  -- a piece that is no token
+  -- a lexeme that is no token
   skips : (at n : ℕ) (others : List Token) → Advances text at n None → AreTokensFrom (at + n) others
       → AreTokensFrom at others
   skips at n others step rest =
@@ -65,7 +65,7 @@ module _ (text : List ℕ) where
         in_place = rest.in_place ∙ sym kept;
       }
 
-  -- a piece that is a token
+  -- a lexeme that is a token
   takes : (at n : ℕ) (kind : Kind) (token : Token) (others : List Token) → Advances text at n (Some kind)
       → token ≡ record { start = at; end = at + n; line = line_at text at; kind = kind } → AreTokensFrom (at + n) others
       → AreTokensFrom at (token ∷ others)
@@ -102,7 +102,7 @@ module _ (text : List ℕ) where
       kept : kept_from text at ≡ range_with_len at n ++ kept_from text (at + n)
       kept = kept-stretch text at n true step.within step.stretch
 
-  -- a piece, and the tokens behind it
+  -- a lexeme, and the tokens behind it
   after : (at n : ℕ) (kind : Option Kind) (tokens : List Token) (rest : Result (List Token) ℕ) → Advances text at n kind
       → with_token text at n kind rest ≡ Ok tokens
       → ((others : List Token) → rest ≡ Ok others → AreTokensFrom (at + n) others)

@@ -8,8 +8,8 @@ use Rattle.dp_lexer.specs.declared.Kind.TheVariants.{Word, Number, Colon, Star, 
 use Rattle.dp_lexer.specs.declared.Token.{Token}
 use Rattle.dp_lexer.specs.declared.LexFault.{LexFault}
 use Rattle.dp_lexer.specs.declared.LexFault.TheVariants.{BadByte, Memory}
-use Rattle.dp_lexer.specs.declared.pieces.Class.{Class}
-use Rattle.dp_lexer.specs.declared.pieces.Class.TheVariants.{Blank, Comment, Run, LineFeed, Mark, Bad}
+use Rattle.dp_lexer.specs.declared.lexemes.Class.{Class}
+use Rattle.dp_lexer.specs.declared.lexemes.Class.TheVariants.{Blank, Comment, Run, LineFeed, Mark, Bad}
 use Rattle.dp_lexer.specs.Comments.{first_bad}
 use Rattle.dp_lexer.specs.Bytes.{is_blank, is_line_feed, is_no_line_feed, hash, colon, star, line_at, column_at}
 

@@ -6,11 +6,11 @@ ghost use Rattle.dp_lexer.specs.TokenLaws.{AreTokensOf};
 ghost use Rattle.dp_lexer.specs.Tokens.{tokens_of, NamesFirstBadByte};
 
 mod laws;
-mod pieces;
+mod lexemes;
 mod place;
 
 pub use crate::laws::{first_bad_byte_is_named, tokens_are_of_text};
-use crate::pieces::{Class, class_of, kind_of, more_of};
+use crate::lexemes::{Class, class_of, kind_of, more_of};
 pub use crate::place::{column_at, line_at};
 use std::alloc::{AllocFailed, Global};
 

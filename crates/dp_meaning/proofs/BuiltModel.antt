@@ -11,7 +11,7 @@ use Rattle.dp_meaning.specs.Cells.{statements_for, reward_of_cell}
 use Rattle.dp_meaning.specs.Text.{states_in, joint_actions_in, joint_observations_in}
 use Rattle.dp_meaning.specs.Scales.{scales_of}
 use Rattle.dp_meaning.specs.Rows.{Repaired, start_chance, start_row, trans_rows, obs_rows, repair_all}
-use Rattle.dp_meaning.specs.Meaning.{table_model, names_given, ReadModel, rewards_of, model_of}
+use Rattle.dp_meaning.specs.Meaning.{table_model, names_given, ReadModel, rewards_of, repaired_model}
 use Rattle.dp_meaning.proofs.CellNumbers.{parts_of_cell, cell_below}
 use Rattle.dp_meaning.proofs.FaultSteps.{done, ok_same, bind_ok}
 use Rattle.dp_meaning.proofs.Repairs.{IsRepair, repair_ok, repair_all_ok}
@@ -30,8 +30,8 @@ pub record IsBuilt (end : ℕ) (text : Text) (r : ReadModel) : Type 0 where
   pub names : r.model.names ≡ names_given text.header
   pub repaired : r.repaired ≡ start.repaired + trans.repaired + obs.repaired
 
-pub built_of : (end : ℕ) (text : Text) (r : ReadModel) → model_of end text ≡ done r → IsBuilt end text r
-unfolding model_of
+pub built_of : (end : ℕ) (text : Text) (r : ReadModel) → repaired_model end text ≡ done r → IsBuilt end text r
+unfolding repaired_model
 built_of end text r e =
     let start = bind_ok (repair_all end (start_row text ∷ [])) _ r e in
     let trans = bind_ok (repair_all end (trans_rows text)) _ r start.2 in

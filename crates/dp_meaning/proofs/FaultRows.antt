@@ -2,7 +2,7 @@
 use Rattle.std.proofs.Common.{◌≡◌, ℕ, List, [], ◌∷◌, ◌++◌, refl}
 use Rattle.std.specs.Prelude.{codes, map}
 use Rattle.dp_base.specs.DecimalShape.{is_decimal, is_index}
-use Rattle.dp_base.specs.Decimals.{significand, raised, lowered, decimal_of}
+use Rattle.dp_base.specs.Decimals.{significand, numerator_tens, denominator_tens, decimal_of}
 use Rattle.dp_base.specs.Divisors.{gcd_of, lcm_of}
 use Rattle.dp_base.specs.Names.{is_word, is_name}
 use Rattle.dp_lexer.specs.Tokens.{tokens_from, tokens_of}
@@ -19,7 +19,7 @@ use Rattle.dp_meaning.specs.Rows.{start_row, table_row, trans_rows, obs_rows, re
 use Rattle.dp_meaning.specs.Limits.{passed_limit}
 use Rattle.dp_meaning.specs.declared.why.Why.{Why}
 use Rattle.dp_meaning.specs.declared.why.Why.TheVariants.{BadByte, Expected, UnknownName, DoubleName, Number, RowSum, MissingRow, Header}
-use Rattle.dp_meaning.specs.Meaning.{Meaning, FaultAt, text_of, rewards_of, model_of, meaning}
+use Rattle.dp_meaning.specs.Meaning.{Meaning, FaultAt, text_of, rewards_of, repaired_model, meaning}
 
 -- a text and its fault
 pub record Faulty : Type 0 where
@@ -54,7 +54,7 @@ items_rows =
     ∷ []
 
 items_fail : meanings items_rows ≡ faults items_rows
-unfolding is_decimal is_index significand raised lowered decimal_of gcd_of lcm_of is_word is_name tokens_from tokens_of lines_of items_of number numbers names_after name_list name_lists find_in start_of kind_of with_entry header_with header_of fields_of part_of parts_in all_parts value_of statement statements_of chance_of_cell reward_of_cell scales_of start_row table_row trans_rows obs_rows repaired_cells repair repair_all passed_limit text_of rewards_of model_of meaning meanings faults items_rows
+unfolding is_decimal is_index significand numerator_tens denominator_tens decimal_of gcd_of lcm_of is_word is_name tokens_from tokens_of lines_of items_of number numbers names_after name_list name_lists find_in start_of kind_of with_entry header_with header_of fields_of part_of parts_in all_parts value_of statement statements_of chance_of_cell reward_of_cell scales_of start_row table_row trans_rows obs_rows repaired_cells repair repair_all passed_limit text_of rewards_of repaired_model meaning meanings faults items_rows
 items_fail = refl
 
 -- ---- the header
@@ -85,7 +85,7 @@ header_rows =
     ∷ []
 
 header_fail : meanings header_rows ≡ faults header_rows
-unfolding is_decimal is_index significand raised lowered decimal_of gcd_of lcm_of is_word is_name tokens_from tokens_of lines_of items_of number numbers names_after name_list name_lists find_in start_of kind_of with_entry header_with header_of fields_of part_of parts_in all_parts value_of statement statements_of chance_of_cell reward_of_cell scales_of start_row table_row trans_rows obs_rows repaired_cells repair repair_all passed_limit text_of rewards_of model_of meaning meanings faults header_rows
+unfolding is_decimal is_index significand numerator_tens denominator_tens decimal_of gcd_of lcm_of is_word is_name tokens_from tokens_of lines_of items_of number numbers names_after name_list name_lists find_in start_of kind_of with_entry header_with header_of fields_of part_of parts_in all_parts value_of statement statements_of chance_of_cell reward_of_cell scales_of start_row table_row trans_rows obs_rows repaired_cells repair repair_all passed_limit text_of rewards_of repaired_model meaning meanings faults header_rows
 header_fail = refl
 
 -- ---- the values of the entries
@@ -130,7 +130,7 @@ entries_rows =
     ∷ []
 
 entries_fail : meanings entries_rows ≡ faults entries_rows
-unfolding is_decimal is_index significand raised lowered decimal_of gcd_of lcm_of is_word is_name tokens_from tokens_of lines_of items_of number numbers names_after name_list name_lists find_in start_of kind_of with_entry header_with header_of fields_of part_of parts_in all_parts value_of statement statements_of chance_of_cell reward_of_cell scales_of start_row table_row trans_rows obs_rows repaired_cells repair repair_all passed_limit text_of rewards_of model_of meaning meanings faults entries_rows
+unfolding is_decimal is_index significand numerator_tens denominator_tens decimal_of gcd_of lcm_of is_word is_name tokens_from tokens_of lines_of items_of number numbers names_after name_list name_lists find_in start_of kind_of with_entry header_with header_of fields_of part_of parts_in all_parts value_of statement statements_of chance_of_cell reward_of_cell scales_of start_row table_row trans_rows obs_rows repaired_cells repair repair_all passed_limit text_of rewards_of repaired_model meaning meanings faults entries_rows
 entries_fail = refl
 
 -- ---- the statements, behind the header of `one_state`
@@ -181,7 +181,7 @@ statements_rows =
     ∷ []
 
 statements_fail : meanings statements_rows ≡ faults statements_rows
-unfolding is_decimal is_index significand raised lowered decimal_of gcd_of lcm_of is_word is_name tokens_from tokens_of lines_of items_of number numbers names_after name_list name_lists find_in start_of kind_of with_entry header_with header_of fields_of part_of parts_in all_parts value_of statement statements_of chance_of_cell reward_of_cell scales_of start_row table_row trans_rows obs_rows repaired_cells repair repair_all passed_limit text_of rewards_of model_of meaning meanings faults statements_rows
+unfolding is_decimal is_index significand numerator_tens denominator_tens decimal_of gcd_of lcm_of is_word is_name tokens_from tokens_of lines_of items_of number numbers names_after name_list name_lists find_in start_of kind_of with_entry header_with header_of fields_of part_of parts_in all_parts value_of statement statements_of chance_of_cell reward_of_cell scales_of start_row table_row trans_rows obs_rows repaired_cells repair repair_all passed_limit text_of rewards_of repaired_model meaning meanings faults statements_rows
 statements_fail = refl
 
 -- ---- the rows, behind the header of `one_state`
@@ -196,7 +196,7 @@ rows_rows =
     ∷ []
 
 rows_fail : meanings rows_rows ≡ faults rows_rows
-unfolding is_decimal is_index significand raised lowered decimal_of gcd_of lcm_of is_word is_name tokens_from tokens_of lines_of items_of number numbers names_after name_list name_lists find_in start_of kind_of with_entry header_with header_of fields_of part_of parts_in all_parts value_of statement statements_of chance_of_cell reward_of_cell scales_of start_row table_row trans_rows obs_rows repaired_cells repair repair_all passed_limit text_of rewards_of model_of meaning meanings faults rows_rows
+unfolding is_decimal is_index significand numerator_tens denominator_tens decimal_of gcd_of lcm_of is_word is_name tokens_from tokens_of lines_of items_of number numbers names_after name_list name_lists find_in start_of kind_of with_entry header_with header_of fields_of part_of parts_in all_parts value_of statement statements_of chance_of_cell reward_of_cell scales_of start_row table_row trans_rows obs_rows repaired_cells repair repair_all passed_limit text_of rewards_of repaired_model meaning meanings faults rows_rows
 rows_fail = refl
 
 -- ---- the row of the start
@@ -217,5 +217,5 @@ start_rows =
     ∷ []
 
 start_fail : meanings start_rows ≡ faults start_rows
-unfolding is_decimal is_index significand raised lowered decimal_of gcd_of lcm_of is_word is_name tokens_from tokens_of lines_of items_of number numbers names_after name_list name_lists find_in start_of kind_of with_entry header_with header_of fields_of part_of parts_in all_parts value_of statement statements_of chance_of_cell reward_of_cell scales_of start_row table_row trans_rows obs_rows repaired_cells repair repair_all passed_limit text_of rewards_of model_of meaning meanings faults started start_rows
+unfolding is_decimal is_index significand numerator_tens denominator_tens decimal_of gcd_of lcm_of is_word is_name tokens_from tokens_of lines_of items_of number numbers names_after name_list name_lists find_in start_of kind_of with_entry header_with header_of fields_of part_of parts_in all_parts value_of statement statements_of chance_of_cell reward_of_cell scales_of start_row table_row trans_rows obs_rows repaired_cells repair repair_all passed_limit text_of rewards_of repaired_model meaning meanings faults started start_rows
 start_fail = refl

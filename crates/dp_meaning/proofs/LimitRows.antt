@@ -2,7 +2,7 @@
 use Rattle.std.proofs.Common.{◌≡◌, ℕ, List, [], ◌∷◌, pos, refl}
 use Rattle.std.specs.Prelude.{codes, map, replicate, Some, None, false}
 use Rattle.dp_base.specs.DecimalShape.{is_decimal, is_index}
-use Rattle.dp_base.specs.Decimals.{significand, raised, lowered, decimal_of}
+use Rattle.dp_base.specs.Decimals.{significand, numerator_tens, denominator_tens, decimal_of}
 use Rattle.dp_base.specs.Divisors.{gcd_of, lcm_of}
 use Rattle.dp_base.specs.Names.{is_word, is_name}
 use Rattle.dp_lexer.specs.Tokens.{tokens_from, tokens_of}
@@ -25,7 +25,7 @@ use Rattle.dp_meaning.specs.Scales.{scales_of}
 use Rattle.dp_meaning.specs.Rows.{start_row, table_row, trans_rows, obs_rows, repaired_cells, repair, repair_all}
 use Rattle.dp_meaning.specs.Limits.{passed_limit}
 use Rattle.dp_meaning.specs.declared.why.Why.TheVariants as why
-use Rattle.dp_meaning.specs.Meaning.{Meaning, FaultAt, Passes, text_of, rewards_of, model_of, meaning}
+use Rattle.dp_meaning.specs.Meaning.{Meaning, FaultAt, Passes, text_of, rewards_of, repaired_model, meaning}
 
 -- a text and the limit that it passes
 pub record Large : Type 0 where
@@ -69,7 +69,7 @@ limit_rows =
     ∷ []
 
 limits_are_passed : meanings limit_rows ≡ limits_passed limit_rows
-unfolding is_decimal is_index significand raised lowered decimal_of gcd_of lcm_of is_word is_name tokens_from tokens_of lines_of items_of number numbers names_after name_list name_lists find_in start_of kind_of with_entry header_with header_of fields_of part_of parts_in all_parts value_of statement statements_of chance_of_cell reward_of_cell scales_of start_row table_row trans_rows obs_rows repaired_cells repair repair_all passed_limit text_of rewards_of model_of meaning meanings limits_passed limit_rows
+unfolding is_decimal is_index significand numerator_tens denominator_tens decimal_of gcd_of lcm_of is_word is_name tokens_from tokens_of lines_of items_of number numbers names_after name_list name_lists find_in start_of kind_of with_entry header_with header_of fields_of part_of parts_in all_parts value_of statement statements_of chance_of_cell reward_of_cell scales_of start_row table_row trans_rows obs_rows repaired_cells repair repair_all passed_limit text_of rewards_of repaired_model meaning meanings limits_passed limit_rows
 limits_are_passed = refl
 
 -- ---- reward statements, of one agent, one state, one action and one observation
@@ -99,5 +99,5 @@ too_many_reward_lines = refl
 -- a fault in the text comes before a limit
 text_before_limits : meaning (codes "agents: 7\ndiscount: 1\nvalues: reward\nstates: 1\nstart: 0\nactions:\n1\n1\n1\n1\n1\n1\n1\nobservations:\n1\n1\n1\n1\n1\n1\n1\nT: * : 2\n")
     ≡ FaultAt (record { line = 22; column = 8 }) why.Number
-unfolding is_decimal is_index significand raised lowered decimal_of gcd_of lcm_of is_word is_name tokens_from tokens_of lines_of items_of number numbers names_after name_list name_lists find_in start_of kind_of with_entry header_with header_of fields_of part_of parts_in all_parts value_of statement statements_of chance_of_cell reward_of_cell scales_of start_row table_row trans_rows obs_rows repaired_cells repair repair_all passed_limit text_of rewards_of model_of meaning
+unfolding is_decimal is_index significand numerator_tens denominator_tens decimal_of gcd_of lcm_of is_word is_name tokens_from tokens_of lines_of items_of number numbers names_after name_list name_lists find_in start_of kind_of with_entry header_with header_of fields_of part_of parts_in all_parts value_of statement statements_of chance_of_cell reward_of_cell scales_of start_row table_row trans_rows obs_rows repaired_cells repair repair_all passed_limit text_of rewards_of repaired_model meaning
 text_before_limits = refl

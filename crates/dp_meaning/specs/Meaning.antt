@@ -92,8 +92,8 @@ table_model text start trans obs = record {
 }
 
 -- the rows of the start, the transitions and the observations in this order, repaired, or the first that cannot be
-unfoldable pub model_of : ℕ → Text → Result ReadModel Fault
-model_of end text = do
+unfoldable pub repaired_model : ℕ → Text → Result ReadModel Fault
+repaired_model end text = do
   start ← repair_all end (start_row text ∷ [])
   trans ← repair_all end (trans_rows text)
   obs ← repair_all end (obs_rows text)
@@ -130,7 +130,7 @@ meaning_of_model bytes (Err e) = FaultAt (place_at bytes e.at) e.why
 -- the limits are tried before the rows
 abbrev pub meaning_within : List ℕ → Text → Option TooLarge → Meaning
 meaning_within bytes text (Some passed) = Passes passed
-meaning_within bytes text None = meaning_of_model bytes (model_of (length bytes) text)
+meaning_within bytes text None = meaning_of_model bytes (repaired_model (length bytes) text)
 
 -- what a file means, by its text or by the fault with which the reading of it ended
 abbrev pub meaning_of_text : List ℕ → Result Text Fault → Meaning

@@ -32,9 +32,9 @@ start_chance scale states (OneState only) s = if s == only then scale else 0
 start_chance scale states (StartRow at ns) s = chance_over scale (slice_index_or ns s no_number)
 
 -- where the value of `start` begins; only a row of chances can have a wrong sum
-abbrev pub start_at : Start → ℕ
-start_at (StartRow at ns) = at
-start_at _ = 0
+abbrev pub offset_of_start : Start → ℕ
+offset_of_start (StartRow at ns) = at
+offset_of_start _ = 0
 
 -- the row of the start, as the text gives it
 unfoldable pub start_row : Text → Row
@@ -44,7 +44,7 @@ start_row text =
     record {
       cells = map (start_chance scale (states_in text) start) (range_with_len 0 (states_in text));
       scale = scale;
-      at = Some (start_at start);
+      at = Some (offset_of_start start);
     }
 
 -- ---- the rows of a table

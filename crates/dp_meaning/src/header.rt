@@ -1,7 +1,7 @@
 //! The header of a model file.
 use crate::GivenList;
 use dp_base::Decimal;
-use dp_model::Items;
+use dp_model::Sequence;
 
 /// How a run starts.
 #[derive(Drop)]
@@ -11,7 +11,7 @@ pub enum Start {
     /// In one state.
     OneState(u32),
     /// By a chance for each state, after the offset at which the first of these stands.
-    StartRow(u32, Items<Decimal>),
+    StartRow(u32, Sequence<Decimal>),
 }
 
 /// The entries of a header.
@@ -36,8 +36,8 @@ pub struct Entries {
     pub states: Option<GivenList>,
     pub start: Option<Start>,
     /// For each agent, as the observations are.
-    pub actions: Option<Items<GivenList>>,
-    pub observations: Option<Items<GivenList>>,
+    pub actions: Option<Sequence<GivenList>>,
+    pub observations: Option<Sequence<GivenList>>,
 }
 
 /// What all seven entries say.
@@ -49,6 +49,6 @@ pub struct Header {
     pub cost: bool,
     pub states: GivenList,
     pub start: Start,
-    pub actions: Items<GivenList>,
-    pub observations: Items<GivenList>,
+    pub actions: Sequence<GivenList>,
+    pub observations: Sequence<GivenList>,
 }

@@ -4,7 +4,7 @@ ghost use Rattle.dp_meaning.specs.Cells.{is_same_table};
 
 use crate::Entry;
 use dp_base::Decimal;
-use dp_model::Items;
+use dp_model::Sequence;
 
 /// The tables that statements fill.
 #[derive(Clone, Copy)]
@@ -57,7 +57,7 @@ pub enum Value {
     /// 1 where the next state is the state, and else 0.
     Identity,
     /// Numbers over the axes that have no field, the last axis fastest.
-    Numbers(Items<Decimal>),
+    Numbers(Sequence<Decimal>),
 }
 
 /// A statement, and the offset at which it begins.
@@ -66,6 +66,6 @@ pub struct Statement {
     pub at: u32,
     pub table: Table,
     /// For each axis that has a field, one part for each of its lists.
-    pub fields: Items<Items<Part>>,
+    pub fields: Sequence<Sequence<Part>>,
     pub value: Value,
 }

@@ -4,7 +4,7 @@ use Rattle.std.specs.Prelude.{Some, None}
 use Rattle.dp_spec.specs.Mode.{is_exact_mode, unit_of}
 use Rattle.dp_spec.specs.Model.{Model, joint_actions, joint_observations, step_scale, value_scale}
 use Rattle.dp_model.specs.declared.limit.Limit.TheVariants as limits
-use Rattle.dp_model.specs.Horizons.{fit_of, horizon_limits}
+use Rattle.dp_model.specs.Horizons.{fit_of, horizon_limits, long_horizon_passed}
 use Rattle.dp_model.specs.Limits.{first_passed}
 use Rattle.dp_model.proofs.TwoAgents.{two_agents}
 
@@ -43,6 +43,17 @@ exact_at_eight_steps = refl
 fit_of_nine_steps : fit_of tiger 9 ≡ record { horizon = 9; exact = false; unit = pos 1000000000 }
 unfolding unit_of is_exact_mode value_scale step_scale
 fit_of_nine_steps = refl
+
+-- in version 2 there may be 24
+kept_in_version_two : long_horizon_passed 24 ≡ None
+kept_in_version_two = refl
+
+passed_in_version_two : long_horizon_passed 25 ≡ Some (record { what = limits.Horizon; count = 25 })
+passed_in_version_two = refl
+
+fit_of_twenty_steps : fit_of tiger 20 ≡ record { horizon = 20; exact = false; unit = pos 1000000000 }
+unfolding unit_of is_exact_mode value_scale step_scale
+fit_of_twenty_steps = refl
 
 -- ---- sizes with few own histories and many joint ones: 4 agents of 2 observations over 6 steps have 16^5 in the
 -- last stage

@@ -1,5 +1,5 @@
 -- The limits of a horizon, and what a run needs of a horizon that keeps them.
-use Rattle.std.specs.Prelude.{ℕ, ◌*◌, ◌-◌, ◌^◌, pos, List, [], ◌∷◌, Option}
+use Rattle.std.specs.Prelude.{ℕ, ◌*◌, ◌-◌, ◌^◌, nat_lt, if◌then◌else◌, pos, List, [], ◌∷◌, Option, Some, None}
 use Rattle.dp_spec.specs.Mode.{is_exact_mode, own_history_count, unit_of}
 use Rattle.dp_spec.specs.Model.{Model, joint_actions, joint_observations}
 use Rattle.dp_model.specs.declared.horizon.Fit.{Fit}
@@ -15,6 +15,10 @@ horizon_limits m h =
     ∷ passed_by limits.StageCells (m.states * joint_observations m ^ (h - 1))
     ∷ passed_by limits.GameCells (joint_actions m * joint_observations m ^ (h - 1))
     ∷ []
+
+-- the limit of a horizon in version 2 of certificates, which has no other: at most 24 steps
+abbrev pub long_horizon_passed : ℕ → Option TooLarge
+long_horizon_passed h = if nat_lt 24 h then Some (record { what = limits.Horizon; count = h }) else None
 
 -- the horizon with its mode and its unit
 abbrev pub fit_of : Model → ℕ → Fit

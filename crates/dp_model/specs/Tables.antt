@@ -13,8 +13,8 @@ pub record NamedModel : Type 0 where
   pub names : NameLists
 
 -- the model of these sizes, scales and tables
-abbrev pub model_of : Sizes → Scales → Cells → Model
-model_of sizes scales cells = record {
+abbrev pub model_of_tables : Sizes → Scales → Cells → Model
+model_of_tables sizes scales cells = record {
   states = sizes.states;
   actions = sizes.actions;
   observations = sizes.observations;

@@ -1,10 +1,10 @@
 //! The limits of a horizon, its mode and its unit.
 ghost use Rattle.std.specs.Prelude.{◌≡◌, ◌*◌, ◌-◌, ◌^◌, ◌<◌, ◌≤◌, true, IfOk, OnOk, IfSome, SomeIff};
 ghost use Rattle.std.specs.Result.{result_err};
-ghost use Rattle.dp_spec.specs.Mode.{IsWithin, is_exact_mode, own_history_count};
+ghost use Rattle.dp_spec.specs.Mode.{IsWithinLimits, IsWithinVersion, is_exact_mode, own_history_count};
 ghost use Rattle.dp_spec.specs.Model.{AreScales, joint_observations, step_scale, value_scale};
 ghost use Rattle.dp_base.specs.Sums.{nat_sum};
-ghost use Rattle.dp_model.specs.Horizons.{fit_of, horizon_limits};
+ghost use Rattle.dp_model.specs.Horizons.{fit_of, horizon_limits, long_horizon_passed};
 ghost use Rattle.dp_model.specs.Limits.{first_passed};
 
 use crate::{Limit, Model, TooLarge};
@@ -14,6 +14,9 @@ use dp_spec::Scales;
 const MOST_VALUE: u128 = 1 << 126;
 
 const OUTWARD_UNIT: i128 = 1_000_000_000;
+
+// The most steps of a policy in version 2 of certificates.
+const LONGEST_HORIZON: u32 = 24;
 
 /// A horizon that keeps every limit of a model, with its mode and its unit.
 #[derive(Clone, Copy, Debug, PartialEq, Eq)]
@@ -33,10 +36,27 @@ pub struct Fit {
 pub fn fits(model: &Model, horizon: u32) -> Result<Fit, TooLarge>
     requires { 1 ≤ horizon }
     ensures passed { result_err result ≡ first_passed (horizon_limits model.now.model horizon) }
-    ensures within { OnOk result (IsWithin model.now.model horizon) }
+    ensures within { OnOk result (IsWithinLimits model.now.model horizon) }
     ensures fit { IfOk result (λ fit. fit ≡ fit_of model.now.model horizon) }
 {
     within_limits(model, horizon)?;
+    Ok(mode_and_unit(model, horizon))
+}
+
+/// The mode and the unit of a horizon of at least 1 in version 2 of certificates, or the limit
+/// `Horizon` with the horizon where it is more than 24. No other limit is tried. It takes no memory.
+pub fn fits_two(model: &Model, horizon: u32) -> Result<Fit, TooLarge>
+    requires { 1 ≤ horizon }
+    ensures passed { result_err result ≡ long_horizon_passed horizon }
+    ensures within { OnOk result (IsWithinVersion model.now.model horizon 2) }
+    ensures fit { IfOk result (λ fit. fit ≡ fit_of model.now.model horizon) }
+{
+    if horizon > LONGEST_HORIZON {
+        return Err(TooLarge {
+            what: Limit::Horizon,
+            count: u128::from(horizon),
+        });
+    }
     Ok(mode_and_unit(model, horizon))
 }
 
@@ -60,7 +80,7 @@ fn own_histories(model: &Model, horizon: u32) -> u128
     requires { horizon ≤ 16 }
     ensures { result ≡ own_history_count model.now.model.observations horizon }
 {
-    model.kept();
+    model.invariant();
     let mut count = 0;
     for agent in 0..model.agents() {
         count += histories_of(model.observations(agent), horizon);
@@ -89,7 +109,7 @@ fn joint_histories(model: &Model, horizon: u32) -> u128
     ensures is { result ≡ joint_observations model.now.model ^ (horizon - 1) }
     ensures limit { result ≤ 2 ^ 66 }
 {
-    model.kept();
+    model.invariant();
     u128::from(model.joint_observations()).pow(horizon - 1)
 }
 
@@ -119,7 +139,7 @@ fn exact_unit(model: &Model, horizon: u32) -> Option<u128>
         (is_exact_mode model.now.model horizon ≡ true) (value_scale model.now.model horizon) }
     ensures limit { IfSome result (λ unit. unit ≤ 2 ^ 126) }
 {
-    model.kept();
+    model.invariant();
     let scales = model.scales();
     let weights = weight_scale(model, horizon)?;
     let steps = product_within(weights, u128::from(horizon))?;
@@ -133,7 +153,7 @@ fn weight_scale(model: &Model, steps: u32) -> Option<u128>
     ensures { let scale = model.now.model.scales.start * step_scale model.now.model ^ steps in
         SomeIff result (scale ≤ 2 ^ 126) scale }
 {
-    model.kept();
+    model.invariant();
     let scales = model.scales();
     let mut scale = u128::from(scales.start);
     for _step in 0..steps {

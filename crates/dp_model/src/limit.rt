@@ -26,7 +26,7 @@ pub enum Limit {
     RewardLines,
     /// The common scale of the start chances, of the transitions or of the observations: 2^62.
     Scale,
-    /// The steps of a policy: 16.
+    /// The steps of a policy: 16, and 24 in a certificate of version 2.
     Horizon,
     /// The own histories shorter than the horizon, of all agents together: 2,048.
     OwnHistories,
@@ -38,6 +38,8 @@ pub enum Limit {
     Nodes,
     /// That budget times the greatest number of actions of an agent: 2^22.
     TreeNodes,
+    /// The states times the joint rows of a stage of a policy with shared rows: 2^22.
+    PolicyCells,
     /// The inner nodes on a path of a bound tree: 2,048.
     Depth,
     /// The bytes of a model file: 2^26.
@@ -69,6 +71,7 @@ impl Limit {
             Limit::GameCells => "game-cells",
             Limit::Nodes => "nodes",
             Limit::TreeNodes => "tree-nodes",
+            Limit::PolicyCells => "policy-cells",
             Limit::Depth => "depth",
             Limit::ModelBytes => "model-bytes",
             Limit::FileBytes => "file-bytes",
@@ -83,7 +86,11 @@ impl Limit {
         match self {
             Limit::Agents => 6,
             Limit::States | Limit::JointActions | Limit::JointObservations => 256,
-            Limit::TransCells | Limit::ObsCells | Limit::StageCells | Limit::TreeNodes => 1 << 22,
+            Limit::TransCells
+            | Limit::ObsCells
+            | Limit::StageCells
+            | Limit::TreeNodes
+            | Limit::PolicyCells => 1 << 22,
             Limit::RewardCells | Limit::FileBytes | Limit::TextBytes => 1 << 28,
             Limit::RewardLines => 65_536,
             Limit::Scale => 1 << 62,

@@ -5,7 +5,7 @@ ghost use Rattle.dp_spec.specs.Mode.{greatest_magnitude};
 ghost use Rattle.dp_spec.specs.Model.{IsModel, joint_actions, joint_observations, obs_at, reward_at};
 ghost use Rattle.dp_spec.specs.Model.{start_at, trans_at};
 ghost use Rattle.dp_model.specs.Parts.{AreParts, part_of};
-ghost use Rattle.dp_model.specs.Tables.{AreNamesOf, model_of};
+ghost use Rattle.dp_model.specs.Tables.{AreNamesOf, model_of_tables};
 
 use crate::numbering::Numbering;
 use crate::{Cells, Names, Sizes};
@@ -29,17 +29,17 @@ pub struct Model {
 }
 
 impl std::marker::Model for Model {
-    ghost use Rattle.dp_model.specs.Tables.{IsStoredModel, NamedModel, model_of};
+    ghost use Rattle.dp_model.specs.Tables.{IsStoredModel, NamedModel, model_of_tables};
 
     ghost Value = { NamedModel };
 
     ghost view = { λ m. record {
-      model = model_of (record { states = m.states; actions = m.actions; observations = m.observations }) m.scales m.cells;
+      model = model_of_tables (record { states = m.states; actions = m.actions; observations = m.observations }) m.scales m.cells;
       names = m.names;
     } };
 
     ghost invariant = { λ m. IsStoredModel (record {
-      model = model_of (record { states = m.states; actions = m.actions; observations = m.observations }) m.scales m.cells;
+      model = model_of_tables (record { states = m.states; actions = m.actions; observations = m.observations }) m.scales m.cells;
       names = m.names;
     }) m.greatest_reward };
 }
@@ -48,9 +48,9 @@ impl Model {
     /// The model of these sizes, names, scales and tables. The number of agents is the length of
     /// both lists of sizes, and the tables are numbered as `Cells` says. It takes no memory.
     pub fn build(sizes: Sizes, names: Names, scales: Scales, cells: Cells) -> Model
-        requires model { IsModel (model_of sizes scales cells) }
-        requires names { AreNamesOf (model_of sizes scales cells) names }
-        ensures { result ≡ record { model = model_of sizes scales cells; names = names } }
+        requires model { IsModel (model_of_tables sizes scales cells) }
+        requires names { AreNamesOf (model_of_tables sizes scales cells) names }
+        ensures { result ≡ record { model = model_of_tables sizes scales cells; names = names } }
     {
         let greatest_reward = greatest_magnitude(cells.reward.as_slice());
         Model {
@@ -66,7 +66,7 @@ impl Model {
 
     /// What holds of all models. It does nothing.
     #[inline]
-    pub fn kept(&self)
+    pub fn invariant(&self)
         ensures model { IsModel self.now.model }
         ensures names { AreNamesOf self.now.model self.now.names }
     {

@@ -8,7 +8,6 @@ ghost use Rattle.dp_model.specs.Names.{IsNameList, has_name, place_of, with_name
 use dp_base::Memory;
 use indexmap::IndexSet;
 use std::alloc::Global;
-use std::marker::Model;
 
 /// Names in the order in which they were added, each of them once, and at most 2^26 of them.
 /// Contracts see the list of their bytes.
@@ -17,7 +16,7 @@ pub struct NameList {
     names: IndexSet<String>,
 }
 
-impl Model for NameList {
+impl std::marker::Model for NameList {
     ghost use Rattle.std.specs.Prelude.{ℕ, List, map, string_bytes};
     ghost use Rattle.dp_model.specs.Names.{IsNameList};
 
@@ -40,7 +39,7 @@ impl NameList {
 
     /// What holds of every list of names. It does nothing.
     #[inline]
-    pub fn kept(&self)
+    pub fn invariant(&self)
         ensures { IsNameList self.now }
     {
         let _ = &self.names;

@@ -9,7 +9,6 @@ ghost use Rattle.dp_model.specs.Names.{with_name_of};
 use crate::name_list::NameList;
 use dp_base::Memory;
 use std::alloc::Global;
-use std::marker::Model;
 
 /// The names of the agents and of the states, and for each agent those of its actions and of its
 /// observations, each list in the order of its numbers.
@@ -25,7 +24,7 @@ pub struct Names {
     observations: Vec<NameList>,
 }
 
-impl Model for Names {
+impl std::marker::Model for Names {
     ghost use Rattle.dp_model.specs.Names.{NameLists, AreNames};
 
     ghost Value = { NameLists };
@@ -89,7 +88,7 @@ impl Names {
 
     /// What holds of all names. It does nothing.
     #[inline]
-    pub fn kept(&self)
+    pub fn invariant(&self)
         ensures { AreNames self.now }
     {
         let _ = &self.agents;

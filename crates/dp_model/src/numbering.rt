@@ -3,21 +3,20 @@ ghost use Rattle.std.specs.Prelude.{◌≡◌, ◌<◌, ◌≤◌, length, slice
 ghost use Rattle.dp_spec.specs.JointNumbers.{joint_number, product};
 ghost use Rattle.dp_model.specs.Parts.{AreParts, part_of};
 
-use crate::Items;
-use std::marker::Model;
+use crate::Sequence;
 
 const MOST_AGENTS: usize = 6;
 
 /// How many parts each agent has, with what numbering them together needs.
 #[derive(Drop)]
 pub struct Numbering {
-    sizes: Items<u32>,
+    sizes: Sequence<u32>,
     count: u32,
     // By how much the joint number grows with each agent's part.
     steps: [u32; MOST_AGENTS],
 }
 
-impl Model for Numbering {
+impl std::marker::Model for Numbering {
     ghost use Rattle.std.specs.Prelude.{ℕ, List};
     ghost use Rattle.dp_model.specs.Parts.{IsNumbering};
 
@@ -30,7 +29,7 @@ impl Model for Numbering {
 
 impl Numbering {
     /// The numbering of these many parts for each agent. It takes no memory.
-    pub fn new(sizes: Items<u32>) -> Numbering
+    pub fn new(sizes: Sequence<u32>) -> Numbering
         requires agents { length sizes ≤ 6 }
         requires some { 0 < product sizes }
         requires limit { product sizes ≤ 256 }

@@ -1,12 +1,12 @@
 //! What a model is built from, besides its names and scales.
-use crate::Items;
+use crate::Sequence;
 
 /// How many states, and for each agent how many actions and observations.
 #[derive(Drop)]
 pub struct Sizes {
     pub states: u32,
-    pub actions: Items<u32>,
-    pub observations: Items<u32>,
+    pub actions: Sequence<u32>,
+    pub observations: Sequence<u32>,
 }
 
 /// The tables of a model, as whole numbers over its scales. With `S` states and `O` joint
@@ -21,8 +21,8 @@ pub struct Sizes {
 ///   `s` where state `t` and joint observation `o` follow.
 #[derive(Drop)]
 pub struct Cells {
-    pub start: Items<u64>,
-    pub trans: Items<u64>,
-    pub obs: Items<u64>,
-    pub reward: Items<i64>,
+    pub start: Sequence<u64>,
+    pub trans: Sequence<u64>,
+    pub obs: Sequence<u64>,
+    pub reward: Sequence<i64>,
 }

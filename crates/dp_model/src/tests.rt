@@ -60,8 +60,8 @@ fn two_agents(alloc: Global) -> Result<Model, Memory>
 {
     let sizes = Sizes {
         states: 1,
-        actions: Items::of(vec![in alloc; 2, 3]?),
-        observations: Items::of(vec![in alloc; 1, 2]?),
+        actions: Sequence::of(vec![in alloc; 2, 3]?),
+        observations: Sequence::of(vec![in alloc; 1, 2]?),
     };
     let scales = Scales {
         start: 1,
@@ -72,10 +72,10 @@ fn two_agents(alloc: Global) -> Result<Model, Memory>
         gain: 1,
     };
     let cells = Cells {
-        start: Items::of(vec![in alloc; 1]?),
-        trans: Items::of(vec![in alloc; 1, 1, 1, 1, 1, 1]?),
-        obs: Items::of(vec![in alloc; 1, 1, 1, 1, 1, 1, 1, 1, 1, 1, 1, 1]?),
-        reward: Items::of(vec![in alloc; 0, 1, 2, 3, 4, 5, 6, 7, 8, 9, 10, 11]?),
+        start: Sequence::of(vec![in alloc; 1]?),
+        trans: Sequence::of(vec![in alloc; 1, 1, 1, 1, 1, 1]?),
+        obs: Sequence::of(vec![in alloc; 1, 1, 1, 1, 1, 1, 1, 1, 1, 1, 1, 1]?),
+        reward: Sequence::of(vec![in alloc; 0, 1, 2, 3, 4, 5, 6, 7, 8, 9, 10, 11]?),
     };
     let names = Names::counts(alloc, 2)?;
     Ok(Model::build(sizes, names, scales, cells))

@@ -3,7 +3,7 @@ use Rattle.std.proofs.Common.{◌≡◌, ℕ, zero, suc, ◌+◌, ◌*◌, ◌^�
 use Rattle.std.proofs.lemmas.Grind.{common_steps}
 use Rattle.std.proofs.lemmas.Int.{fits_signed_from_abs, to_z-of_z, to_z_pos, unsigned_abs-mul}
 use Rattle.std.proofs.lemmas.Nat.{mul-mod}
-use Rattle.std.proofs.Math.Nat.{le-mul_of_pos_right, mod-eq_of_lt, mul-pos, pow-le-pow_left, pow-suc, pow-zero}
+use Rattle.std.proofs.Math.Nat.{le-mul_of_pos_right, mod-eq_of_lt, mul-pos, pow-le-pow_left, pow-suc, pow-zero, mul_assoc, mul_right_comm}
 use Rattle.std.proofs.Math.Pow.{pow_mono}
 use mir.Syntax.{w128}
 use mir.Val.{SFits}
@@ -110,20 +110,14 @@ carry_fits x p o g q some e room =
     let whole : unsigned_abs (x *ℤ pos (p * o * g)) ≡ unsigned_abs x * (p * o * g) = unsigned_abs-mul x (pos (p * o * g)) in
     let part : unsigned_abs (x *ℤ pos q) ≡ unsigned_abs x * q = unsigned_abs-mul x (pos q) in
     let grown = le-mul_of_pos_right (unsigned_abs x * (p * g)) some in
-    let swapped = swap_last (unsigned_abs x) p o g in
+    let swapped = ap (λ (k : ℕ). unsigned_abs x * k) (mul_right_comm p g o) in
     let same = ap (λ (k : ℕ). unsigned_abs x * k) e in
     omega arith
-  where
-    swap_last : (a p o g : ℕ) → a * (p * o * g) ≡ a * (p * g) * o
-    swap_last a p o g = omega arith
 
 -- the product in this order is the true one
 pub carry_is : (x : ℤ) (p o g q : ℕ) (y f : ℤ) → y ≡ x *ℤ pos q → q ≡ p * g → f ≡ pos o → y *ℤ f ≡ x *ℤ pos (p * o * g)
 carry_is x p o g q y f part e is =
-    ap (λ (y : ℤ). y *ℤ f) part ∙ ap (λ (f : ℤ). x *ℤ pos q *ℤ f) is ∙ zmul_assoc x (pos q) (pos o) ∙ ap (λ (k : ℕ). x *ℤ pos k) (ap (λ (k : ℕ). k * o) e ∙ swap_last p o g)
-  where
-    swap_last : (p o g : ℕ) → p * g * o ≡ p * o * g
-    swap_last p o g = omega arith
+    ap (λ (y : ℤ). y *ℤ f) part ∙ ap (λ (f : ℤ). x *ℤ pos q *ℤ f) is ∙ zmul_assoc x (pos q) (pos o) ∙ ap (λ (k : ℕ). x *ℤ pos k) (ap (λ (k : ℕ). k * o) e ∙ mul_right_comm p g o)
 
 -- so it fits
 pub carry_all_fits : (x : ℤ) (p o g q : ℕ) (y f : ℤ) → y ≡ x *ℤ pos q → q ≡ p * g → f ≡ pos o
@@ -136,11 +130,8 @@ part_fits x y n some room =
     let whole : unsigned_abs (x *ℤ (y *ℤ pos n)) ≡ unsigned_abs x * (unsigned_abs y * n) = unsigned_abs-mul x (y *ℤ pos n) ∙ ap (λ (k : ℕ). unsigned_abs x * k) (unsigned_abs-mul y (pos n)) in
     let part : unsigned_abs (x *ℤ y) ≡ unsigned_abs x * unsigned_abs y = unsigned_abs-mul x y in
     let grown = le-mul_of_pos_right (unsigned_abs x * unsigned_abs y) some in
-    let regroup = times_assoc (unsigned_abs x) (unsigned_abs y) n in
+    let regroup = mul_assoc (unsigned_abs x) (unsigned_abs y) n in
     omega arith
-  where
-    times_assoc : (a b n : ℕ) → a * (b * n) ≡ a * b * n
-    times_assoc a b n = omega arith
 
 -- and so does what is multiplied last
 pub gain_fits : (x y : ℤ) (n : ℕ) (z : ℤ) → z ≡ x *ℤ y → unsigned_abs (x *ℤ (y *ℤ pos n)) < 2 ^ 127

@@ -1,8 +1,7 @@
 //! The arithmetic that weights, rewards, values and bounds are computed in.
 ghost use Rattle.std.specs.Prelude.{◌≡◌};
-ghost use Rattle.dp_spec.specs.Model.{IsModel, Model};
 ghost use Rattle.dp_spec.specs.Arithmetic.{Arithmetic};
-ghost use Rattle.dp_spec.specs.Calls.{Calls};
+ghost use Rattle.dp_spec.specs.Calls.{AreInRange, Calls};
 ghost use Rattle.dp_spec.specs.Enclosure.{IsSound, enclosure};
 ghost use Rattle.dp_spec.specs.declared.scales.Scales.{Scales};
 
@@ -11,8 +10,8 @@ use dp_spec::Span;
 /// An arithmetic for weights, rewards, values and bounds, over the scales of a model.
 ///
 /// It is `Exact` or `Outward`. Each call gives what the operation of its name in `operations` does,
-/// and asks for arguments that `calls` allows. For the scales of a model the operations are sound:
-/// each gives the true number, or numbers on either side of it.
+/// and asks for arguments that `calls` allows. Over scales in range, as those of a model are, the
+/// operations are sound: each gives the true number, or numbers on either side of it.
 pub trait Arith {
     ghost scales_of: { Self → Scales };
 
@@ -54,8 +53,7 @@ pub trait Arith {
         requires allowed { (calls self.now).Tail w v }
         ensures { result ≡ (operations self.now).tail w v };
 
-    // For a model of these scales each operation is sound: its results are the true numbers or
-    // enclose them.
-    ghost holds: { (a : Self) (m : Model) → IsModel m → scales_of a ≡ m.scales →
-        IsSound m (operations a) (enclosure (operations a).is_exact) };
+    // Over scales in range each operation is sound: its results are the true numbers or enclose them.
+    ghost holds: { (a : Self) → AreInRange (scales_of a) →
+        IsSound (scales_of a) (operations a) (enclosure (operations a).is_exact) };
 }

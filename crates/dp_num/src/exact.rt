@@ -7,7 +7,6 @@ ghost use Rattle.dp_laws.proofs.SoundOverScales.{exact_holds};
 
 use crate::arith::Arith;
 use dp_spec::{Scales, Span};
-use std::marker::Model;
 
 /// For how many numbers of steps left the factors of rewards are kept. Where more are left, a
 /// factor of at most 127 bits is that of fewer steps, since the scale of a step is 1.
@@ -20,7 +19,7 @@ pub struct Exact {
     factors: [u128; FACTORS],
 }
 
-impl Model for Exact {
+impl std::marker::Model for Exact {
     ghost use Rattle.dp_spec.specs.declared.scales.Scales.{Scales};
     ghost use Rattle.dp_spec.specs.Calls.{AreInRange};
     ghost use Rattle.dp_num.specs.RewardFactors.{HoldsFactors};
@@ -169,5 +168,5 @@ impl Arith for Exact {
         times(w.low, v)
     }
 
-    ghost holds = { λ a m is e. exact_holds a m e };
+    ghost holds = { λ a range. exact_holds a };
 }

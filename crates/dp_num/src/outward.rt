@@ -8,7 +8,6 @@ ghost use Rattle.dp_laws.proofs.SoundOverScales.{outward_holds};
 use crate::arith::Arith;
 use dp_base::{mul_down, mul_up};
 use dp_spec::{Scales, Span};
-use std::marker::Model;
 
 /// The weight 1.
 const ONE: i128 = 1_000_000_000_000;
@@ -21,7 +20,7 @@ pub struct Outward {
     scales: Scales,
 }
 
-impl Model for Outward {
+impl std::marker::Model for Outward {
     ghost use Rattle.dp_spec.specs.declared.scales.Scales.{Scales};
     ghost use Rattle.dp_spec.specs.Calls.{AreInRange};
 
@@ -207,5 +206,5 @@ impl Arith for Outward {
         }
     }
 
-    ghost holds = { λ a m is e. outward_holds a m is e };
+    ghost holds = { λ a range. outward_holds a range };
 }

@@ -1,8 +1,8 @@
 -- The certificate of the best constant policy is valid.
-use Rattle.std.proofs.Common.{◌≡◌, ⊎_elim, true, false, ℕ, suc, ℤ, ◌≤ℤ◌, ◌<ℤ◌, refl, sym, ap, ◌∙◌, arith}
+use Rattle.std.proofs.Common.{◌≡◌, ◌<◌, inl, ⊎_elim, true, false, ℕ, suc, ℤ, ◌≤ℤ◌, ◌<ℤ◌, refl, sym, ap, ◌∙◌, arith}
 use Rattle.std.proofs.lemmas.Int.{ints}
 use Rattle.std.specs.Int.Signed.{lt_z, lt_z_yes, lt_z_no}
-use Rattle.dp_laws.proofs.ConstantPolicies.{constant_policy_fits, root_bound_at_one}
+use Rattle.dp_laws.proofs.ConstantPolicies.{root_bound_at_one}
 use Rattle.dp_laws.proofs.ExactArithmetic.{exact_sound}
 use Rattle.dp_base.proofs.Order.{equal_of_le, last_or_before}
 use Rattle.dp_laws.proofs.ValidCertificates.{claims_hold}
@@ -14,14 +14,16 @@ use Rattle.dp_spec.specs.Claims.{ClaimsHold}
 use Rattle.dp_spec.specs.ConstantPolicy.{constant_policy}
 use Rattle.dp_spec.specs.Enclosure.{equality}
 use Rattle.dp_spec.specs.Fitting.{front_bound}
-use Rattle.dp_spec.specs.Mode.{is_exact_mode}
+use Rattle.dp_spec.specs.Mode.{IsWithinVersion, is_exact_mode}
 use Rattle.dp_spec.specs.Model.{IsModel, Model, joint_actions}
-use Rattle.dp_spec.specs.Quantities.{forward_worth_in}
+use Rattle.dp_spec.specs.PlainForm.{plain_form}
+use Rattle.dp_spec.specs.SharedWorth.{shared_worth_in}
 use Rattle.dp_spec.specs.Steps.{root_front}
 use Rattle.dp_base.specs.Sums.{greatest, numbers_below}
 use Rattle.dp_plan.specs.BestConstant.{IsBestConstant, IsFirstGreatest, constant_value}
 use Rattle.dp_plan.specs.ConstantCertificate.{constant_certificate}
 use Rattle.dp_plan.proofs.OneStep.{within_one_step}
+use Rattle.dp_plan.proofs.PlainConstants.{constant_plain_worth, has_policy_of_version_one}
 use Rattle.dp_base.proofs.GreatestValues.{greatest_below_at_most, le_greatest_below}
 
 -- ---- the first greatest, one number after the other
@@ -68,33 +70,40 @@ greatest_is_first f n first h =
 -- ---- the certificate
 
 -- the bound of the root is the value of the best constant policy
-root_bound_is_best : (m : Model) (a : ℕ) → IsModel m → IsBestConstant m a
-    → constant_value m a ≡ front_bound (exact m.scales) m 1 1 (root_front m)
+root_bound_is_best : (m : Model) (look a : ℕ) → IsModel m → IsBestConstant m a
+    → constant_value m a ≡ front_bound (exact m.scales) m 1 look (root_front m)
 unfolding front_bound constant_value root_front
-root_bound_is_best m a ok best =
-    sym ((exact_quantities m ok).bounds 1 (root_front m) 1 ∙ root_bound_at_one m ok 1 ∙ greatest_is_first (constant_value m) (joint_actions m) a best)
+root_bound_is_best m look a ok best =
+    sym ((exact_quantities m ok).bounds 1 (root_front m) look ∙ root_bound_at_one m ok look ∙ greatest_is_first (constant_value m) (joint_actions m) a best)
 
 -- in exact arithmetic the worth of a constant policy is its value
-lower_is_value : (m : Model) (a : ℕ)
-    → constant_value m a ≡ (forward_worth_in (exact m.scales) m 1 (constant_policy m 1 a)).low
+lower_is_value : (m : Model) (a : ℕ) → IsModel m → a < joint_actions m
+    → constant_value m a ≡ (shared_worth_in (exact m.scales) m 1 (plain_form m 1 (constant_policy m 1 a))).low
 unfolding constant_value
-lower_is_value m a = sym (ap (λ (s : Span). s.low) (worth_enclosed m (exact m.scales) equality (exact_sound m) 1 (constant_policy m 1 a)))
+lower_is_value m a ok lt =
+    sym
+    (ap (λ (s : Span). s.low)
+    (constant_plain_worth (exact m.scales) m a ok lt ∙ worth_enclosed m (exact m.scales) equality (exact_sound m.scales) 1 (constant_policy m 1 a)))
+
+-- one step is within the limits of version 1
+within_version_one : (m : Model) → IsModel m → IsWithinVersion m 1 1
+within_version_one m ok = record { known = inl refl; first = λ one. within_one_step m ok; second = λ two. absurd (omega arith) }
 
 -- in exact mode the certificate of the best constant policy is valid
-pub best_constant_is_valid : (m : Model) (a : ℕ) → IsModel m → is_exact_mode m 1 ≡ true → IsBestConstant m a
-    → IsValid m (constant_certificate m a)
-best_constant_is_valid m a ok exact_mode best = record {
-  within = within_one_step m ok;
+pub best_constant_is_valid : (m : Model) (look a : ℕ) → IsModel m → is_exact_mode m 1 ≡ true → IsBestConstant m a
+    → IsValid m (constant_certificate m look a)
+best_constant_is_valid m look a ok exact_mode best = record {
+  within = within_version_one m ok;
   mode = sym exact_mode;
   unit = refl;
-  policy = constant_policy_fits m ok 1 a best.below;
-  lower = lower_is_value m a;
-  tree = root_bound_is_best m a ok best;
+  policy = has_policy_of_version_one m look a ok best.below;
+  lower = lower_is_value m a ok best.below;
+  tree = root_bound_is_best m look a ok best;
   inner = refl;
   upper = refl;
 }
 
 -- and what it claims is so
-pub best_constant_claims_hold : (m : Model) (a : ℕ) → IsModel m → is_exact_mode m 1 ≡ true → IsBestConstant m a
-    → ClaimsHold m (constant_certificate m a)
-best_constant_claims_hold m a ok exact_mode best = claims_hold m (constant_certificate m a) ok (best_constant_is_valid m a ok exact_mode best)
+pub best_constant_claims_hold : (m : Model) (look a : ℕ) → IsModel m → is_exact_mode m 1 ≡ true → IsBestConstant m a
+    → ClaimsHold m (constant_certificate m look a)
+best_constant_claims_hold m look a ok exact_mode best = claims_hold m (constant_certificate m look a) ok (best_constant_is_valid m look a ok exact_mode best)

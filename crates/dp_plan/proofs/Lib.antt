@@ -3,5 +3,6 @@ pub mod CertificateTexts
 pub mod ConstantTexts
 pub mod ExpectedRewards
 pub mod OneStep
+pub mod PlainConstants
 pub mod Rooms
 pub mod WeighedSums

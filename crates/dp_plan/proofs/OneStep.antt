@@ -1,7 +1,7 @@
 -- The limits of a horizon of one step.
 use Rattle.std.proofs.Common.{◌≡◌, ℕ, ◌*◌, ◌^◌, List, [], ◌∷◌, length, refl, ◌∙◌, arith}
 use Rattle.std.proofs.Math.Nat.{pow-zero, pow-suc}
-use Rattle.dp_spec.specs.Mode.{IsWithin, own_history_count}
+use Rattle.dp_spec.specs.Mode.{IsWithinLimits, own_history_count}
 use Rattle.dp_spec.specs.Model.{IsModel, Model, joint_actions, joint_observations}
 
 -- the first power
@@ -18,7 +18,7 @@ no_history : (n k : ℕ) → n * k ^ 0 ≡ n
 no_history n k = rw (pow-zero k) (omega arith)
 
 -- every model keeps the limits of a horizon of one step
-pub within_one_step : (m : Model) → IsModel m → IsWithin m 1
+pub within_one_step : (m : Model) → IsModel m → IsWithinLimits m 1
 within_one_step m ok =
     let agents = ok.sizes.agents_limit in
     let alike = ok.sizes.alike in

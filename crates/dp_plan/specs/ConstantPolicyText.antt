@@ -3,11 +3,11 @@ use Rattle.std.specs.Prelude.{ℕ, ◌+◌, ℤ, List, [], ◌∷◌, ◌++◌, 
 use Rattle.std.specs.Fmt.{decimal, signed_decimal}
 
 -- the lines before the agents
-abbrev pub head_text : ℕ → ℤ → List ℕ
-head_text unit value =
-    codes "decplan certificate 1\nhorizon 1\nlook 1\nmode exact\nunit "
-    ++ (decimal unit ++ (codes "\nlower " ++ (signed_decimal value
-    ++ (codes "\nupper " ++ (signed_decimal value ++ codes "\ninner 0\npolicy\n")))))
+abbrev pub head_text : ℕ → ℕ → ℤ → List ℕ
+head_text look unit value =
+    codes "decplan certificate 1\nhorizon 1\nlook " ++ (decimal look
+    ++ (codes "\nmode exact\nunit " ++ (decimal unit ++ (codes "\nlower " ++ (signed_decimal value
+    ++ (codes "\nupper " ++ (signed_decimal value ++ codes "\ninner 0\npolicy\n")))))))
 
 -- the lines of an agent: its number, and below it its action
 abbrev pub agent_text : ℕ → ℕ → List ℕ

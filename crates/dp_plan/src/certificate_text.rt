@@ -14,15 +14,16 @@ use itoa::Buffer;
 use std::alloc::Global;
 
 /// The text of the certificate of the best constant policy over one step, for any number of
-/// agents: both ends of its interval are the policy's value, and its tree is one leaf.
-pub fn best_constant_text(alloc: Global, model: &Model) -> Result<Vec<u8>, Memory>
+/// agents: both ends of its interval are the policy's value, and its tree is one leaf, which is
+/// the bound at every look.
+pub fn best_constant_text(alloc: Global, model: &Model, look: u32) -> Result<Vec<u8>, Memory>
     requires exact { is_exact_mode model.now.model 1 ≡ true }
-    ensures { IfOk result (λ text. IsBestConstantText model.now.model text.items) }
+    ensures { IfOk result (λ text. IsBestConstantText model.now.model look text.items) }
 {
-    model.kept();
+    model.invariant();
     let best = best_constant(model);
     let mut text = Vec::new(alloc);
-    push_head(&mut text, unit(model), best.value)?;
+    push_head(&mut text, look, unit(model), best.value)?;
     push_agents(&mut text, model, best.action)?;
     push_tree(&mut text, best.value)?;
     Ok(text)
@@ -33,17 +34,19 @@ fn unit(model: &Model) -> u128
     requires exact { is_exact_mode model.now.model 1 ≡ true }
     ensures { result ≡ value_scale model.now.model 1 }
 {
-    model.kept();
+    model.invariant();
     let scales = model.scales();
     let step = u128::from(scales.trans) * u128::from(scales.obs) * u128::from(scales.discount);
     u128::from(scales.start) * (u128::from(scales.reward) * step)
 }
 
 // The lines before the agents.
-fn push_head(text: &mut Vec<u8>, unit: u128, value: i128) -> Result<(), Memory>
-    ensures { OnOk result (text.new.items ≡ text.old.items ++ head_text unit value) }
+fn push_head(text: &mut Vec<u8>, look: u32, unit: u128, value: i128) -> Result<(), Memory>
+    ensures { OnOk result (text.new.items ≡ text.old.items ++ head_text look unit value) }
 {
-    text.extend_from_slice(b"decplan certificate 1\nhorizon 1\nlook 1\nmode exact\n")?;
+    text.extend_from_slice(b"decplan certificate 1\nhorizon 1\n")?;
+    push_plain(text, b"look ", u128::from(look))?;
+    text.extend_from_slice(b"mode exact\n")?;
     push_plain(text, b"unit ", unit)?;
     push_ends(text, value)?;
     text.extend_from_slice(b"inner 0\npolicy\n")?;

@@ -20,7 +20,7 @@ pub fn best_constant(model: &Model) -> BestConstant
     ensures best { IsBestConstant model.now.model result.action }
     ensures value { result.value ≡ constant_value model.now.model result.action }
 {
-    model.kept();
+    model.invariant();
     let mut best = BestConstant {
         action: 0,
         value: constant_value(model, 0),

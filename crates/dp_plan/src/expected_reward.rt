@@ -14,7 +14,7 @@ pub fn constant_value(model: &Model, a: u32) -> i128
     requires action { a < joint_actions model.now.model }
     ensures { result ≡ constant_value model.now.model a }
 {
-    model.kept();
+    model.invariant();
     weighed(model.scales().discount, reward_from_start(model, a))
 }
 
@@ -24,7 +24,7 @@ fn reward_from_start(model: &Model, a: u32) -> i128
     requires action { a < joint_actions model.now.model }
     ensures { result ≡ reward_from_start model.now.model a }
 {
-    model.kept();
+    model.invariant();
     let mut total = 0;
     for s in 0..model.states() {
         total += weighed(model.start(s), reward_in_state(model, a, s));
@@ -39,7 +39,7 @@ fn reward_in_state(model: &Model, a: u32, s: u32) -> i128
     requires state { s < model.now.model.states }
     ensures { result ≡ reward_in_state model.now.model a s }
 {
-    model.kept();
+    model.invariant();
     let mut total = 0;
     for t in 0..model.states() {
         total += weighed(model.trans(a, s, t), reward_on_arrival(model, a, s, t));
@@ -55,7 +55,7 @@ fn reward_on_arrival(model: &Model, a: u32, s: u32, t: u32) -> i128
     requires next { t < model.now.model.states }
     ensures { result ≡ reward_on_arrival model.now.model a s t }
 {
-    model.kept();
+    model.invariant();
     let mut total = 0;
     for o in 0..model.joint_observations() {
         total += weighed(model.obs(a, t, o), i128::from(model.reward(a, s, t, o)));

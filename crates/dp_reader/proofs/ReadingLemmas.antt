@@ -8,7 +8,7 @@ use Rattle.dp_meaning.specs.declared.text.Text.{Text}
 use Rattle.dp_meaning.specs.declared.why.Fault.{Fault}
 use Rattle.dp_meaning.specs.Limits.{passed_limit}
 use Rattle.dp_meaning.specs.Meaning as meaning
-use Rattle.dp_meaning.specs.Meaning.{text_of, names_given, model_of, Place, Meaning, meaning, Means, FaultAt, Passes}
+use Rattle.dp_meaning.specs.Meaning.{text_of, names_given, repaired_model, Place, Meaning, meaning, Means, FaultAt, Passes}
 use Rattle.dp_meaning.specs.Rows as rows
 use Rattle.dp_meaning.specs.Rows.{repair_all, start_row, trans_rows, obs_rows}
 use Rattle.dp_lexer.specs.declared.LexFault.{LexFault}
@@ -32,14 +32,14 @@ use Rattle.dp_reader.specs.Repaired.{ReadsRows, AreAllRows, ReadsAllRows, model_
 
 pub start_stops : (end : ℕ) (text : Text) (e : TextFault) → ReadsRows (repair_all end (start_row text ∷ [])) (Err e)
     → ReadsAllRows end text (Err e)
-unfolding model_of
+unfolding repaired_model
 start_stops end text (At f) h = rw h refl
 start_stops end text Memory h = tt
 
 pub trans_stops : (end : ℕ) (text : Text) (x : rows.Repaired) (e : TextFault)
     → repair_all end (start_row text ∷ []) ≡ Ok x
     → ReadsRows (repair_all end (trans_rows text)) (Err e) → ReadsAllRows end text (Err e)
-unfolding model_of
+unfolding repaired_model
 trans_stops end text x (At f) g h = rw g (rw h refl)
 trans_stops end text x Memory g h = tt
 
@@ -47,7 +47,7 @@ pub obs_stops : (end : ℕ) (text : Text) (x y : rows.Repaired) (e : TextFault)
     → repair_all end (start_row text ∷ []) ≡ Ok x
     → repair_all end (trans_rows text) ≡ Ok y → ReadsRows (repair_all end (obs_rows text)) (Err e)
     → ReadsAllRows end text (Err e)
-unfolding model_of
+unfolding repaired_model
 obs_stops end text x y (At f) g h k = rw g (rw h (rw k refl))
 obs_stops end text x y Memory g h k = tt
 
@@ -64,13 +64,13 @@ built text rows = record {
 }
 
 pub all_rows_are : (end : ℕ) (text : Text) (rows : Rows) → AreAllRows end text rows
-    → model_of end text ≡ Ok (built text rows)
-unfolding model_of
+    → repaired_model end text ≡ Ok (built text rows)
+unfolding repaired_model
 all_rows_are end text rows are = rw are.first.is (rw are.trans.is (rw are.obs.is refl))
 
 pub means_built : (bytes : List ℕ) (text : Text) (r : meaning.ReadModel) → text_of bytes ≡ Ok text
     → passed_limit text ≡ None
-    → model_of (length bytes) text ≡ Ok r → meaning bytes ≡ Means r
+    → repaired_model (length bytes) text ≡ Ok r → meaning bytes ≡ Means r
 unfolding meaning
 means_built bytes text r says within is = rw says (rw within (rw is refl))
 
@@ -89,7 +89,7 @@ can_build bytes text rows says within are =
 
 pub rows_built : (end : ℕ) (text : Text) (rows : Rows) (model : NamedModel) → AreAllRows end text rows
     → model ≡ (built text rows).model
-    → model_of end text ≡ Ok (record { model = model; repaired = (built text rows).repaired })
+    → repaired_model end text ≡ Ok (record { model = model; repaired = (built text rows).repaired })
 rows_built end text rows model are e =
     let with_model : NamedModel → Result meaning.ReadModel Fault = λ m. Ok (record { model = m; repaired = (built text rows).repaired }) in
     all_rows_are end text rows are ∙ ap with_model (sym e)
@@ -118,11 +118,11 @@ text_passes bytes text passed says is = rw says (rw is refl)
 
 -- the model, or the fault of a row
 pub text_means : (bytes : List ℕ) (text : Text) (r : ReadModel) → text_of bytes ≡ Ok text → passed_limit text ≡ None
-    → ReadsModel (model_of (length bytes) text) (Ok r) → IsMeaning (meaning bytes) (Ok r)
+    → ReadsModel (repaired_model (length bytes) text) (Ok r) → IsMeaning (meaning bytes) (Ok r)
 text_means bytes text r says within is = means_built bytes text _ says within is
 
 pub row_fault : (bytes : List ℕ) (text : Text) (fault : TextFault) → text_of bytes ≡ Ok text → passed_limit text ≡ None
-    → ReadsModel (model_of (length bytes) text) (Err fault) → IsMeaning (meaning bytes) (Err (told bytes fault))
+    → ReadsModel (repaired_model (length bytes) text) (Err fault) → IsMeaning (meaning bytes) (Err (told bytes fault))
 unfolding meaning
 row_fault bytes text (At f) says within h = rw says (rw within (rw h refl))
 row_fault bytes text Memory says within h = tt

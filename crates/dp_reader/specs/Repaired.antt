@@ -3,7 +3,7 @@ use Rattle.std.specs.Prelude.{◌≡◌, ℕ, ◌≤◌, ◌^◌, [], ◌∷◌,
 use Rattle.dp_meaning.specs.declared.text.Text.{Text}
 use Rattle.dp_meaning.specs.declared.why.Fault.{Fault}
 use Rattle.dp_meaning.specs.Rows as rows
-use Rattle.dp_meaning.specs.Meaning.{model_of, table_model}
+use Rattle.dp_meaning.specs.Meaning.{repaired_model, table_model}
 use Rattle.dp_spec.specs.Model.{Model}
 use Rattle.dp_text.specs.declared.fault.TextFault.{TextFault}
 use Rattle.dp_text.specs.declared.fault.TextFault.TheVariants.{At, Memory}
@@ -34,5 +34,5 @@ model_of_rows text rows = table_model text rows.start.cells.items rows.transitio
 -- all rows are what is meant, or the text's fault is, unless memory ran out
 abbrev pub ReadsAllRows : ℕ → Text → Result Rows TextFault → Type 0
 ReadsAllRows end text (Ok read) = AreAllRows end text read
-ReadsAllRows end text (Err (At fault)) = model_of end text ≡ Err fault
+ReadsAllRows end text (Err (At fault)) = repaired_model end text ≡ Err fault
 ReadsAllRows end text (Err Memory) = Unit {0}

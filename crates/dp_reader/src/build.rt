@@ -16,7 +16,7 @@ use crate::lists::{all_names, names_in, sizes};
 use crate::repaired::{Repaired, observations, start, transitions};
 use dp_base::Memory;
 use dp_meaning::{Header, Text};
-use dp_model::{Cells, Items, Model, Names, Sizes};
+use dp_model::{Cells, Model, Names, Sequence, Sizes};
 use dp_spec::Scales;
 use dp_tables::{rewards, states};
 use dp_text::TextFault;
@@ -94,16 +94,16 @@ fn build(alloc: Global, text: Text, scales: Scales, rows: Rows) -> Result<Model,
     let sizes = sizes_in(alloc, &text)?;
     let names = names_of(alloc, text.header)?;
     let cells = Cells {
-        start: Items::of(rows.start.cells),
-        trans: Items::of(rows.transitions.cells),
-        obs: Items::of(rows.observations.cells),
-        reward: Items::of(reward),
+        start: Sequence::of(rows.start.cells),
+        trans: Sequence::of(rows.transitions.cells),
+        obs: Sequence::of(rows.observations.cells),
+        reward: Sequence::of(reward),
     };
     Ok(Model::build(sizes, names, scales, cells))
 }
 
 /// The model of a text that is within the limits, or the first fault of its rows.
-pub(crate) fn model_of(
+pub(crate) fn repaired_model(
     alloc: Global,
     bytes: &[u8],
     text: Text,
@@ -113,7 +113,7 @@ pub(crate) fn model_of(
     requires says { text_of bytes.now ≡ Ok text }
     requires within { passed_limit text ≡ None }
     requires scales { scales ≡ scales_of text }
-    ensures { ReadsModel (meaning.model_of (length bytes.now) text) result }
+    ensures { ReadsModel (meaning.repaired_model (length bytes.now) text) result }
 {
     let rows = all_rows(alloc, &text, scales, bytes.len() as u32)?;
     let repaired = rows.start.count + rows.transitions.count + rows.observations.count;

@@ -5,18 +5,18 @@ ghost use Rattle.dp_meaning.specs.NameLists.{size_of};
 
 use dp_base::Memory;
 use dp_meaning::GivenList;
-use dp_model::{Items, NameList};
+use dp_model::{NameList, Sequence};
 use std::alloc::Global;
 
 /// How many things each of the lists has.
-pub(crate) fn sizes(alloc: Global, lists: &[GivenList]) -> Result<Items<u32>, Memory>
+pub(crate) fn sizes(alloc: Global, lists: &[GivenList]) -> Result<Sequence<u32>, Memory>
     ensures { IfOk result (λ sizes. sizes ≡ map size_of lists.now) }
 {
     let mut sizes = Vec::new(alloc);
     for list in lists {
         sizes.push(list.size())?;
     }
-    Ok(Items::of(sizes))
+    Ok(Sequence::of(sizes))
 }
 
 /// The names of a list, of which there are none where it is given as a count. It takes no memory.
@@ -30,7 +30,7 @@ pub(crate) fn names_in(alloc: Global, list: GivenList) -> NameList
 }
 
 /// The names of each of the lists.
-pub(crate) fn all_names(alloc: Global, lists: Items<GivenList>) -> Result<Vec<NameList>, Memory>
+pub(crate) fn all_names(alloc: Global, lists: Sequence<GivenList>) -> Result<Vec<NameList>, Memory>
     ensures { IfOk result (λ names. names.items ≡ map spec.names_in lists) }
 {
     let mut names = Vec::new(alloc);

@@ -6,7 +6,7 @@ ghost use Rattle.dp_meaning.specs.Meaning.{FaultAt, Means, Passes, meaning, text
 ghost use Rattle.dp_reader.specs.declared.build.ReadModel.{ReadModel};
 ghost use Rattle.dp_reader.specs.Reading.{IsMeaning, meant_model, told};
 
-use crate::build::model_of;
+use crate::build::repaired_model;
 use crate::{ModelFault, ReadModel};
 use dp_lexer::{column_at, lex, line_at};
 use dp_meaning::Text;
@@ -37,7 +37,7 @@ fn model_within_limits(alloc: Global, bytes: &[u8], text: Text) -> Result<ReadMo
     ensures { IsMeaning (meaning bytes.now) result }
 {
     let scales = scales_within_limits(&text)?;
-    match model_of(alloc, bytes, text, scales) {
+    match repaired_model(alloc, bytes, text, scales) {
         Ok(model) => Ok(model),
         Err(fault) => Err(told(bytes, fault)),
     }

@@ -17,13 +17,13 @@ use Rattle.dp_spec.specs.Wide.{is_room, is_wide, widens}
 use Rattle.dp_spec.specs.Fitting.{FitsFront, front_bound}
 use Rattle.dp_spec.specs.Certificate.{Certificate, HasPolicyOfVersion, IsValid}
 use Rattle.dp_spec.proofs.SmallModels.{fan, solo}
-use Rattle.dp_spec.proofs.SmallRows.{both_actions}
+use Rattle.dp_spec.proofs.TreeRows.{both_actions}
 use Rattle.dp_spec.proofs.TextLemmas.{one_row}
 use Rattle.dp_spec.proofs.WideRows.{all_but_one, all_but_one_is_wide}
 
 -- ---- the certificate of one agent that earns 3 by its second action
 
-abbrev solo_certificate : ℕ → Certificate
+abbrev pub solo_certificate : ℕ → Certificate
 solo_certificate version = record { version = version; horizon = 1; look = 1; is_exact = true; unit = pos 1; lower = pos 3; upper = pos 3; inner = 1; policy = one_row 1 ∷ []; tree = both_actions }
 
 no_more : (c : ℕ) → c < 1 → c ≡ 0
@@ -54,12 +54,12 @@ solo_plain = and_plain (record { counts = λ t lt. rw (no_more t lt) refl; nexts
 solo_policy : (version : ℕ) → (version ≡ 1) ⊎ (version ≡ 2) → HasPolicyOfVersion solo (solo_certificate version)
 solo_policy version known = record { version = known; shared = solo_shared; plain = λ e. solo_plain }
 
-solo_tree : FitsFront (exact solo.scales) solo 1 1 0 both_actions (root_front solo) (front_bound (exact solo.scales) solo 1 1 (root_front solo))
+pub solo_tree : FitsFront (exact solo.scales) solo 1 1 0 both_actions (root_front solo) (front_bound (exact solo.scales) solo 1 1 (root_front solo))
 unfolding solo front_bound exact reward_factor weights_after_in weighted_reward_in weighted_table_in action_look_ahead_in class_weight_in joint_class fixed_joint_action agreeing_actions joint_observations joint_actions trans_at obs_at reward_at start_at step_scale root_front front_after_choice advanced_agent is_wide widens is_room
 solo_tree = (omega arith, (omega arith, refl), (refl, (refl, refl)), refl)
 
 -- it is valid in version 1 ..
-solo_is_valid : IsValid solo (solo_certificate 1)
+pub solo_is_valid : IsValid solo (solo_certificate 1)
 unfolding solo unit_of is_exact_mode value_scale step_scale shared_worth_in exact reward_factor weights_after_in weighted_reward_in joint_row_action next_joint_row joint_observations joint_actions trans_at obs_at reward_at start_at
 solo_is_valid = record {
   within = record {

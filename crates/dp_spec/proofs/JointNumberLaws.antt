@@ -1,9 +1,9 @@
 -- Laws of products, of joint numbers and of their parts.
 use Rattle.std.proofs.Common.{◌≡◌, ℕ, zero, suc, ◌+◌, ◌*◌, ◌/◌, ◌%◌, ◌<◌, ◌≤◌, List, [], ◌∷◌, ◌++◌, length, get_or, drop, refl, sym, ap, ◌∙◌, arith}
 use Rattle.std.specs.Int.{◌∣◌}
-use Rattle.std.proofs.lemmas.Nat.{div-mul-add, mod-mul-add, mod_below}
+use Rattle.std.proofs.lemmas.Nat.{div-mul-add, mod-mul-add, mod_below, mul-add-lt}
 use Rattle.std.proofs.lemmas.Nat.Gcd.{dvd_refl, dvd_trans}
-use Rattle.std.proofs.Math.Nat.{div-add-mod, div-div-eq-div-mul, div-lt_iff_lt-mul, dvd-mul_left, le-mul_of_pos_right, mod-eq_of_lt, mod-mod_of_dvd, mul-le-mul_right, mul_assoc, mul_comm}
+use Rattle.std.proofs.Math.Nat.{div-add-mod, div-div-eq-div-mul, div-lt_iff_lt-mul, dvd-mul_left, le-mul_of_pos_right, mod-eq_of_lt, mod-mod_of_dvd, mul_assoc, mul_comm}
 use Rattle.std.proofs.Math.Seq.{drop-cons}
 use Rattle.dp_spec.specs.JointNumbers.{joint_number, parts_of, product}
 
@@ -21,7 +21,14 @@ positive_left (suc n) k o h = omega arith
 
 -- a row and a place in it are below the rows together
 pub row_below : (p n k j : ℕ) → p < n → j < k → p * k + j < n * k
-row_below p n k j h g = omega (arith, mul-le-mul_right k h)
+row_below p n k j h g = omega (arith, mul-add-lt p k j n h g, mul_comm k n)
+
+-- equal numbers have equal rows and places
+pub same_parts : (n p j p' j' : ℕ) → j < n → j' < n → p * n + j ≡ p' * n + j' → (p ≡ p') × (j ≡ j')
+same_parts n p j p' j' lt lt' e = (
+  sym (div-mul-add p n j lt) ∙ ap (λ (z : ℕ). z / n) e ∙ div-mul-add p' n j' lt',
+  sym (mod-mul-add p n j lt) ∙ ap (λ (z : ℕ). z % n) e ∙ mod-mul-add p' n j' lt',
+)
 
 -- the row of a number
 pub part_below : (n k o : ℕ) → o < n * k → o / k < n

@@ -1,14 +1,22 @@
 pub mod JointNumberLaws
 pub mod ModeCondition
 pub mod ModelLaws
-mod CertificateRows
-mod NumberingRows
+pub mod CertificateRows
+pub mod EquivalenceRows
+pub mod FittingRows
+pub mod KeepingRows
+pub mod NumberingRows
+pub mod OutwardRows
+pub mod PromiseRows
+pub mod QualityRows
+pub mod ReasonRows
 pub mod QuantityScales
 pub mod ScaleRange
 pub mod SmallModels
-mod SharedPolicyRows
-mod SmallRows
+pub mod SharedPolicyRows
+pub mod SmallRows
 pub mod TextLemmas
-mod TextRows
-mod TigerRows
-mod WideRows
+pub mod TextRows
+pub mod TigerRows
+pub mod TreeRows
+pub mod WideRows

@@ -1,13 +1,13 @@
 -- Worked rows of numberings: joint numbers, own histories, classes, limits of a horizon.
-use Rattle.std.proofs.Common.{◌≡◌, ◌+◌, ◌*◌, ◌^◌, pos, negsuc, [], ◌∷◌, map, refl}
+use Rattle.std.proofs.Common.{◌≡◌, ◌+◌, ◌*◌, ◌^◌, ℤ, pos, negsuc, Bool, true, false, [], ◌∷◌, Some, None, map, refl, arith}
 use Rattle.dp_spec.specs.Model.{step_scale, value_scale}
 use Rattle.dp_spec.specs.JointNumbers.{joint_number, parts_of}
 use Rattle.dp_spec.specs.PolicyTree.{node, no_trees, more_trees}
 use Rattle.dp_spec.specs.FullPolicy.{tree_doing}
 use Rattle.dp_spec.specs.Front.{AgentFront, own_histories}
-use Rattle.dp_spec.specs.Steps.{root_front, front_after_choice, advanced_agent}
+use Rattle.dp_spec.specs.Steps.{chosen_front, unchosen_front, root_front, front_after_choice, advanced_agent}
 use Rattle.dp_spec.specs.Merge.{renumbered, merged_front}
-use Rattle.dp_spec.specs.Mode.{is_exact_mode, unit_of, own_history_count}
+use Rattle.dp_spec.specs.Mode.{IsTrueFit, is_exact_mode, unit_of, own_history_count}
 use Rattle.dp_base.specs.Rounding.{floor_of, ceiling_of}
 use Rattle.dp_spec.proofs.SmallModels.{blind, tiger}
 
@@ -50,6 +50,23 @@ own_histories_of_eleven = refl
 unit_of_eight_steps : unit_of tiger 8 ≡ 512 * 10 ^ 32
 unfolding tiger unit_of is_exact_mode value_scale step_scale
 unit_of_eight_steps = refl
+
+true_fit_of_nine : IsTrueFit tiger 9 false (pos 1000000000)
+unfolding tiger unit_of is_exact_mode value_scale step_scale
+true_fit_of_nine = record { horizon = (omega arith, omega arith); mode = refl; unit = refl }
+
+no_fit_of_twenty_five : (e : Bool) (u : ℤ) → IsTrueFit tiger 25 e u → ⊥
+no_fit_of_twenty_five e u fit = omega (arith, fit.horizon.1)
+
+no_exact_fit_of_nine : (u : ℤ) → IsTrueFit tiger 9 true u → ⊥
+unfolding tiger is_exact_mode step_scale
+no_exact_fit_of_nine u fit = let both : true ≡ false = fit.mode in cc
+
+-- ---- a choice that is taken back, and what it leaves of the others
+two_chosen : map (λ (d : AgentFront). d.chosen) (unchosen_front (chosen_front (chosen_front (root_front tiger) 0 0 1) 1 0 2) 0 0).agents
+    ≡ (None ∷ []) ∷ (Some 2 ∷ []) ∷ []
+unfolding tiger root_front
+two_chosen = refl
 
 -- ---- rounding
 third_down : floor_of (negsuc 0) 3 ≡ negsuc 0

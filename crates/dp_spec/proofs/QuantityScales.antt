@@ -2,12 +2,18 @@
 use Rattle.std.proofs.Common.{◌≡◌, ℕ, suc, ◌+◌, ◌*◌, ◌^◌, ◌<◌, refl, sym, ap, ◌∙◌, arith}
 use Rattle.std.proofs.Math.Nat.{mul-pos, one-le-pow, pow-suc, pow-zero}
 use Rattle.std.proofs.lemmas.Nat.{pow-add}
+use Rattle.dp_spec.specs.Arithmetic.{reward_factor}
 use Rattle.dp_spec.specs.Model.{IsModel, Model, step_scale, value_scale}
 
 -- the step scale by its parts
 pub step_scale_is : (m : Model) → m.scales.trans * m.scales.obs * m.scales.discount ≡ step_scale m
 unfolding step_scale
 step_scale_is m = refl
+
+-- what a reward is multiplied by, by the step scale
+pub reward_factor_is : (m : Model) (r : ℕ) → reward_factor m.scales r ≡ m.scales.discount * step_scale m ^ r
+unfolding reward_factor step_scale
+reward_factor_is m r = refl
 
 -- three factors as one
 times_step : (T K a b c : ℕ) → a * b * c ≡ K → T * (a * b) * c ≡ T * K

@@ -85,3 +85,16 @@ fan = record {
   obs = replicate 16640 1;
   reward = replicate 1081600 (pos 0);
 }
+
+-- One agent, one action, two states between which it drifts, two observations, and a reward for each cell.
+unfoldable pub drift : Model
+drift = record {
+  states = 2;
+  actions = 1 ∷ [];
+  observations = 2 ∷ [];
+  scales = record { start = 4; trans = 4; obs = 3; reward = 1; discount = 10; gain = 9 };
+  start = 1 ∷ 3 ∷ [];
+  trans = 1 ∷ 3 ∷ 2 ∷ 2 ∷ [];
+  obs = 1 ∷ 2 ∷ 3 ∷ 0 ∷ [];
+  reward = pos 1 ∷ pos 5 ∷ pos 3 ∷ pos 7 ∷ pos 2 ∷ pos 6 ∷ pos 4 ∷ pos 8 ∷ [];
+}

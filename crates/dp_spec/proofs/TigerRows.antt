@@ -78,12 +78,17 @@ unfolding tiger joint_actions joint_observations start_at trans_at obs_at reward
 bound_after_a_choice = refl
 
 -- ---- after both agents listened
-abbrev listened : Front
+abbrev pub listened : Front
 listened = front_after_choice tiger (front_after_choice tiger (root_front tiger) 0 0 0) 1 0 0
 
 earned_by_listening : earned_reward tiger (fixed_joint_action tiger listened) 2 1 ≡ negsuc 1599999999
 unfolding tiger joint_actions joint_observations start_at trans_at obs_at reward_at step_scale weights_after weighted_reward fixed_joint_action root_front front_after_choice advanced_agent
 earned_by_listening = refl
+
+-- the bound counts it
+bound_after_listening : bound_of tiger 1 listened 1 ≡ pos 8652000000
+unfolding tiger weights_after weighted_reward action_look_ahead class_weight joint_class fixed_joint_action agreeing_actions joint_observations joint_actions trans_at obs_at reward_at start_at step_scale root_front front_after_choice advanced_agent
+bound_after_listening = refl
 
 weight_of_both_left : class_weight tiger listened 0 0 ≡ 14450
 unfolding tiger joint_actions joint_observations start_at trans_at obs_at reward_at step_scale weights_after fixed_joint_action joint_class class_weight root_front front_after_choice advanced_agent
@@ -111,12 +116,12 @@ place_of_right : place_weight tiger listened 0 1 0 0 ≡ 2550
 unfolding tiger joint_actions joint_observations start_at trans_at obs_at reward_at step_scale weights_after fixed_joint_action class_of_agent class_of_others place_weight root_front front_after_choice advanced_agent
 place_of_right = refl
 
-left_and_right_are_not_equivalent : AreEquivalent tiger listened 0 0 1 → ⊥
+pub left_and_right_are_not_equivalent : AreEquivalent tiger listened 0 0 1 → ⊥
 unfolding tiger joint_actions joint_observations start_at trans_at obs_at reward_at step_scale weights_after fixed_joint_action class_of_agent class_of_others place_weight class_total root_front front_after_choice advanced_agent
 left_and_right_are_not_equivalent h = let products : 14450 * 20000 ≡ 2550 * 20000 = h.same 0 0 (omega arith) (omega arith) in absurd (omega arith)
 
 -- ---- after both agents listened twice, of three steps
-abbrev listened_twice : Front
+abbrev pub listened_twice : Front
 listened_twice = front_after_choice tiger (front_after_choice tiger (front_after_choice tiger (front_after_choice tiger listened 0 0 0) 0 1 0) 1 0 0) 1 1 0
 
 earned_by_listening_twice : earned_reward tiger (fixed_joint_action tiger listened_twice) 3 2 ≡ negsuc 63999999999999

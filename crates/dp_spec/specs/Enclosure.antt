@@ -2,8 +2,8 @@
 use Rattle.std.specs.Prelude.{Bool, true, false, ℕ, ◌+◌, ◌*◌, ◌^◌, ◌≡◌, ℤ, pos, ◌+ℤ◌, ◌*ℤ◌, ◌≤ℤ◌}
 use Rattle.std.specs.Int.{int_min, int_max}
 use Rattle.dp_spec.specs.declared.span.Span.{Span}
-use Rattle.dp_spec.specs.Model.{Model, step_scale}
-use Rattle.dp_spec.specs.Arithmetic.{Arithmetic, point, span_add}
+use Rattle.dp_spec.specs.declared.scales.Scales.{Scales}
+use Rattle.dp_spec.specs.Arithmetic.{Arithmetic, point, reward_factor, span_add}
 
 -- what a computed number says of a true number over a scale
 pub record Enclosure : Type 1 where
@@ -16,18 +16,18 @@ pub record Enclosure : Type 1 where
   -- what values over a scale are counted in
   pub unit : ℕ → ℕ
 
--- each operation, and each way in which its results are put together, keeps the enclosure
-pub record IsSound (m : Model) (A : Arithmetic) (R : Enclosure) : Type 0 where
-  pub start : (b : ℕ) → R.Weighs m.scales.start b (A.start b)
+-- over scales c each operation, and each way in which its results are put together, keeps the enclosure
+pub record IsSound (c : Scales) (A : Arithmetic) (R : Enclosure) : Type 0 where
+  pub start : (b : ℕ) → R.Weighs c.start b (A.start b)
   pub one : R.Weighs 1 1 A.one
   pub chance : (T w p z : ℕ) (s : Span) → R.Weighs T w s
-      → R.Weighs (T * (m.scales.trans * m.scales.obs)) (w * (p * z)) (A.chance s p z)
-  pub later : (T w : ℕ) (s : Span) → R.Weighs T w s → R.Weighs (T * m.scales.discount) (w * m.scales.gain) (A.later s)
+      → R.Weighs (T * (c.trans * c.obs)) (w * (p * z)) (A.chance s p z)
+  pub later : (T w : ℕ) (s : Span) → R.Weighs T w s → R.Weighs (T * c.discount) (w * c.gain) (A.later s)
   pub gain : (T w rest : ℕ) (r : ℤ) (s : Span) → R.Weighs T w s →
-      R.Earns (T * (m.scales.discount * step_scale m ^ rest) * m.scales.reward)
-      (pos w *ℤ (r *ℤ pos (m.scales.discount * step_scale m ^ rest))) (A.gain s r rest)
+      R.Earns (T * reward_factor c rest * c.reward)
+      (pos w *ℤ (r *ℤ pos (reward_factor c rest))) (A.gain s r rest)
   pub carry : (F p : ℕ) (x v : ℤ) → R.IsUpperBound F x v
-      → R.IsUpperBound (F * step_scale m) (pos (p * m.scales.obs * m.scales.gain) *ℤ x) (A.carry v p)
+      → R.IsUpperBound (F * (c.trans * c.obs * c.discount)) (pos (p * c.obs * c.gain) *ℤ x) (A.carry v p)
   pub tail : (T w F : ℕ) (x v : ℤ) (s : Span) → R.Weighs T w s → R.IsUpperBound F x v
       → R.IsUpperBound (T * F) (pos w *ℤ x) (A.tail s v)
   -- sums, the greater and the smaller of two

@@ -1,5 +1,3 @@
-pub use Rattle.dp_base.specs.Rounding
-pub use Rattle.dp_base.specs.Sums
 pub mod JointNumbers
 pub mod Model
 pub mod PolicyTree
@@ -12,6 +10,9 @@ pub mod Front
 pub mod Bound
 pub mod Steps
 pub mod Merge
+pub mod Pairs
+pub mod UnequalPlaces
+pub mod Primitive
 pub mod Arithmetic
 pub mod Quantities
 pub mod Enclosure
@@ -30,6 +31,9 @@ pub mod WellFormed
 pub mod Mode
 pub mod Certificate
 pub mod Qualities
+pub mod RightNodes
+pub mod Reasons
+pub mod FirstReason
 pub mod Claims
 pub mod Promises
 pub mod TextLines
@@ -42,3 +46,12 @@ pub mod SizesOfTable
 pub mod SizesOfLookAhead
 pub mod SizesOfFronts
 pub mod SizesOfRows
+pub mod ClassSteps
+pub mod Zeros
+pub mod Arena
+pub mod Space
+pub mod Exploration
+pub mod SearchState
+pub mod FrontSpace
+pub mod Searched
+pub mod WholeTree

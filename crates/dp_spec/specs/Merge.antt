@@ -1,7 +1,8 @@
 -- Equivalent classes and merging: probabilistic equivalence of histories (JAIR 46 (2013), lossless clustering).
-use Rattle.std.specs.Prelude.{ℕ, zero, suc, ◌-◌, ◌*◌, ◌<◌, ◌≡◌, cond, ◌==◌, nat_lt, List, [], ◌∷◌, map, get_or}
+use Rattle.std.specs.Prelude.{ℕ, zero, suc, ◌-◌, ◌*◌, ◌<◌, ◌≡◌, cond, ◌==◌, nat_lt, List, [], ◌∷◌, map, filter, length, get_or}
+use Rattle.std.specs.List.{range_with_len}
 use Rattle.dp_base.specs.Sums.{nat_sum}
-use Rattle.dp_spec.specs.JointNumbers.{joint_number, product}
+use Rattle.dp_spec.specs.JointNumbers.{joint_number, parts_of, product}
 use Rattle.dp_spec.specs.Model.{Model, joint_observations}
 use Rattle.dp_spec.specs.JointHistory.{nat_history_sum, history_weight}
 use Rattle.dp_spec.specs.Front.{AgentFront, Front, own_histories, own_classes, class_counts, fixed_joint_action}
@@ -17,6 +18,10 @@ abbrev pub inserted : {X : Type 0} → ℕ → X → List X → List X
 inserted zero x xs = x ∷ xs
 inserted (suc i) x [] = []
 inserted (suc i) x (y ∷ xs) = y ∷ inserted i x xs
+
+-- the joint number whose part at place i is c and whose others have joint number x
+abbrev pub placed_number : ℕ → List ℕ → ℕ → ℕ → ℕ
+placed_number i ns c x = joint_number ns (inserted i c (parts_of (without i ns) x))
 
 -- the class of agent i in a joint history
 unfoldable pub class_of_agent : Model → Front → ℕ → List ℕ → ℕ
@@ -50,6 +55,10 @@ pub record AreEquivalent (m : Model) (F : Front) (i c c' : ℕ) : Type 0 where
 abbrev pub renumbered : ℕ → ℕ → ℕ → ℕ
 renumbered first second c = cond (c == second) first (cond (nat_lt second c) (c - 1) c)
 
+-- the class that has become class c after class second was joined into a lower one
+abbrev pub kept_class : ℕ → ℕ → ℕ
+kept_class second c = cond (nat_lt c second) c (suc c)
+
 -- an agent's part of a front after class second was joined into class first
 abbrev pub merged_agent : ℕ → ℕ → AgentFront → AgentFront
 merged_agent first second d = record {
@@ -67,3 +76,7 @@ merged_agents (suc i) first second (d ∷ ds) = d ∷ merged_agents i first seco
 -- the front after two unassigned classes of agent i were merged
 abbrev pub merged_front : Front → ℕ → ℕ → ℕ → Front
 merged_front F i first second = record { stage = F.stage; agents = merged_agents i first second F.agents }
+
+-- the own histories of class c, the lowest first
+abbrev pub class_members : AgentFront → ℕ → List ℕ
+class_members d c = filter (λ x. get_or d.class_of x 0 == c) (range_with_len 0 (length d.class_of))

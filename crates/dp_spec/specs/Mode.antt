@@ -1,5 +1,5 @@
 -- The mode of a model and a horizon, the unit in which its values are counted, and the limits of a horizon.
-use Rattle.std.specs.Prelude.{ℕ, ◌+◌, ◌*◌, ◌-◌, ◌^◌, ◌<◌, ◌≤◌, ◌≡◌, ◌⊎◌, Bool, nat_le, max, unsigned_abs, ℤ, List, [], ◌∷◌, if◌then◌else◌}
+use Rattle.std.specs.Prelude.{ℕ, ◌+◌, ◌*◌, ◌-◌, ◌^◌, ◌<◌, ◌≤◌, ◌≡◌, ◌⊎◌, Bool, nat_le, max, unsigned_abs, ℤ, pos, List, [], ◌∷◌, if◌then◌else◌}
 use Rattle.dp_base.specs.Sums.{nat_sum}
 use Rattle.dp_spec.specs.Model.{Model, joint_actions, joint_observations, step_scale, value_scale}
 
@@ -23,7 +23,7 @@ own_history_count [] h = 0
 own_history_count (n ∷ ns) h = nat_sum h (λ t. n ^ t) + own_history_count ns h
 
 -- the horizon is at least 1 and keeps every limit of policies with a row for each own history
-pub record IsWithin (m : Model) (h : ℕ) : Type 0 where
+pub record IsWithinLimits (m : Model) (h : ℕ) : Type 0 where
   pub some_step : 0 < h
   pub horizon : h ≤ 16
   pub own_histories : own_history_count m.observations h ≤ 2048
@@ -34,5 +34,11 @@ pub record IsWithin (m : Model) (h : ℕ) : Type 0 where
 -- from 1 to 24 steps.
 pub record IsWithinVersion (m : Model) (h version : ℕ) : Type 0 where
   pub known : (version ≡ 1) ⊎ (version ≡ 2)
-  pub first : version ≡ 1 → IsWithin m h
+  pub first : version ≡ 1 → IsWithinLimits m h
   pub second : version ≡ 2 → (0 < h) × (h ≤ 24)
+
+-- A true fit: so many steps, a mode and a unit as they are for a model, at any horizon from 1 to 24.
+pub record IsTrueFit (m : Model) (h : ℕ) (e : Bool) (u : ℤ) : Type 0 where
+  pub horizon : (0 < h) × (h ≤ 24)
+  pub mode : e ≡ is_exact_mode m h
+  pub unit : u ≡ pos (unit_of m h)

@@ -6,8 +6,9 @@ use Rattle.dp_base.specs.Sums.{int_sum, greatest, numbers_below}
 use Rattle.dp_spec.specs.JointNumbers.{product, parts_of}
 use Rattle.dp_spec.specs.Model.{Model}
 use Rattle.dp_spec.specs.Front.{Front, class_counts}
-use Rattle.dp_spec.specs.Steps.{IsUnassigned, root_agent, root_front, chosen_front, front_after_choice}
-use Rattle.dp_spec.specs.Merge.{AreEquivalent, merged_front}
+use Rattle.dp_spec.specs.Steps.{root_agent, root_front, chosen_front, front_after_choice}
+use Rattle.dp_spec.specs.Merge.{merged_front}
+use Rattle.dp_spec.specs.Pairs.{HasNoPair}
 use Rattle.dp_spec.specs.Arithmetic.{Arithmetic}
 use Rattle.dp_spec.specs.Quantities.{class_weight_in}
 use Rattle.dp_spec.specs.BoundTree.{BoundTree, BoundTrees, leaf, branch, merge, no_bound_trees, more_bound_trees, LeavesAtMost}
@@ -91,8 +92,7 @@ IsRefined m c =
 
 -- no two unassigned classes of one agent are equivalent
 abbrev pub HasNoEquivalent : Model → Front → Type 0
-HasNoEquivalent m F =
-    (i c c' : ℕ) → c < c' → IsUnassigned i c F.agents → IsUnassigned i c' F.agents → ¬ AreEquivalent m F i c c'
+HasNoEquivalent m F = (i : ℕ) → HasNoPair m F i
 
 -- Merged: the mode is exact, and no branch stands where two classes could be merged.
 pub record IsMerged (m : Model) (c : Certificate) : Type 0 where

@@ -50,7 +50,7 @@ earned_reward_in A m act h (suc f) =
 unfoldable pub forward_worth_in : Arithmetic → Model → ℕ → List PolicyTree → Span
 forward_worth_in A m h qs = earned_reward_in A m (λ H. joint_root_action m (trees_after_history m qs H)) h h
 
--- the same by a recursion that pushes weights forwards along the trees
+-- the same by a recursion that updates weights along the trees
 abbrev pub recursive_worth_in : Arithmetic → Model → ℕ → (ℕ → Span) → List PolicyTree → Span
 recursive_worth_in A m zero w qs = point (pos 0)
 recursive_worth_in A m (suc r) w qs =

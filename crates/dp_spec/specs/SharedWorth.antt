@@ -1,4 +1,4 @@
--- The worth of a shared policy in an arithmetic: weights of joint rows are pushed forwards, stage by stage. (Own.)
+-- The worth of a shared policy in an arithmetic: weights of joint rows are updated stage by stage. (Own.)
 use Rattle.std.specs.Prelude.{ℕ, zero, suc, ◌-◌, cond, ◌==◌, ℤ, pos, List, [], ◌∷◌, get_or}
 use Rattle.dp_spec.specs.declared.span.Span.{Span}
 use Rattle.dp_spec.specs.JointNumbers.{joint_number, parts_of, product}

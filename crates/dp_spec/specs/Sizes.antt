@@ -29,7 +29,7 @@ pub record IsStep (m : Model) (a s t o : ℕ) : Type 0 where
   pub seen : o < joint_observations m
 
 -- The weights of the start, and from any weights of a time before the horizon h those of the next time.
-pub record CanPush (A : Arithmetic) (C : Calls) (m : Model) (h : ℕ) : Type 0 where
+pub record CanUpdateWeights (A : Arithmetic) (C : Calls) (m : Model) (h : ℕ) : Type 0 where
   -- the calls for the weights of the start, which are weights of time 0
   pub start : (s : ℕ) → s < m.states → C.Start (start_at m s)
   pub started : AreWeights A.is_exact m 0 (λ s. A.start (start_at m s))
@@ -43,7 +43,7 @@ pub record CanPush (A : Arithmetic) (C : Calls) (m : Model) (h : ℕ) : Type 0 w
       → u < m.states → o < joint_observations m →
       nat_sum m.states (λ s. size (A.later (A.chance (ws s) (trans_at m a s u) (obs_at m a u o)))) < 2 ^ 127
   -- the next weights are weights of the next time
-  pub pushed : (t : ℕ) (ws : ℕ → Span) (a o : ℕ) → t < h → AreWeights A.is_exact m t ws → a < joint_actions m
+  pub updated : (t : ℕ) (ws : ℕ → Span) (a o : ℕ) → t < h → AreWeights A.is_exact m t ws → a < joint_actions m
       → o < joint_observations m → AreWeights A.is_exact m (suc t) (weights_after_in A m ws a o)
 
 -- the magnitudes of all parts of the reward of a joint action together, where r steps are left after this one
@@ -54,7 +54,7 @@ reward_size A m r ws a =
 
 -- The reward of a joint action from any weights of a time before the horizon h.
 pub record CanReward (A : Arithmetic) (C : Calls) (m : Model) (h : ℕ) : Type 0 where
-  -- the call for each part, whose weight is that of a push
+  -- the call for each part, whose weight is that of an update
   pub gain : (t r : ℕ) (ws : ℕ → Span) (a s u o : ℕ) → t + suc r ≡ h → AreWeights A.is_exact m t ws → IsStep m a s u o
       → C.Gain (A.chance (ws s) (trans_at m a s u) (obs_at m a u o)) (reward_at m a s u o) r
   -- the parts can be added, in any order

@@ -1,5 +1,5 @@
--- That what is earned along joint histories, and the worth of a joint policy, can be added up.
-use Rattle.std.specs.Prelude.{ℕ, zero, suc, ◌+◌, ◌-◌, ◌^◌, ◌<◌, ◌≤◌, ◌≡◌, List}
+-- Magnitudes of what is earned along joint histories, and that the worth of a joint policy can be added up.
+use Rattle.std.specs.Prelude.{ℕ, zero, suc, ◌+◌, ◌-◌, ◌^◌, ◌<◌, ◌≡◌, List}
 use Rattle.dp_spec.specs.declared.span.Span.{Span}
 use Rattle.dp_base.specs.Sums.{nat_sum}
 use Rattle.dp_spec.specs.Model.{Model, joint_actions, joint_observations}
@@ -20,10 +20,6 @@ earned_size A m act h zero = 0
 earned_size A m act h (suc f) =
     earned_size A m act h f
     + nat_history_sum (joint_observations m) f (λ H. reward_size A m (h - suc f) (history_weight_in A m act H) (act H))
-
--- What is earned before a time can be added up, in any order.
-pub record CanEarn (A : Arithmetic) (m : Model) (h : ℕ) : Type 0 where
-  pub add : (act : List ℕ → ℕ) (f : ℕ) → f ≤ h → IsActing m f act → earned_size A m act h f < 2 ^ 127
 
 -- the magnitudes of all parts of the worth of a joint policy of r steps together, from weights ws
 abbrev pub worth_size : Arithmetic → Model → ℕ → (ℕ → Span) → List PolicyTree → ℕ

@@ -10,8 +10,8 @@ use Rattle.dp_spec.specs.SharedPolicy.{IsSharedOf, SharedPolicy}
 use Rattle.dp_spec.specs.SharedWorth.{joint_row_action, joint_row_count, row_weight_in}
 
 -- the magnitudes of all weights together after each joint row of stage t and each joint observation
-unfoldable pub rows_push_size : Arithmetic → Model → SharedPolicy → ℕ → ℕ
-rows_push_size A m p t =
+unfoldable pub rows_update_size : Arithmetic → Model → SharedPolicy → ℕ → ℕ
+rows_update_size A m p t =
     nat_sum (joint_row_count p t) (λ j. nat_sum (joint_observations m) (λ o. nat_sum m.states (λ s.
     size (weights_after_in A m (row_weight_in A m p t j) (joint_row_action m p t j) o s))))
 
@@ -28,6 +28,6 @@ pub record CanShare (A : Arithmetic) (m : Model) (h : ℕ) : Type 0 where
   pub weights : (p : SharedPolicy) (t j : ℕ) → IsSharedOf m h p → t < h → j < joint_row_count p t
       → AreWeights A.is_exact m t (row_weight_in A m p t j)
   -- all next weights of a stage can be added to those of the joint rows of the next stage, in any order
-  pub push : (p : SharedPolicy) (t : ℕ) → IsSharedOf m h p → t < h → rows_push_size A m p t < 2 ^ 127
+  pub update : (p : SharedPolicy) (t : ℕ) → IsSharedOf m h p → t < h → rows_update_size A m p t < 2 ^ 127
   -- what the joint rows earn can be added up, in any order
   pub earned : (p : SharedPolicy) → IsSharedOf m h p → rows_earn_size A m p h h < 2 ^ 127

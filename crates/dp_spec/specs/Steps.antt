@@ -1,4 +1,4 @@
--- The steps of a front: the root, choosing an action for a class, and advancing to the next stage.
+-- The steps of a front: the root, choosing an action for a class and taking it back, and advancing to the next stage.
 use Rattle.std.specs.Prelude.{ℕ, zero, suc, ◌*◌, ◌+◌, ◌/◌, ◌%◌, ◌^◌, ◌<◌, ◌≡◌, Bool, true, false, ◌&&◌, List, [], ◌∷◌, ◌++◌, map, length, get_or, set, replicate, Option, Some, None, is_some, unwrap_or}
 use Rattle.std.specs.List.{range_with_len}
 use Rattle.dp_spec.specs.Model.{Model}
@@ -27,6 +27,22 @@ with_choice (suc i) c a (d ∷ ds) = d ∷ with_choice i c a ds
 -- the front after class c of agent i was given action a
 abbrev pub chosen_front : Front → ℕ → ℕ → ℕ → Front
 chosen_front F i c a = record { stage = F.stage; agents = with_choice i c a F.agents }
+
+-- class c of agent i has action a
+abbrev pub HasAction : ℕ → ℕ → ℕ → List AgentFront → Type 0
+HasAction i c a [] = ⊥
+HasAction zero c a (d ∷ ds) = get_or d.chosen c None ≡ Some a
+HasAction (suc i) c a (d ∷ ds) = HasAction i c a ds
+
+-- class c of agent i loses its action
+abbrev pub without_choice : ℕ → ℕ → List AgentFront → List AgentFront
+without_choice i c [] = []
+without_choice zero c (d ∷ ds) = record d { chosen = set d.chosen c None } ∷ ds
+without_choice (suc i) c (d ∷ ds) = d ∷ without_choice i c ds
+
+-- the front after class c of agent i lost its action
+abbrev pub unchosen_front : Front → ℕ → ℕ → Front
+unchosen_front F i c = record { stage = F.stage; agents = without_choice i c F.agents }
 
 -- whether every class of an agent has an action
 abbrev pub all_chosen : List (Option ℕ) → Bool

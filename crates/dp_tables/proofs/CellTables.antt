@@ -22,7 +22,7 @@ use Rattle.dp_meaning.proofs.ModelLaws.{product_above}
 use Rattle.dp_meaning.proofs.ReadFields.{AreFieldsOf, IsStatementOver, Fills, said_statements}
 use Rattle.dp_meaning.proofs.ReadStatements.{AreNumbersOf}
 use Rattle.dp_meaning.proofs.SaidTexts.{said_is, some_states, some_joint_actions, some_joint_observations}
-use Rattle.dp_tables.specs.Writing.{AreWithin, AreWritten, list_sizes, list_parts}
+use Rattle.dp_tables.specs.Writing.{ArePartsWithin, AreWritten, list_sizes, list_parts}
 use Rattle.dp_tables.proofs.FlatCells.{product_of_lists, covered_by_lists, parts_within, width_of_parts}
 
 -- ---- the axes of a table
@@ -82,7 +82,7 @@ statement_for text table items i s said are h is same =
 -- what is known where a statement of the table is written
 pub record IsWritable (axes : List Axis) (sizes : List ℕ) (s : Statement) : Type 0 where
   pub some : 0 < product sizes
-  pub parts : AreWithin sizes (list_parts s.fields)
+  pub parts : ArePartsWithin sizes (list_parts s.fields)
   pub width : product (drop (length (list_parts s.fields)) sizes)
       ≡ product (map axis_size (drop (length s.fields) axes))
 

@@ -12,7 +12,7 @@ use Rattle.dp_meaning.specs.Fields.{Axis}
 use Rattle.dp_meaning.specs.Statements.{axis_size}
 use Rattle.dp_meaning.specs.Cells.{allows, allow, covers}
 use Rattle.dp_meaning.proofs.ReadFields.{IsPartOf, ArePartsOf, AreFieldsOf}
-use Rattle.dp_tables.specs.Writing.{IsWithin, AreWithin, is_covered, list_sizes, list_parts}
+use Rattle.dp_tables.specs.Writing.{IsPartWithin, ArePartsWithin, is_covered, list_sizes, list_parts}
 
 -- ---- sizes and parts
 
@@ -28,26 +28,26 @@ one_each [] (part ∷ parts) are = absurd are
 one_each (list ∷ lists) [] are = absurd are
 one_each (list ∷ lists) (part ∷ parts) are = ap suc (one_each lists parts are.1)
 
-within_one : (list : GivenList) (part : Part) → IsPartOf list part → IsWithin (size_of list) part
+within_one : (list : GivenList) (part : Part) → IsPartOf list part → IsPartWithin (size_of list) part
 within_one list Any is = tt
 within_one list (Only n) is = is
 
 within_axis : (axis : Axis) (parts : List Part) (sizes : List ℕ) (others : List Part) → ArePartsOf axis parts
-    → AreWithin sizes others
-    → AreWithin (map size_of axis ++ sizes) (parts ++ others)
+    → ArePartsWithin sizes others
+    → ArePartsWithin (map size_of axis ++ sizes) (parts ++ others)
 within_axis [] [] sizes others are rest = rest
 within_axis [] (part ∷ parts) sizes others are rest = absurd are
 within_axis (list ∷ lists) [] sizes others are rest = absurd are
 within_axis (list ∷ lists) (part ∷ parts) sizes others are rest =
     (within_one list part are.0, within_axis lists parts sizes others are.1 rest)
 
-no_parts : (sizes : List ℕ) → AreWithin sizes []
+no_parts : (sizes : List ℕ) → ArePartsWithin sizes []
 no_parts [] = tt
 no_parts (size ∷ sizes) = tt
 
 -- the parts of the fields are parts of the lists
 pub parts_within : (axes : List Axis) (fields : List (List Part)) → AreFieldsOf axes fields
-    → AreWithin (list_sizes axes)
+    → ArePartsWithin (list_sizes axes)
     (list_parts fields)
 parts_within axes [] are = no_parts (list_sizes axes)
 parts_within [] (parts ∷ fields) are = absurd are

@@ -12,7 +12,7 @@ use Rattle.dp_meaning.specs.declared.why.Why.TheVariants.{RowSum}
 use Rattle.dp_meaning.specs.Limits.{passed_limit}
 use Rattle.dp_meaning.specs.Meaning.{IsSaid}
 use Rattle.dp_meaning.specs.Numbers.{is_chance}
-use Rattle.dp_meaning.specs.Rows.{Row, Repaired, start_chance, start_at, start_row, repair_all}
+use Rattle.dp_meaning.specs.Rows.{Row, Repaired, start_chance, offset_of_start, start_row, repair_all}
 use Rattle.dp_meaning.specs.Scales.{scales_of}
 use Rattle.dp_meaning.specs.Text.{states_in}
 use Rattle.dp_meaning.proofs.Each.{all_from_each}
@@ -85,7 +85,7 @@ start_is_row : (text : Text) (scale states : ℕ) (given : List ℕ) → scale �
 unfolding start_row
 start_is_row text scale states given e f g =
     one_row scale states given (start_row text) (sym g) (sym e)
-    (let size = start_size text states given f g in omega arith) (start_at text.header.start) refl
+    (let size = start_size text states given f g in omega arith) (offset_of_start text.header.start) refl
 
 pub start_done : (text : Text) (scale states : ℕ) (given cells : List ℕ) (repaired : ℕ)
     → scale ≡ (scales_of text).start → states ≡ states_in text
@@ -94,14 +94,14 @@ pub start_done : (text : Text) (scale states : ℕ) (given cells : List ℕ) (re
 start_done text scale states given cells repaired e f g is end =
     is end (start_row text ∷ []) (start_is_row text scale states given e f g)
 
-start_place : (text : Text) → (start_row text).at ≡ Some (start_at text.header.start)
+start_place : (text : Text) → (start_row text).at ≡ Some (offset_of_start text.header.start)
 unfolding start_row
 start_place text = refl
 
 pub start_failed : (text : Text) (scale states : ℕ) (given cells : List ℕ) (r : ℕ) → scale ≡ (scales_of text).start
     → states ≡ states_in text
     → given ≡ (start_row text).cells → r < 1 → RepairsRows scale 1 states given cells (Err r) → (end : ℕ)
-    → repair_all end (start_row text ∷ []) ≡ Err (record { at = start_at text.header.start; why = RowSum })
+    → repair_all end (start_row text ∷ []) ≡ Err (record { at = offset_of_start text.header.start; why = RowSum })
 start_failed text scale states given cells zero e f g h is end =
     let fault : Option ℕ → Result Repaired Fault = λ o. Err (fault_of_row end o) in
     is end (start_row text ∷ []) (start_row text) (start_is_row text scale states given e f g) ∙ ap fault (start_place text)
@@ -110,7 +110,7 @@ start_failed text scale states given cells (suc r) e f g h is end = absurd (omeg
 abbrev pub row_sum : ℕ → Result Repaired Fault
 row_sum at = Err (record { at = at; why = RowSum })
 
-pub start_fault : (at : ℕ) (start : Start) → at ≡ start_at start → row_sum (start_at start) ≡ row_sum at
+pub start_fault : (at : ℕ) (start : Start) → at ≡ offset_of_start start → row_sum (offset_of_start start) ≡ row_sum at
 start_fault at start e = ap row_sum (sym e)
 
 pub one_more_chance : (f : ℕ → ℕ) (cells more : List ℕ) (n x : ℕ) → cells ≡ map f (range_with_len 0 n) → x ≡ f n

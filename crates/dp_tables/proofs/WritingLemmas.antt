@@ -13,7 +13,7 @@ use Rattle.dp_meaning.specs.declared.statement.Part.TheVariants.{Any}
 use Rattle.dp_meaning.specs.Cells.{allows, allow}
 use Rattle.dp_spec.specs.JointNumbers.{product, parts_of}
 use Rattle.dp_spec.proofs.JointNumberLaws.{product-drop_dvd, positive_left, positive_right, part_below}
-use Rattle.dp_tables.specs.Writing.{AreWithin, AreWritten, is_covered}
+use Rattle.dp_tables.specs.Writing.{ArePartsWithin, AreWritten, is_covered}
 
 -- the stretches of this length from the first up to, but without, the i-th are written
 abbrev pub AreWrittenUpTo : {T : Type 0} → ℕ → ℕ → ℕ → List ℕ → List Part → List T → List T → List T → Type 0
@@ -121,7 +121,7 @@ abbrev pub behind_first : {X : Type 0} → List X → List X
 behind_first xs = take (length xs - 1) (drop 1 xs)
 
 -- a part is that of a size
-pub some_size : (sizes : List ℕ) (parts : List Part) → AreWithin sizes parts → 1 ≤ length parts → 1 ≤ length sizes
+pub some_size : (sizes : List ℕ) (parts : List Part) → ArePartsWithin sizes parts → 1 ≤ length parts → 1 ≤ length sizes
 some_size sizes [] are h = absurd (omega arith)
 some_size [] (part ∷ parts) are h = absurd are
 some_size (size ∷ sizes) (part ∷ parts) are h = omega arith
@@ -232,7 +232,7 @@ pub covered_without : (sizes : List ℕ) (front : List Part) (k : ℕ)
     → is_covered sizes front k ≡ is_covered sizes (front ++ Any ∷ []) k
 covered_without sizes front k = sym (allow_more front (parts_of sizes k))
 
-pub within_without : (sizes : List ℕ) (front : List Part) → AreWithin sizes (front ++ Any ∷ []) → AreWithin sizes front
+pub within_without : (sizes : List ℕ) (front : List Part) → ArePartsWithin sizes (front ++ Any ∷ []) → ArePartsWithin sizes front
 within_without [] [] are = tt
 within_without (size ∷ sizes) [] are = tt
 within_without [] (part ∷ front) are = absurd are

@@ -9,15 +9,15 @@ use Rattle.dp_meaning.specs.Cells.{allow}
 use Rattle.dp_spec.specs.JointNumbers.{parts_of}
 
 -- a list of so many has the number that the part names
-abbrev pub IsWithin : ℕ → Part → Type 0
-IsWithin size Any = Unit {0}
-IsWithin size (Only n) = n < size
+abbrev pub IsPartWithin : ℕ → Part → Type 0
+IsPartWithin size Any = Unit {0}
+IsPartWithin size (Only n) = n < size
 
 -- each part is one of a list, in order, and the lists behind them have none
-abbrev pub AreWithin : List ℕ → List Part → Type 0
-AreWithin sizes [] = Unit {0}
-AreWithin [] (part ∷ parts) = ⊥
-AreWithin (size ∷ sizes) (part ∷ parts) = IsWithin size part × AreWithin sizes parts
+abbrev pub ArePartsWithin : List ℕ → List Part → Type 0
+ArePartsWithin sizes [] = Unit {0}
+ArePartsWithin [] (part ∷ parts) = ⊥
+ArePartsWithin (size ∷ sizes) (part ∷ parts) = IsPartWithin size part × ArePartsWithin sizes parts
 
 -- the parts allow the cell of this number
 abbrev pub is_covered : List ℕ → List Part → ℕ → Bool

@@ -12,7 +12,7 @@ ghost use Rattle.dp_tables.specs.Blocks as blocks;
 ghost use Rattle.dp_tables.specs.Blocks.{IsChanceValue};
 ghost use Rattle.dp_tables.specs.Tables.{row_length};
 ghost use Rattle.dp_tables.specs.Writing as spec;
-ghost use Rattle.dp_tables.specs.Writing.{AreWithin, AreWritten};
+ghost use Rattle.dp_tables.specs.Writing.{ArePartsWithin, AreWritten};
 
 use crate::blocks::chance_block;
 use crate::lists::{list_parts, list_sizes};
@@ -61,7 +61,7 @@ fn write_chances(
     requires chances { IsChanceValue statement.now.value }
     requires cells { length cells.old ≡ product sizes.now }
     requires some { 0 < product sizes.now }
-    requires parts { AreWithin sizes.now (spec.list_parts statement.now.fields) }
+    requires parts { ArePartsWithin sizes.now (spec.list_parts statement.now.fields) }
     requires block { let block = blocks.chance_block scale len statement.now.value in
         (length block ≡ 1)
         ⊎ (length block ≡ product (drop (length (spec.list_parts statement.now.fields)) sizes.now)) }

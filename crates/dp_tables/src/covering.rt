@@ -12,7 +12,7 @@ ghost use Rattle.dp_tables.specs.Covering.{is_row_allowed};
 ghost use Rattle.dp_spec.specs.JointNumbers.{parts_of, product};
 
 use dp_meaning::{GivenList, Header, Part, Table, Text};
-use dp_model::Items;
+use dp_model::Sequence;
 use std::slice::from_ref;
 
 fn allows(part: Part, number: u32) -> bool
@@ -69,7 +69,7 @@ fn allow_some(lists: &[GivenList], parts: &[Part], count: u32) -> bool
 }
 
 /// The parts along an axis, of which a field that is not given has none.
-fn field(fields: &[Items<Part>], axis: usize) -> &[Part]
+fn field(fields: &[Sequence<Part>], axis: usize) -> &[Part]
     ensures { result.now ≡ get_or fields.now axis [] }
 {
     match fields.get(axis) {
@@ -97,7 +97,7 @@ pub(crate) struct RowNumber {
 
 /// Whether the fields of a statement allow the row, along its own two axes.
 #[tactic(auto, using(crate::proofs::CoveringLemmas::small_axes))]
-fn allow_row(text: &Text, fields: &[Items<Part>], row: RowNumber) -> bool
+fn allow_row(text: &Text, fields: &[Sequence<Part>], row: RowNumber) -> bool
     requires said { IsSaid text.now }
     requires within { passed_limit text.now ≡ None }
     ensures { result ≡ is_row_allowed text.now.header fields.now row.action row.state }
@@ -109,7 +109,13 @@ fn allow_row(text: &Text, fields: &[Items<Part>], row: RowNumber) -> bool
 
 /// Whether the fields of a statement allow one of the first `len` cells of the row.
 #[tactic(auto, using(crate::proofs::CoveringLemmas::small_axes))]
-fn covers_row(text: &Text, table: Table, fields: &[Items<Part>], row: RowNumber, len: u32) -> bool
+fn covers_row(
+    text: &Text,
+    table: Table,
+    fields: &[Sequence<Part>],
+    row: RowNumber,
+    len: u32,
+) -> bool
     requires said { IsSaid text.now }
     requires within { passed_limit text.now ≡ None }
     ensures { let cells_of_row = row_cells (row.action ∷ row.state ∷ []) len in

@@ -6,7 +6,7 @@ ghost use Rattle.dp_tables.specs.Writing as spec;
 
 use dp_base::Memory;
 use dp_meaning::{GivenList, Header, Part, Table};
-use dp_model::Items;
+use dp_model::Sequence;
 use std::alloc::Global;
 
 /// The sizes of the lists of a table's axes: the agents' actions, the states, and the next states,
@@ -48,7 +48,7 @@ fn push_sizes(sizes: &mut Vec<u32>, lists: &[GivenList]) -> Result<(), Memory>
 }
 
 /// The parts of all fields, which stand for the first of the lists.
-pub(crate) fn list_parts(alloc: Global, fields: &[Items<Part>]) -> Result<Vec<Part>, Memory>
+pub(crate) fn list_parts(alloc: Global, fields: &[Sequence<Part>]) -> Result<Vec<Part>, Memory>
     ensures { IfOk result (λ parts. parts.items ≡ spec.list_parts fields.now) }
 {
     let mut parts = Vec::new(alloc);

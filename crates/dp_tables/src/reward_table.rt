@@ -8,7 +8,7 @@ ghost use Rattle.dp_meaning.specs.Text.{states_in, joint_actions_in, joint_obser
 ghost use Rattle.dp_tables.specs.Blocks as blocks;
 ghost use Rattle.dp_tables.specs.Blocks.{IsRewardValue};
 ghost use Rattle.dp_tables.specs.Writing as spec;
-ghost use Rattle.dp_tables.specs.Writing.{AreWithin, AreWritten};
+ghost use Rattle.dp_tables.specs.Writing.{ArePartsWithin, AreWritten};
 
 use crate::blocks::reward_block;
 use crate::lists::{list_parts, list_sizes};
@@ -56,7 +56,7 @@ fn write_rewards(
     requires rewards { IsRewardValue statement.now.value }
     requires cells { length cells.old ≡ product sizes.now }
     requires some { 0 < product sizes.now }
-    requires parts { AreWithin sizes.now (spec.list_parts statement.now.fields) }
+    requires parts { ArePartsWithin sizes.now (spec.list_parts statement.now.fields) }
     requires block { let block = blocks.reward_block cost scale statement.now.value in
         length block ≡ product (drop (length (spec.list_parts statement.now.fields)) sizes.now) }
     ensures { let block = blocks.reward_block cost scale statement.now.value in

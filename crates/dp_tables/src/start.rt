@@ -47,8 +47,8 @@ fn start_chance(scale: u64, states: u32, start: &Start, state: u32) -> u64
 }
 
 /// Where the value of `start` begins, which only a row of chances has to say.
-fn start_at(start: &Start) -> u32
-    ensures { result ≡ spec.start_at start.now }
+fn offset_of_start(start: &Start) -> u32
+    ensures { result ≡ spec.offset_of_start start.now }
 {
     match start {
         Start::StartRow(at, _) => *at,
@@ -69,7 +69,7 @@ pub fn repair_start(cells: &mut [u64], text: &Text, scale: u64, end: u32) -> Res
     match repair_rows(cells, 1, states(text), scale) {
         Ok(repaired) => Ok(repaired),
         Err(_) => Err(Fault {
-            at: start_at(&text.header.start),
+            at: offset_of_start(&text.header.start),
             why: Why::RowSum,
         }),
     }

@@ -2,7 +2,7 @@
 ghost use Rattle.std.specs.Prelude.{◌≡◌, ◌≢◌, ◌⊎◌, ℕ, ◌*◌, ◌%◌, ◌+◌, ◌<◌, ◌≤◌, nat_le, nat_lt, ◌&&◌};
 ghost use Rattle.std.specs.Prelude.{List, [], ◌∷◌, ◌++◌, length, drop, get_or};
 ghost use Rattle.dp_spec.specs.JointNumbers.{product};
-ghost use Rattle.dp_tables.specs.Writing.{AreWithin, AreWritten, IsWithin, is_covered};
+ghost use Rattle.dp_tables.specs.Writing.{ArePartsWithin, AreWritten, IsPartWithin, is_covered};
 ghost use Rattle.dp_meaning.specs.declared.statement.Part.{Part};
 ghost use Rattle.dp_meaning.specs.Cells.{allows};
 
@@ -15,7 +15,7 @@ use dp_meaning::Part;
 pub(crate) fn write_block<T: Copy>(cells: &mut [T], sizes: &[u32], parts: &[Part], block: &[T])
     requires cells { length cells.old ≡ product sizes.now }
     requires some { 0 < product sizes.now }
-    requires parts { AreWithin sizes.now parts.now }
+    requires parts { ArePartsWithin sizes.now parts.now }
     requires block { (length block.now ≡ 1) ⊎ (length block.now ≡ product (drop (length parts.now) sizes.now)) }
     ensures { AreWritten sizes.now parts.now block.now cells.old cells.new }
 {
@@ -30,7 +30,7 @@ pub(crate) fn write_block<T: Copy>(cells: &mut [T], sizes: &[u32], parts: &[Part
 /// The parts up to the last that names one number. They allow the same cells.
 fn without_last_any(parts: &[Part]) -> &[Part]
     ensures same { (sizes : List ℕ) (k : ℕ) → is_covered sizes result.now k ≡ is_covered sizes parts.now k }
-    ensures within { (sizes : List ℕ) → AreWithin sizes parts.now → AreWithin sizes result.now }
+    ensures within { (sizes : List ℕ) → ArePartsWithin sizes parts.now → ArePartsWithin sizes result.now }
     ensures last { (front : List Part) → result.now ≢ front ++ Part.Any ∷ [] }
 {
     match parts.split_last() {
@@ -43,7 +43,7 @@ fn without_last_any(parts: &[Part]) -> &[Part]
 fn write<T: Copy>(cells: &mut [T], sizes: &[u32], parts: &[Part], block: &[T])
     requires cells { length cells.old ≡ product sizes.now }
     requires some { 0 < product sizes.now }
-    requires parts { AreWithin sizes.now parts.now }
+    requires parts { ArePartsWithin sizes.now parts.now }
     requires block { (length block.now ≡ 1) ⊎ (length block.now ≡ product (drop (length parts.now) sizes.now)) }
     ensures { AreWritten sizes.now parts.now block.now cells.old cells.new }
 {
@@ -65,7 +65,7 @@ fn write<T: Copy>(cells: &mut [T], sizes: &[u32], parts: &[Part], block: &[T])
 
 /// The stretches of so many that a part allows, from the first up to the end.
 fn stretches(part: Part, size: u32) -> (usize, usize)
-    requires { IsWithin size part }
+    requires { IsPartWithin size part }
     ensures first { result.0 ≤ result.1 }
     ensures end { result.1 ≤ size }
     ensures within { (i : ℕ) → i < size → allows part i ≡ (nat_le result.0 i && nat_lt i result.1) }

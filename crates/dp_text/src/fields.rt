@@ -5,7 +5,6 @@ ghost use Rattle.dp_text.specs.FirstFields.{HasNoField, IsFirstField, is_colon_i
 
 use dp_items::Pieces;
 use dp_lexer::Kind;
-use std::marker::Model;
 
 /// A field, and the offset of the Colon that closes it.
 #[derive(Drop)]
@@ -14,7 +13,7 @@ pub(crate) struct Field<'a> {
     colon: u32,
 }
 
-impl<'a> Model for Field<'a> {
+impl<'a> std::marker::Model for Field<'a> {
     ghost use Rattle.dp_meaning.specs.Fields as spec;
 
     ghost Value = { spec.Field };

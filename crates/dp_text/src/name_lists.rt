@@ -11,7 +11,7 @@ use crate::numbers::ended;
 use crate::words::{index, is_index, is_name, text_of};
 use dp_items::{Item, Piece, Pieces};
 use dp_meaning::{Fault, GivenList, Why};
-use dp_model::{Items, NameList};
+use dp_model::{NameList, Sequence};
 use std::alloc::Global;
 
 // The most things that a list has that is given as a count.
@@ -99,7 +99,7 @@ pub(crate) fn name_lists(
     alloc: Global,
     agents: u32,
     item: &Item,
-) -> Result<Items<GivenList>, TextFault>
+) -> Result<Sequence<GivenList>, TextFault>
     ensures { Reads (spec.name_lists item.now.next agents (agent_lines item.now)) result }
 {
     let mut lists = Vec::new(alloc);
@@ -114,7 +114,7 @@ pub(crate) fn name_lists(
     if let Some(line) = item.agent_line(agents as usize) {
         ended(&line)?;
     }
-    Ok(Items::of(lists))
+    Ok(Sequence::of(lists))
 }
 
 /// The number of the thing of a list that a token names, by an index or by a name.

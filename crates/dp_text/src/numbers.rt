@@ -8,7 +8,7 @@ use crate::fault::{TextFault, fault};
 use dp_base::{Decimal, NumFault, read_decimal};
 use dp_items::{Piece, Pieces};
 use dp_meaning::{Fault, Why};
-use dp_model::Items;
+use dp_model::Sequence;
 use std::alloc::Global;
 
 /// In which range a Number has to be.
@@ -84,7 +84,7 @@ pub(crate) fn numbers(
     next: u32,
     count: u64,
     pieces: &Pieces,
-) -> Result<Items<Decimal>, TextFault>
+) -> Result<Sequence<Decimal>, TextFault>
     ensures { Reads (spec.numbers (is_in range) next count pieces.now) result }
 {
     let mut values = Vec::new(alloc);
@@ -101,5 +101,5 @@ pub(crate) fn numbers(
         left -= 1;
     }
     ended(&rest)?;
-    Ok(Items::of(values))
+    Ok(Sequence::of(values))
 }

@@ -14,7 +14,7 @@ use crate::name_lists::find_in;
 use dp_items::{Piece, Pieces};
 use dp_lexer::Kind;
 use dp_meaning::{Fault, GivenList, Header, Part, Table, Why};
-use dp_model::Items;
+use dp_model::Sequence;
 use std::alloc::Global;
 
 fn is_star(piece: &Piece) -> bool
@@ -48,18 +48,18 @@ fn is_one_star(pieces: &Pieces) -> bool
 }
 
 /// All of each list along an axis.
-fn any_parts(alloc: Global, axis: &[GivenList]) -> Result<Items<Part>, TextFault>
+fn any_parts(alloc: Global, axis: &[GivenList]) -> Result<Sequence<Part>, TextFault>
     ensures { Reads (Ok (map (λ _. Any) axis.now)) result }
 {
     let mut parts = Vec::new(alloc);
     for _list in axis {
         parts.push(Part::Any)?;
     }
-    Ok(Items::of(parts))
+    Ok(Sequence::of(parts))
 }
 
 /// One part per list of an axis.
-fn parts_in(alloc: Global, axis: &[GivenList], field: &Field) -> Result<Items<Part>, TextFault>
+fn parts_in(alloc: Global, axis: &[GivenList], field: &Field) -> Result<Sequence<Part>, TextFault>
     ensures { Reads (spec.parts_in axis.now field.now field.now.pieces) result }
 {
     let mut parts = Vec::new(alloc);
@@ -72,13 +72,17 @@ fn parts_in(alloc: Global, axis: &[GivenList], field: &Field) -> Result<Items<Pa
         parts.push(part)?;
     }
     match field.pieces().get(axis.len()) {
-        None => Ok(Items::of(parts)),
+        None => Ok(Sequence::of(parts)),
         Some(piece) => Err(TextFault::At(fault(Why::Expected, piece.at()))),
     }
 }
 
 /// What a field says of the lists along an axis: one `*` for all of each, or one part per list.
-fn field_parts(alloc: Global, axis: &[GivenList], field: &Field) -> Result<Items<Part>, TextFault>
+fn field_parts(
+    alloc: Global,
+    axis: &[GivenList],
+    field: &Field,
+) -> Result<Sequence<Part>, TextFault>
     ensures { Reads (spec.field_parts axis.now field.now) result }
 {
     if is_one_star(field.pieces()) {
@@ -92,7 +96,7 @@ fn field_parts(alloc: Global, axis: &[GivenList], field: &Field) -> Result<Items
 #[derive(Drop)]
 pub(crate) struct LineFields {
     /// For each field, one part for each list of its axis.
-    pub parts: Items<Items<Part>>,
+    pub parts: Sequence<Sequence<Part>>,
     /// How many pieces of the line they take, with their Colons.
     pub taken: usize,
 }
@@ -118,7 +122,7 @@ pub(crate) fn line_fields(
         rest = rest.from(field.pieces().len() + 1);
     }
     Ok(LineFields {
-        parts: Items::of(parts),
+        parts: Sequence::of(parts),
         taken: line.len() - rest.len(),
     })
 }

@@ -10,7 +10,7 @@ use crate::parts::line_fields;
 use crate::values::value_of;
 use dp_items::{Document, Item};
 use dp_meaning::{Header, ItemKind, Statement, Table, Why};
-use dp_model::Items;
+use dp_model::Sequence;
 use std::alloc::Global;
 
 /// How many fields a statement has at least.
@@ -65,7 +65,7 @@ pub(crate) fn read_statements(
     document: &Document,
     first: usize,
     header: &Header,
-) -> Result<Items<Statement>, TextFault>
+) -> Result<Sequence<Statement>, TextFault>
     ensures { Reads (spec.statements_of header.now (drop first document.now.items)) result }
 {
     let mut statements = Vec::new(alloc);
@@ -73,5 +73,5 @@ pub(crate) fn read_statements(
         let statement = statement_of_item(alloc, header, &document.item(place))?;
         statements.push(statement)?;
     }
-    Ok(Items::of(statements))
+    Ok(Sequence::of(statements))
 }

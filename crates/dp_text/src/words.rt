@@ -13,7 +13,7 @@ use std::str;
 pub(crate) fn text_of<'a>(piece: &Piece<'a>) -> &'a str
     ensures { result.now ≡ piece.now.text }
 {
-    piece.kept();
+    piece.invariant();
     match str::from_utf8(piece.text()) {
         Ok(text) => text,
         Err(_) => unreachable!(),
@@ -38,7 +38,7 @@ pub(crate) fn is_name(piece: &Piece) -> bool
 fn is_word(piece: &Piece) -> bool
     ensures { result ≡ is_word piece.now.text }
 {
-    piece.kept();
+    piece.invariant();
     matches!(piece.kind(), Kind::Word)
 }
 

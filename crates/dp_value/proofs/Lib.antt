@@ -1,3 +1,3 @@
 pub mod Modes
-pub mod Pushes
+pub mod WeightUpdates
 pub mod TwoStates

@@ -1,9 +1,9 @@
 //! Values of joint policies, computed forwards.
 #![tactic(auto)]
 
-mod push;
+mod update;
 
-pub use push::{next_weight, next_weight_in};
+pub use update::{next_weight, next_weight_in};
 
 #[cfg(test)]
 mod tests;

@@ -1,5 +1,5 @@
 -- Numbers of the command line, as `parse` reads them.
-use Rattle.std.proofs.Common.{◌≡◌, ℕ, ◌-◌, ◌^◌, ◌<◌, ◌≤◌, Bool, true, false, List, [], ◌∷◌, length, Some, None, refl, sym, ap, subst, ◌∙◌, arith}
+use Rattle.std.proofs.Common.{◌≡◌, ℕ, ◌^◌, ◌<◌, ◌≤◌, Bool, true, false, List, [], ◌∷◌, length, Some, None, refl, sym, ap, subst, ◌∙◌, arith}
 use Rattle.std.specs.Prelude.{◌&&◌, nat_le, nat_lt, if◌then◌else◌}
 use Rattle.std.specs.List.{list_all}
 use Rattle.std.specs.Char.{is_ascii_digit}
@@ -48,57 +48,66 @@ and_third false b c x = refl
 and_third true true true x = cc
 
 -- what is written where the three tests answer so
-written : (least : ℕ) (word : List ℕ) (b : Bool)
-    → (is_number word && nat_le least (digits_value 10 word) && nat_le (digits_value 10 word) (2 ^ 32 - 1)) ≡ b
-    → number_of least (2 ^ 32 - 1) word ≡ (if b then Some (digits_value 10 word) else None)
-written least word b e = ap (λ t. if t then Some (digits_value 10 word) else None) e
+written : (least most : ℕ) (word : List ℕ) (b : Bool)
+    → (is_number word && nat_le least (digits_value 10 word) && nat_le (digits_value 10 word) most) ≡ b
+    → number_of least most word ≡ (if b then Some (digits_value 10 word) else None)
+written least most word b e = ap (λ t. if t then Some (digits_value 10 word) else None) e
 
 is_index_of : (word : List ℕ) → is_number word ≡ true → is_index word ≡ true
 is_index_of word is = (and_parts (is_index word) _ is).0
 
 -- a word that is no number
-pub no_number : (least : ℕ) (word : List ℕ) → is_number word ≡ false → None ≡ number_of least (2 ^ 32 - 1) word
-no_number least word other = sym (written least word false (and_first _ _ _ other))
+pub no_number : (least most : ℕ) (word : List ℕ) → is_number word ≡ false → None ≡ number_of least most word
+no_number least most word other = sym (written least most word false (and_first _ _ _ other))
 
--- what `parse` reads of 32 bits
-abbrev Fits32 : List ℕ → Type 0
-Fits32 word = IsNumeral 10 (without_leading_plus word) × (digits_value 10 (without_leading_plus word) < 2 ^ 32)
+-- what `parse` reads of 64 bits
+abbrev Fits64 : List ℕ → Type 0
+Fits64 word = IsNumeral 10 (without_leading_plus word) × (digits_value 10 (without_leading_plus word) < 2 ^ 64)
 
 -- a number that `parse` reads
-pub number_read : (least n : ℕ) (word : List ℕ) → is_number word ≡ true
-    → Fits32 word × (n ≡ digits_value 10 (without_leading_plus word))
-    → (n ≡ digits_value 10 word) × (digits_value 10 word < 2 ^ 32)
-number_read least n word is read =
+pub number_read : (n : ℕ) (word : List ℕ) → is_number word ≡ true
+    → Fits64 word × (n ≡ digits_value 10 (without_leading_plus word)) → n ≡ digits_value 10 word
+number_read n word is read =
     let same = (numeral word (is_index_of word is)).1 in
-    (read.1 ∙ ap (digits_value 10) same, subst (λ w. digits_value 10 w < 2 ^ 32) same read.0.1)
+    read.1 ∙ ap (digits_value 10) same
 
-pub number_ok : (least n : ℕ) (word : List ℕ) → is_number word ≡ true
-    → Fits32 word × (n ≡ digits_value 10 (without_leading_plus word)) → least ≤ n
-    → Some n ≡ number_of least (2 ^ 32 - 1) word
-number_ok least n word is read enough =
-    let value = number_read least n word is read in
+pub number_ok : (least most n : ℕ) (word : List ℕ) → is_number word ≡ true
+    → Fits64 word × (n ≡ digits_value 10 (without_leading_plus word)) → least ≤ n → n ≤ most
+    → Some n ≡ number_of least most word
+number_ok least most n word is read enough few =
+    let value = number_read n word is read in
     let above : least ≤ digits_value 10 word = omega arith in
-    let below : digits_value 10 word ≤ 2 ^ 32 - 1 = omega arith in
-    ap Some value.0 ∙ sym (written least word true (and_true _ _ _ is (le-leb _ _ above) (le-leb _ _ below)))
+    let below : digits_value 10 word ≤ most = omega arith in
+    ap Some value ∙ sym (written least most word true (and_true _ _ _ is (le-leb _ _ above) (le-leb _ _ below)))
 
-pub number_low : (least n : ℕ) (word : List ℕ) → is_number word ≡ true
-    → Fits32 word × (n ≡ digits_value 10 (without_leading_plus word)) → n < least
-    → None ≡ number_of least (2 ^ 32 - 1) word
-number_low least n word is read few =
-    let value = number_read least n word is read in
+pub number_low : (least most n : ℕ) (word : List ℕ) → is_number word ≡ true
+    → Fits64 word × (n ≡ digits_value 10 (without_leading_plus word)) → n < least
+    → None ≡ number_of least most word
+number_low least most n word is read few =
+    let value = number_read n word is read in
     let low : digits_value 10 word < least = omega arith in
-    sym (written least word false (and_second (is_number word) _ _ (lt-leb _ _ low)))
+    sym (written least most word false (and_second (is_number word) _ _ (lt-leb _ _ low)))
 
-pub number_high : (least : ℕ) (word : List ℕ) → is_number word ≡ true → (Fits32 word → ⊥)
-    → None ≡ number_of least (2 ^ 32 - 1) word
-number_high least word is none =
+pub number_many : (least most n : ℕ) (word : List ℕ) → is_number word ≡ true
+    → Fits64 word × (n ≡ digits_value 10 (without_leading_plus word)) → most < n
+    → None ≡ number_of least most word
+number_many least most n word is read many =
+    let value = number_read n word is read in
+    let high : most < digits_value 10 word = omega arith in
+    sym (written least most word false
+    (and_third (is_number word) (nat_le least (digits_value 10 word)) _ (lt-leb _ _ high)))
+
+pub number_high : (least most : ℕ) (word : List ℕ) → most < 2 ^ 64 → is_number word ≡ true → (Fits64 word → ⊥)
+    → None ≡ number_of least most word
+number_high least most word small is none =
     let of_word = numeral word (is_index_of word is) in
-    let fits = λ (small : digits_value 10 word < 2 ^ 32).
-    none (subst (λ w. IsNumeral 10 w × (digits_value 10 w < 2 ^ 32)) (sym of_word.1) (of_word.0, small)) in
-    sym (written least word false (and_third (is_number word) (nat_le least (digits_value 10 word)) _ (large fits)))
+    let fits = λ (small : digits_value 10 word < 2 ^ 64).
+    none (subst (λ w. IsNumeral 10 w × (digits_value 10 w < 2 ^ 64)) (sym of_word.1) (of_word.0, small)) in
+    sym (written least most word false
+    (and_third (is_number word) (nat_le least (digits_value 10 word)) _ (large fits)))
   where
-    large : ((digits_value 10 word < 2 ^ 32) → ⊥) → nat_le (digits_value 10 word) (2 ^ 32 - 1) ≡ false
+    large : ((digits_value 10 word < 2 ^ 64) → ⊥) → nat_le (digits_value 10 word) most ≡ false
     large beyond = by (digits_value 10 word) beyond
       where
-        by : (v : ℕ) → ((v < 2 ^ 32) → ⊥) → nat_le v (2 ^ 32 - 1) ≡ false
-        by v beyond = lt-leb v (2 ^ 32 - 1) (grind arith)
+        by : (v : ℕ) → ((v < 2 ^ 64) → ⊥) → nat_le v most ≡ false
+        by v beyond = lt-leb v most (grind arith)

@@ -1,59 +1,159 @@
--- What the words of the command line ask for. Each word is the list of its bytes.
-use Rattle.std.specs.Prelude.{◌≡◌, ℕ, ◌≤◌, ◌-◌, ◌^◌, Bool, true, ◌&&◌, ◌||◌, ◌==◌, not, nat_eq, nat_le, List, [], ◌∷◌, length, Option, Some, None, Result, Ok, Err, codes, if◌then◌else◌}
+-- What the words of the command line ask for: the tables of options and commands, and the job.
+use Rattle.std.specs.Prelude.{◌≡◌, ℕ, ◌≤◌, ◌-◌, ◌^◌, Bool, true, ◌&&◌, ◌||◌, ◌==◌, not, nat_eq, nat_le, List, [], ◌∷◌, map, length, find, Option, Some, None, Result, Ok, Err, is_some, option_and_then, unwrap_or, slice_get, codes, if◌then◌else◌}
+use Rattle.std.specs.Option.{option_map_or}
 use Rattle.std.specs.Str.{bytes_eq}
 use Rattle.std.specs.Str.Parse.{digits_value}
-use Rattle.std.specs.List.{starts_with}
+use Rattle.std.specs.List.{starts_with, list_all, list_any}
 use Rattle.dp_base.specs.DecimalShape.{is_index}
+use Rattle.dp_words.specs.Line.{Given, Text, is_given, is_well_given, may_be_value, options_of, plain_of, value_in}
 use Rattle.dp_words.specs.declared.job.Job.{Job}
 use Rattle.dp_words.specs.declared.job.Job.TheVariants.{Plan}
 use Rattle.dp_words.specs.declared.job.OrderWord.TheVariants.{First}
 use Rattle.dp_words.specs.declared.job.WordFault.{WordFault}
 use Rattle.dp_words.specs.declared.job.WordFault.TheVariants as faults
 
--- A word that begins with a dash is an option, and no file.
-abbrev pub is_file : List ℕ → Bool
-is_file word = not (starts_with nat_eq word (codes "-"))
+-- ---- numbers
 
 -- A number is written in digits that do not begin with 0, or as 0 alone.
-abbrev pub is_number : List ℕ → Bool
+abbrev pub is_number : Text → Bool
 is_number word = is_index word && (length word == 1 || not (starts_with nat_eq word (codes "0")))
 
 -- the number that a word writes, where it writes one from the least to the most
-abbrev pub number_of : ℕ → ℕ → List ℕ → Option ℕ
+abbrev pub number_of : ℕ → ℕ → Text → Option ℕ
 number_of least most word =
     let number = digits_value 10 word in
     if is_number word && nat_le least number && nat_le number most then Some number else None
 
--- a horizon is a number of at least 1 and 32 bits
-abbrev pub horizon_of : List ℕ → Option ℕ
-horizon_of word = number_of 1 (2 ^ 32 - 1) word
+-- ---- the options
 
--- the words `plan MODEL --horizon ..`
-abbrev pub is_plan : List ℕ → List ℕ → List ℕ → Bool
-is_plan command model option = bytes_eq command (codes "plan") && bytes_eq option (codes "--horizon") && is_file model
+-- an option whose value is a number: its range, and its default where it has one; a command that
+-- reads an option without a default requires it
+pub record Setting : Type 0 where
+  pub name : Text
+  pub least : ℕ
+  pub most : ℕ
+  pub default : Option ℕ
 
--- a plan with that horizon, and all that the words do not say: a budget of 100,000 nodes, a
--- look-ahead of one step, merging, and the first place of a front
-abbrev pub plain_plan : List ℕ → ℕ → Job
-plain_plan model horizon = Plan (record {
-  model = model;
-  horizon = horizon;
+abbrev pub setting : Text → ℕ → ℕ → Option ℕ → Setting
+setting name least most default = record { name = name; least = least; most = most; default = default }
+
+abbrev pub horizon : Setting
+horizon = setting (codes "horizon") 1 (2 ^ 32 - 1) None
+
+-- a row of the table of options: the name of an option that takes a value, and which texts may be it
+pub record OptionRow : Type 0 where
+  pub name : Text
+  pub allows : Text → Bool
+
+abbrev pub number_option : Setting → OptionRow
+number_option s = record { name = s.name; allows = λ text. is_some (number_of s.least s.most text) }
+
+-- the table of options that take a value
+abbrev pub options : List OptionRow
+options = number_option horizon ∷ []
+
+abbrev pub value_names : List Text
+value_names = map (λ o. o.name) options
+
+-- the option that takes no value
+abbrev pub no_merge : Text
+no_merge = codes "no-merge"
+
+-- the text that is given to each option with a value, by its name
+abbrev pub Values : Type 0
+Values = Text → Option Text
+
+-- the option's value is allowed, where it is given
+abbrev pub holds : Values → OptionRow → Bool
+holds value o = option_map_or o.allows (value o.name) true
+
+abbrev pub all_hold : Values → Bool
+all_hold value = list_all (holds value) options
+
+-- ---- the commands
+
+-- the options of a line, read
+pub record Read : Type 0 where
+  pub number : Setting → ℕ
+  pub merge : Bool
+
+abbrev pub read : Values → Bool → Read
+read value no_merging = record {
+  number = λ s. option_map_or (digits_value 10) (value s.name) (unwrap_or s.default 0);
+  merge = not no_merging;
+}
+
+-- a row of the table of commands: the command's word, how many files follow it, its options, those
+-- that it requires, and the job that it asks for, of the options and of the files, counted from 0
+pub record CommandRow : Type 0 where
+  pub word : Text
+  pub files : ℕ
+  pub options : List Text
+  pub required : List Text
+  pub job : Read → (ℕ → Text) → Job
+
+abbrev pub command_row : Text → ℕ → List Text → List Text → (Read → (ℕ → Text) → Job) → CommandRow
+command_row word files options required job =
+    record { word = word; files = files; options = options; required = required; job = job }
+
+-- `plan MODEL`: what no word sets has its default
+abbrev pub plan_row : CommandRow
+plan_row = command_row (codes "plan") 1 (codes "horizon" ∷ []) (codes "horizon" ∷ []) (λ read file. Plan (record {
+  model = file 0;
+  version = 1;
+  horizon = read.number horizon;
   nodes = 100000;
   look = 1;
-  merge = true;
+  merge = read.merge;
   order = First;
-})
+}))
 
--- the plan of that horizon, where there is one
-abbrev pub plan_over : List ℕ → Option ℕ → Option Job
-plan_over model (Some horizon) = Some (plain_plan model horizon)
-plan_over model None = None
+-- the table of commands
+abbrev pub commands : List CommandRow
+commands = plan_row ∷ []
+
+-- ---- the job
+
+-- the option is one of these, or it is not given
+abbrev pub is_allowed : List Text → Values → Text → Bool
+is_allowed names value name = list_any (λ n. bytes_eq n name) names || not (is_some (value name))
+
+-- the options are among those of a command, and those that it requires are given
+abbrev pub fits : List Text → List Text → Values → Bool → Bool
+fits options required value no_merging =
+    list_all (is_allowed options value) value_names
+    && ((list_any (λ n. bytes_eq n no_merge) options || not no_merging)
+    && list_all (λ n. is_some (value n)) required)
+
+abbrev pub file_at : List Text → ℕ → Text
+file_at files k = unwrap_or (slice_get files k) []
+
+-- the job of a command with these options and files
+abbrev pub row_job : Values → Bool → List Text → CommandRow → Option Job
+row_job value no_merging files c =
+    if length files == c.files && fits c.options c.required value no_merging
+    then Some (c.job (read value no_merging) (file_at files))
+    else None
+
+-- the first plain word is the command, and the rest are its files
+abbrev pub command_job : Values → Bool → List Text → Option Job
+command_job value no_merging [] = None
+command_job value no_merging (command ∷ files) =
+    option_and_then (row_job value no_merging files) (find (λ c. bytes_eq c.word command) commands)
+
+-- the job of values in their ranges
+abbrev pub job_of_values : Values → Bool → List Text → Option Job
+job_of_values value no_merging plain =
+    if all_hold value then command_job value no_merging plain else None
+
+-- the job of options and plain words: the options are well given, and their values are allowed
+abbrev pub job_by : List Given → List Text → Option Job
+job_by os plain =
+    if is_well_given value_names os then job_of_values (value_in os) (is_given os no_merge) plain else None
 
 -- the job of the words, where they ask for one
-abbrev pub job_of : List (List ℕ) → Option Job
-job_of (command ∷ model ∷ option ∷ horizon ∷ []) =
-    if is_plan command model option then plan_over model (horizon_of horizon) else None
-job_of _ = None
+abbrev pub job_of : List Text → Option Job
+job_of words = job_by (options_of may_be_value words) (plain_of may_be_value words)
 
 -- The words were read as that job, or as a fault of usage where there is none, or memory ran out.
 abbrev pub IsReadAs : Option Job → Result Job WordFault → Type 0
@@ -64,3 +164,7 @@ IsReadAs job (Err faults.Memory) = Unit {0}
 -- a plan is over at least one step
 abbrev pub HasSomeStep : Job → Type 0
 HasSomeStep (Plan job) = 1 ≤ job.horizon
+
+-- the look of a plan is from 1 to 16
+abbrev pub HasLook : Job → Type 0
+HasLook (Plan job) = (1 ≤ job.look) × (job.look ≤ 16)

@@ -2,8 +2,12 @@
 #![tactic(auto)]
 
 mod job;
+mod line;
 mod name;
 mod number;
+mod parse;
+mod read;
 
-pub use job::{Job, OrderWord, PlanJob, WordFault, read_words};
+pub use job::{Job, OrderWord, PlanJob, WordFault};
 pub use name::Name;
+pub use read::read_words;

@@ -1,5 +1,5 @@
 // Numbers as the command line writes them.
-ghost use Rattle.std.specs.Prelude.{◌≡◌, ◌≤◌, ◌-◌, ◌^◌, IfSome};
+ghost use Rattle.std.specs.Prelude.{◌≡◌};
 ghost use Rattle.dp_words.specs.Words.{is_number, number_of};
 
 use dp_base::is_index;
@@ -11,17 +11,16 @@ fn is_number(word: &[u8]) -> bool
     is_index(word) && (word.len() == 1 || !word.starts_with(b"0"))
 }
 
-// The number that a word writes, where it is at least `least`.
+// The number that a word writes, where it is in the range.
 #[tactic(auto)]
-pub fn number(word: &str, least: u32) -> Option<u32>
-    ensures is { result ≡ number_of least (2 ^ 32 - 1) word.now }
-    ensures limit { IfSome result (λ number. least ≤ number) }
+pub fn number(word: &str, least: u64, most: u64) -> Option<u64>
+    ensures { result ≡ number_of least most word.now }
 {
     if !is_number(word.as_bytes()) {
         return None;
     }
-    match word.parse::<u32>() {
-        Ok(number) if number >= least => Some(number),
+    match word.parse::<u64>() {
+        Ok(number) if least <= number && number <= most => Some(number),
         _ => None,
     }
 }

@@ -3,6 +3,7 @@ use Rattle.dp_cli.proofs.Certifying.{certified}
 use Rattle.dp_cli.proofs.Doing.{runs_by}
 use Rattle.dp_cli.proofs.Finding.{found}
 use Rattle.dp_cli.proofs.Telling.{cause_as_told, refused_as_told, runs_as_told}
+use Rattle.dp_cli.proofs.TooLong.{too_long}
 use Rattle.dp_cli.proofs.run.Goals as goal
 
 pub returns-clause-runs : goal.returns-clause-runs
@@ -22,6 +23,9 @@ returns-clause-unchanged g c = contents_unchanged _ _ _ _ c.do_words-outcome.ens
 
 pub returns-clause-certified : goal.returns-clause-certified
 returns-clause-certified g c = certified _ _ _ _ _ _ (runs_by _ c.do_words-outcome.result c.do_words-outcome.ensures c.put_outcome.ensures)
+
+pub returns-clause-too_long : goal.returns-clause-too_long
+returns-clause-too_long g c = too_long _ _ _ _ _ _ (runs_by _ c.do_words-outcome.result c.do_words-outcome.ensures c.put_outcome.ensures)
 
 pub returns-clause-found : goal.returns-clause-found
 returns-clause-found g c = λ no_fault memory.

@@ -1,6 +1,6 @@
 use Rattle.std.proofs.Common.{refl, sym, ap, ◌∙◌}
 use Rattle.std.specs.Result.{result_err}
-use Rattle.dp_lexer.proofs.Loop.{IsPiece, starts, keeps_token, keeps_none, next_line_feed, next_line_other, is_bad, is_done}
+use Rattle.dp_lexer.proofs.Loop.{IsLexeme, starts, keeps_token, keeps_none, next_line_feed, next_line_other, is_bad, is_done}
 use Rattle.dp_lexer.proofs.WholeText.{first_bad_byte_is_named, tokens_are_of_text}
 use Rattle.dp_lexer.proofs.lex.Goals as goal
 use Rattle.dp_lexer.proofs.lex.Goals.{After-kind_of, in-Some+in_ok-push, in_default-kind_of}
@@ -14,9 +14,9 @@ returns-in-Bad-clause-first_bad_byte c =
     (c.loop-at.at, bad, sym (first_bad_byte_is_named c.args.bytes.now) ∙ ap result_err bad, c.loop-at.invariant.line_is, c.column_at-column.ensures)
 
 -- what an iteration learns
-piece : (c : After-kind_of)
-    → IsPiece c.args.bytes.now c.loop-at.at c.more_of.result c.class_of-class.result c.kind_of.result
-piece c = record {
+lexeme : (c : After-kind_of)
+    → IsLexeme c.args.bytes.now c.loop-at.at c.more_of.result c.class_of-class.result c.kind_of.result
+lexeme c = record {
   inside = c.loop-at-test.true;
   class_is = c.class_of-class.ensures;
   good = c.in_default.not-Bad;
@@ -26,7 +26,7 @@ piece c = record {
 
 pub loop-at-preserved-in-LineFeed : goal.loop-at-preserved-in-LineFeed
 loop-at-preserved-in-LineFeed c =
-    let found = piece (goal.at.loop-at-preserved-in-LineFeed c).After-kind_of in
+    let found = lexeme (goal.at.loop-at-preserved-in-LineFeed c).After-kind_of in
     let line_is = next_line_feed c.loop-at.invariant _ _ _ found c.in-LineFeed.is in
     elim c.match-kind_of.branch [
       | in-Some+in_ok-push w ↦ rw (w.tokens-is, w.in_ok-push.ensures.items)
@@ -36,7 +36,7 @@ loop-at-preserved-in-LineFeed c =
 
 pub loop-at-preserved : goal.loop-at-preserved
 loop-at-preserved c =
-    let found = piece (goal.at.loop-at-preserved c).After-kind_of in
+    let found = lexeme (goal.at.loop-at-preserved c).After-kind_of in
     let line_is = next_line_other c.loop-at.invariant _ _ _ found c.in_default-class.not-LineFeed in
     elim c.match-kind_of.branch [
       | in-Some+in_ok-push w ↦ rw (w.tokens-is, w.in_ok-push.ensures.items)

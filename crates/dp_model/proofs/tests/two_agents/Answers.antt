@@ -1,7 +1,7 @@
 use Rattle.std.proofs.Common.{◌≡◌, ◌∙◌, [], ◌∷◌, replicate, sym, subst}
 use Rattle.dp_spec.specs.Model.{IsModel}
 use Rattle.dp_model.specs.Parts.{AreParts}
-use Rattle.dp_model.specs.Tables.{model_of}
+use Rattle.dp_model.specs.Tables.{model_of_tables}
 use Rattle.dp_model.proofs.TwoAgents.{is_model, are_actions, are_observations, rewards, two_agents}
 use Rattle.dp_model.proofs.tests.two_agents.Goals as goal
 
@@ -13,7 +13,7 @@ build-requires-clause-model c =
     let trans : c.of-4.result ≡ replicate 6 1 = c.of-4.ensures ∙ c.in_ok-vec-4.ensures.items in
     let obs : c.of-5.result ≡ replicate 12 1 = c.of-5.ensures ∙ c.in_ok-vec-5.ensures.items in
     let reward : c.of-6.result ≡ rewards = c.of-6.ensures ∙ c.in_ok-vec-6.ensures.items in
-    let is : model_of (record { states = 1; actions = c.of.result; observations = c.of-2.result })
+    let is : model_of_tables (record { states = 1; actions = c.of.result; observations = c.of-2.result })
     (record { start = 1; trans = 1; obs = 2; reward = 1; discount = 1; gain = 1 })
     (record { start = c.of-3.result; trans = c.of-4.result; obs = c.of-5.result; reward = c.of-6.result }) ≡ two_agents =
     λ i. record {

@@ -22,7 +22,7 @@ so_far c =
     let lt = c.loop-action-test.true in
     let is = c.joint_actions-action-end.ensures.is in
     let below : c.loop-action.best.action < joint_actions m = omega arith in
-    read_back _ _ c.loop-action.invariant.value (constant_value_fits m c.kept.ensures.model c.requires.exact c.loop-action.best.action below)
+    read_back _ _ c.loop-action.invariant.value (constant_value_fits m c.invariant.ensures.model c.requires.exact c.loop-action.best.action below)
 
 pub loop-action-preserved : goal.loop-action-preserved
 loop-action-preserved c =

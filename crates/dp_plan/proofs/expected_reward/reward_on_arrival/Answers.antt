@@ -20,7 +20,7 @@ below c = let end = c.joint_observations-o-end.ensures.is in let lt = c.loop-o-t
 term : (c : goal.After-weighed-total) → IsTerm c
 term c =
     let m : Model = c.args.model.now.model in
-    let room = arrival_room m c.kept.ensures.model c.requires.exact c.args.a c.requires.action c.args.s c.args.t c.requires.next in
+    let room = arrival_room m c.invariant.ensures.model c.requires.exact c.args.a c.requires.action c.args.s c.args.t c.requires.next in
     let reward : c.from.result ≡ reward_at m c.args.a c.args.s c.args.t c.loop-o.o = c.from.ensures ∙ to_z-of_z w64 c.reward.result (search rules) ∙ c.reward.ensures in
     let number : to_z w128 (of_z w128 c.from.result) ≡ reward_at m c.args.a c.args.s c.args.t c.loop-o.o = to_z-of_z w128 c.from.result (search rules) ∙ reward in
     read_back _ _ (c.weighed-total.ensures ∙ λ i. pos (c.obs.ensures i) *ℤ number i)
@@ -29,13 +29,13 @@ term c =
 pub overflow_add-total : goal.overflow_add-total
 overflow_add-total c =
     let m : Model = c.args.model.now.model in
-    let room = arrival_room m c.kept.ensures.model c.requires.exact c.args.a c.requires.action c.args.s c.args.t c.requires.next in
+    let room = arrival_room m c.invariant.ensures.model c.requires.exact c.args.a c.requires.action c.args.s c.args.t c.requires.next in
     next_fits _ _ c.loop-o.o (obs_at m c.args.a c.args.t) (reward_at m c.args.a c.args.s c.args.t) _ _ room (below c) c.loop-o.invariant (term c)
 
 pub loop-o-preserved : goal.loop-o-preserved
 loop-o-preserved c =
     let m : Model = c.args.model.now.model in
-    let room = arrival_room m c.kept.ensures.model c.requires.exact c.args.a c.requires.action c.args.s c.args.t c.requires.next in
+    let room = arrival_room m c.invariant.ensures.model c.requires.exact c.args.a c.requires.action c.args.s c.args.t c.requires.next in
     next_sum _ _ c.loop-o.o (obs_at m c.args.a c.args.t) (reward_at m c.args.a c.args.s c.args.t) _ _ room (below c) c.loop-o.invariant (term c)
 
 pub returns : goal.returns

@@ -16,4 +16,4 @@ returns-in-Ok-clause-is c =
 pub returns-in-Err-clause-is : goal.returns-in-Err-clause-is
 returns-in-Err-clause-is c =
     start_failed c.args.text.now c.args.scale c.states.result c.args.cells.now c.args.cells.now _ c.requires.scale c.states.ensures.is c.requires.given
-    c.in-Err.ensures.row c.in-Err.ensures.is c.args.end ∙ start_fault _ c.args.text.now.header.start c.start_at.ensures
+    c.in-Err.ensures.row c.in-Err.ensures.is c.args.end ∙ start_fault _ c.args.text.now.header.start c.offset_of_start.ensures

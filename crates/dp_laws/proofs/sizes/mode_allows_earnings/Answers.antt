@@ -1,5 +1,0 @@
-use Rattle.dp_laws.proofs.SizeLaws.{mode_can_earn}
-use Rattle.dp_laws.proofs.sizes.mode_allows_earnings.Goals as goal
-
-pub returns : goal.returns
-returns c = mode_can_earn

@@ -1,0 +1,111 @@
+-- Worked rows, computed: lists of words with the job that they ask for, or none.
+use Rattle.std.proofs.Common.{◌≡◌, ℕ, true, [], ◌∷◌, Option, Some, None, codes, refl}
+use Rattle.dp_base.specs.DecimalShape.{is_index}
+use Rattle.dp_words.specs.declared.job.Job.{Job}
+use Rattle.dp_words.specs.declared.job.Job.TheVariants.{Plan}
+use Rattle.dp_words.specs.declared.job.OrderWord.TheVariants.{First}
+use Rattle.dp_words.specs.Line.{Text}
+use Rattle.dp_words.specs.Words.{job_of}
+
+-- a plan of that file over so many steps, and of all that no word sets
+abbrev plan : Text → ℕ → Option Job
+plan model horizon = Some (Plan (record {
+  model = model;
+  version = 1;
+  horizon = horizon;
+  nodes = 100000;
+  look = 1;
+  merge = true;
+  order = First;
+}))
+
+option_behind : job_of (codes "plan" ∷ codes "m" ∷ codes "--horizon" ∷ codes "12" ∷ []) ≡ plan (codes "m") 12
+unfolding is_index
+option_behind = refl
+
+option_before : job_of (codes "--horizon" ∷ codes "1" ∷ codes "plan" ∷ codes "m" ∷ []) ≡ plan (codes "m") 1
+unfolding is_index
+option_before = refl
+
+joined : job_of (codes "plan" ∷ codes "--horizon=7" ∷ codes "m" ∷ []) ≡ plan (codes "m") 7
+unfolding is_index
+joined = refl
+
+-- what follows the first `=` is the value, which is no number here
+joined_twice : job_of (codes "plan" ∷ codes "--horizon==7" ∷ codes "m" ∷ []) ≡ None
+unfolding is_index
+joined_twice = refl
+
+-- ---- dashes
+
+file_with_a_dash : job_of (codes "plan" ∷ codes "--horizon" ∷ codes "1" ∷ codes "--" ∷ codes "-m" ∷ [])
+    ≡ plan (codes "-m") 1
+unfolding is_index
+file_with_a_dash = refl
+
+no_option_behind : job_of (codes "plan" ∷ codes "m" ∷ codes "--" ∷ codes "--horizon" ∷ codes "1" ∷ []) ≡ None
+unfolding is_index
+no_option_behind = refl
+
+second_is_a_file : job_of (codes "plan" ∷ codes "--horizon" ∷ codes "1" ∷ codes "--" ∷ codes "--" ∷ [])
+    ≡ plan (codes "--") 1
+unfolding is_index
+second_is_a_file = refl
+
+dash_is_a_file : job_of (codes "plan" ∷ codes "-" ∷ codes "--horizon" ∷ codes "1" ∷ []) ≡ plan (codes "-") 1
+unfolding is_index
+dash_is_a_file = refl
+
+-- an option whose value begins with a dash is without it, and the dash is a second file
+dash_is_no_value : job_of (codes "plan" ∷ codes "m" ∷ codes "--horizon" ∷ codes "-" ∷ []) ≡ None
+unfolding is_index
+dash_is_no_value = refl
+
+no_short_flags : job_of (codes "plan" ∷ codes "-m" ∷ codes "--horizon" ∷ codes "1" ∷ []) ≡ None
+unfolding is_index
+no_short_flags = refl
+
+-- ---- what is refused
+
+given_twice : job_of (codes "plan" ∷ codes "m" ∷ codes "--horizon=1" ∷ codes "--horizon" ∷ codes "1" ∷ []) ≡ None
+unfolding is_index
+given_twice = refl
+
+option_of_no_command : job_of (codes "plan" ∷ codes "m" ∷ codes "--horizon" ∷ codes "1" ∷ codes "--no-merge" ∷ [])
+    ≡ None
+unfolding is_index
+option_of_no_command = refl
+
+no_horizon : job_of (codes "plan" ∷ codes "m" ∷ []) ≡ None
+unfolding is_index
+no_horizon = refl
+
+two_files : job_of (codes "plan" ∷ codes "m" ∷ codes "n" ∷ codes "--horizon" ∷ codes "1" ∷ []) ≡ None
+unfolding is_index
+two_files = refl
+
+no_words : job_of [] ≡ None
+no_words = refl
+
+-- ---- numbers
+
+greatest_horizon : job_of (codes "plan" ∷ codes "m" ∷ codes "--horizon" ∷ codes "4294967295" ∷ [])
+    ≡ plan (codes "m") 4294967295
+unfolding is_index
+greatest_horizon = refl
+
+one_more : job_of (codes "plan" ∷ codes "m" ∷ codes "--horizon" ∷ codes "4294967296" ∷ []) ≡ None
+unfolding is_index
+one_more = refl
+
+no_step : job_of (codes "plan" ∷ codes "m" ∷ codes "--horizon" ∷ codes "0" ∷ []) ≡ None
+unfolding is_index
+no_step = refl
+
+leading_zero : job_of (codes "plan" ∷ codes "m" ∷ codes "--horizon" ∷ codes "01" ∷ []) ≡ None
+unfolding is_index
+leading_zero = refl
+
+with_a_sign : job_of (codes "plan" ∷ codes "m" ∷ codes "--horizon" ∷ codes "+1" ∷ []) ≡ None
+unfolding is_index
+with_a_sign = refl

@@ -1,0 +1,112 @@
+// The job of the words.
+ghost use Rattle.std.specs.Prelude.{◌≡◌, ◌∷◌, IfOk, map, true, string_bytes};
+ghost use Rattle.dp_words.specs.Words.{HasLook, HasSomeStep, IsReadAs, all_hold, command_job, job_of, job_of_values, plan_row, row_job};
+ghost use Rattle.dp_words.specs.Command.{merging_off, plain_words, values_of};
+
+use crate::job::{Job, OrderWord, PlanJob, WordFault};
+use crate::line::{Setting, all_hold, fits, merging_off, value_of};
+use crate::name::Name;
+use crate::parse::parsed;
+use clap::ArgMatches;
+use std::alloc::Global;
+
+const HORIZON: Setting = Setting {
+    name: "horizon",
+    least: 1,
+    most: 4_294_967_295,
+    default: None,
+};
+
+// The options that take a value, in the order of the table.
+static SETTINGS: [Setting; 1] = [HORIZON];
+
+// The options of `plan`, all of which it requires.
+static PLAN: [&str; 1] = ["horizon"];
+
+// What a plan does where the words do not say.
+const DEFAULT_VERSION: u32 = 1;
+
+const DEFAULT_NODES: u32 = 100_000;
+
+const DEFAULT_LOOK: u32 = 1;
+
+// Whether the values are in their ranges.
+fn are_in_range(given: &ArgMatches<'_>) -> bool
+    ensures { result ≡ all_hold (values_of given.now) }
+{
+    all_hold(given, SETTINGS.as_slice())
+}
+
+// `plan MODEL`
+fn plan(alloc: Global, given: &ArgMatches<'_>, files: &[&str]) -> Result<Job, WordFault>
+    requires { all_hold (values_of given.now) ≡ true }
+    ensures { IsReadAs (row_job (values_of given.now) (merging_off given.now) (map (λ f. f.now) files.now)
+        plan_row) result }
+{
+    let [model] = files else {
+        return Err(WordFault::Usage);
+    };
+    if !fits(given, PLAN.as_slice(), PLAN.as_slice()) {
+        return Err(WordFault::Usage);
+    }
+    Ok(Job::Plan(PlanJob {
+        model: Name::of(alloc, model)?,
+        version: DEFAULT_VERSION,
+        horizon: value_of(given, HORIZON) as u32,
+        nodes: DEFAULT_NODES,
+        look: DEFAULT_LOOK,
+        merge: !merging_off(given),
+        order: OrderWord::First,
+    }))
+}
+
+// The job of a command.
+fn command_job(
+    alloc: Global,
+    given: &ArgMatches<'_>,
+    command: &str,
+    files: &[&str],
+) -> Result<Job, WordFault>
+    requires { all_hold (values_of given.now) ≡ true }
+    ensures { IsReadAs (command_job (values_of given.now) (merging_off given.now)
+        (command.now ∷ map (λ f. f.now) files.now)) result }
+{
+    match command {
+        "plan" => plan(alloc, given, files),
+        _ => Err(WordFault::Usage),
+    }
+}
+
+// The job of the matches.
+fn matches_job(alloc: Global, given: &ArgMatches<'_>) -> Result<Job, WordFault>
+    ensures { IsReadAs (job_of_values (values_of given.now) (merging_off given.now) (plain_words given.now)) result }
+{
+    if !are_in_range(given) {
+        return Err(WordFault::Usage);
+    }
+    let Some(plain) = given.get_strs("words") else {
+        return Err(WordFault::Usage);
+    };
+    let [command, files @ ..] = plain else {
+        return Err(WordFault::Usage);
+    };
+    command_job(alloc, given, command, files)
+}
+
+/// The job that the words ask for: those after the program's name. An option begins with a dash,
+/// stands anywhere before a word `--`, and takes for its value what follows its `=`, or else the
+/// next word where that does not begin with a dash. The first of the other words is the command,
+/// and the rest are its files. `Usage` comes exactly where the words ask for no job: where the
+/// command is unknown, its files are not as many as it takes, an option is unknown, is not the
+/// command's, is given twice or has no value in its range, or one that it requires is missing.
+///
+/// Today the one command is `plan MODEL --horizon H`, where H is from 1 to 4,294,967,295, in digits
+/// that do not begin with 0. All that the words do not say has its default.
+pub fn read_words(alloc: Global, words: &[String]) -> Result<Job, WordFault>
+    ensures read { IsReadAs (job_of (map string_bytes words.now)) result }
+    ensures some_step { IfOk result HasSomeStep }
+    ensures look { IfOk result HasLook }
+{
+    let given = parsed(alloc, words)?;
+    matches_job(alloc, &given)
+}
