@@ -1,0 +1,91 @@
+-- What building the table asks of each row, from what it asks of the whole table.
+use Rattle.std.proofs.Common.{◌≡◌, ⊎_elim, ℕ, zero, suc, ◌*◌, ◌^◌, ◌<◌, ◌≤◌, ℤ, pos, ◌+ℤ◌, ◌*ℤ◌, List, [], ◌∷◌, ◌++◌, length, get_or, sym, subst, ◌∙◌, arith}
+use Rattle.std.proofs.Math.IntN.{zero-*ℤ}
+use Rattle.std.proofs.Math.Nat.{pow-le-pow_right, pow-suc}
+use Rattle.dp_base.proofs.Order.{last_or_before}
+use Rattle.std.proofs.lemmas.List.{get_or_append_left, get_or_default}
+use Rattle.std.proofs.Math.Seq.{get_or-append_seam}
+use Rattle.dp_spec.specs.declared.span.Span.{Span}
+use Rattle.dp_base.specs.Sums.{nat_sum}
+use Rattle.dp_spec.specs.Model.{Model, joint_actions, joint_observations, obs_at, reward_at, trans_at}
+use Rattle.dp_spec.specs.Arithmetic.{Arithmetic}
+use Rattle.dp_spec.specs.Quantities.{span_sum}
+use Rattle.dp_spec.specs.Calls.{Calls, size}
+use Rattle.dp_spec.specs.SizesOfTable.{table_reward_size}
+use Rattle.dp_base.proofs.Ring.{v, ◌⊕◌, ◌⊗◌, by_ring}
+use Rattle.dp_mdp.specs.Building.{AllowsLastRewards, AllowsRow, IsTabulating}
+use Rattle.dp_mdp.specs.StepRewards.{arrival_reward, reward_part, state_reward}
+
+into_sum : (a b c : ℤ) → a *ℤ c +ℤ b *ℤ c ≡ (a +ℤ b) *ℤ c
+into_sum a b c = by_ring (v a ⊗ v c ⊕ v b ⊗ v c) ((v a ⊕ v b) ⊗ v c) (omega arith)
+
+-- a sum of parts that are each c times what they were
+grown_sum : (n : ℕ) (f g : ℕ → Span) (c : ℤ) → ((i : ℕ) → i < n → (f i).high ≡ (g i).high *ℤ c)
+    → (span_sum n f).high ≡ (span_sum n g).high *ℤ c
+grown_sum zero f g c h = sym (zero-*ℤ c)
+grown_sum (suc n) f g c h =
+    rw (grown_sum n f g c (λ i p. h i (omega arith)), h n (omega arith)) (into_sum (span_sum n g).high (g n).high c)
+
+-- a reward is so many times that of the last step
+grown_reward : (A : Arithmetic) (C : Calls) (m : Model) (h k : ℕ) → IsTabulating A C m h k → (r : ℕ) (w : Span) (a s : ℕ)
+    → (state_reward A m r w a s).high ≡ (state_reward A m 0 w a s).high *ℤ pos (k ^ r)
+unfolding state_reward
+grown_reward A C m h k is r w a s =
+    grown_sum m.states (arrival_reward A m r w a s) (arrival_reward A m 0 w a s) (pos (k ^ r)) (λ t p.
+    grown_sum (joint_observations m) (reward_part A m r w a s t) (reward_part A m 0 w a s t) (pos (k ^ r)) (λ o q.
+    is.grows (A.chance w (trans_at m a s t) (obs_at m a t o)) (reward_at m a s t o) r))
+
+-- each row can be computed
+pub row_allowed : (A : Arithmetic) (C : Calls) (m : Model) (h k : ℕ) → IsTabulating A C m h k → (r : ℕ) → r < h
+    → AllowsRow A C m r (pos (k ^ r))
+row_allowed A C m h k is r lt = record {
+  zero = is.zero;
+  reward = λ a s pa ps. grown_reward A C m h k is r A.one a s;
+  carry = λ a s t pa ps pt. is.can.carry r a s t lt pa ps pt;
+  add = λ a s pa ps. is.can.add r a s lt pa ps;
+}
+
+-- all parts of a reward of the last step
+last_room : (A : Arithmetic) (C : Calls) (m : Model) (h k : ℕ) → IsTabulating A C m h k → 0 < h → (a s : ℕ)
+    → a < joint_actions m → s < m.states
+    → nat_sum m.states (λ t. nat_sum (joint_observations m) (λ o. size (reward_part A m 0 A.one a s t o))) < 2 ^ 127
+unfolding table_reward_size
+last_room A C m h k is some a s pa ps = let all = is.can.add 0 a s some pa ps in omega arith
+
+-- and so can the rewards of the last step
+pub last_allowed : (A : Arithmetic) (C : Calls) (m : Model) (h k : ℕ) → IsTabulating A C m h k → 0 < h
+    → AllowsLastRewards A C m
+last_allowed A C m h k is some = record {
+  zero = is.zero;
+  each = λ a s pa ps. record {
+    chance = λ t o step. is.can.chance a s t o step;
+    gain = λ t o step. is.can.gain 0 a s t o some step;
+    add = last_room A C m h k is some a s pa ps;
+  };
+}
+
+-- ---- the powers
+
+-- a lower power is no greater
+pub power_small : (k r h : ℕ) → 0 < k → r ≤ h → k ^ h < 2 ^ 127 → k ^ r < 2 ^ 127
+power_small k r h some le small = let less : k ^ r ≤ k ^ h = pow-le-pow_right some le in omega arith
+
+pub next_power : (p k r : ℕ) → p ≡ k ^ r → p * k ≡ k ^ suc r
+next_power p k r e = rw e (sym (pow-suc k r))
+
+-- ---- lists of rows
+
+-- an element that is read is the one at its place
+pub element_is : {X : Type 0} (xs : List X) (i : ℕ) (x d : X) → i < length xs → x ≡ get_or xs i x → x ≡ get_or xs i d
+element_is xs i x d lt e = e ∙ get_or_default xs i x d lt
+
+-- what is appended is the last
+last_at : (xs ys : List (List ℤ)) (n : ℕ) (x : List ℤ) → ys ≡ xs ++ x ∷ [] → length xs ≡ n → get_or ys n [] ≡ x
+last_at xs ys n x e len = rw e (subst (λ (k : ℕ). get_or (xs ++ x ∷ []) k [] ≡ x) len (get_or-append_seam xs x [] []))
+
+-- what holds of each row holds of one more
+pub one_more_row : (P : ℕ → List ℤ → Type 0) (xs ys : List (List ℤ)) (n : ℕ) (x : List ℤ) → ys ≡ xs ++ x ∷ []
+    → length xs ≡ n → ((r : ℕ) → r < n → P r (get_or xs r [])) → P n x → (r : ℕ) → r < suc n → P r (get_or ys r [])
+one_more_row P xs ys n x e len before here r lt =
+    ⊎_elim (λ is. subst (λ (k : ℕ). P k (get_or ys k [])) (sym is) (subst (P n) (sym (last_at xs ys n x e len)) here))
+    (λ less. subst (P r) (sym (rw e (get_or_append_left xs (x ∷ []) [] r (rw len less)))) (before r less)) (last_or_before r n lt)

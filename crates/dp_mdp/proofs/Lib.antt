@@ -1,0 +1,5 @@
+pub mod Growth
+pub mod Modes
+pub mod RunningSums
+pub mod StepParts
+pub mod TableBounds

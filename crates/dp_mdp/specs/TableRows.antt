@@ -1,0 +1,33 @@
+-- The rows of a table, as contracts see them: one for each number of steps that are left, with a value for each state.
+use Rattle.std.specs.Prelude.{ℕ, ◌*◌, ◌^◌, ◌<◌, ◌≤◌, ◌≡◌, Bool, ℤ, pos, ◌*ℤ◌, ◌≤ℤ◌, List, [], length, get_or}
+use Rattle.dp_spec.specs.Model.{Model, step_scale}
+use Rattle.dp_spec.specs.PolicyTree.{IsPolicyOf, PolicyTree}
+use Rattle.dp_spec.specs.Value.{backward_value}
+use Rattle.dp_spec.specs.Arithmetic.{Arithmetic}
+use Rattle.dp_spec.specs.Enclosure.{enclosure}
+use Rattle.dp_spec.specs.Quantities.{mdp_table_in}
+
+-- the value over r steps from state s
+abbrev pub value_at : List (List ℤ) → ℕ → ℕ → ℤ
+value_at rows r s = get_or (get_or rows r []) s (pos 0)
+
+-- the values over r steps from each state
+pub record IsRow (A : Arithmetic) (m : Model) (r : ℕ) (row : List ℤ) : Type 0 where
+  pub one_each : length row ≡ m.states
+  pub values : (s : ℕ) → s < m.states → get_or row s (pos 0) ≡ mdp_table_in A m r s
+
+-- the table up to a horizon of h steps
+pub record IsTable (A : Arithmetic) (m : Model) (h : ℕ) (rows : List (List ℤ)) : Type 0 where
+  pub long : h < length rows
+  pub each : (r : ℕ) → r ≤ h → IsRow A m r (get_or rows r [])
+
+-- what values over r steps from one state are counted in
+abbrev pub state_scale : Model → ℕ → ℕ
+state_scale m r = m.scales.reward * step_scale m ^ r
+
+-- No joint policy of r steps, r at most h, is worth more from a state than the table says in the unit of the mode (which
+-- is the scale itself in exact mode, and 10^9 in outward mode).
+abbrev pub BoundsEachValue : Bool → Model → ℕ → List (List ℤ) → Type 0
+BoundsEachValue e m h rows =
+    (r s : ℕ) (qs : List PolicyTree) → r ≤ h → s < m.states → IsPolicyOf m r qs →
+    (backward_value m r s qs *ℤ pos ((enclosure e).unit (state_scale m r))) ≤ℤ (value_at rows r s *ℤ pos (state_scale m r))

@@ -1,0 +1,46 @@
+-- What look-ahead asks for, in the arithmetic of a mode.
+use Rattle.std.proofs.Common.{◌≡◌, ℕ, suc, ◌-◌, ◌<◌, ◌≤◌, Bool, ℤ, List, length, sym, subst, ◌∙◌, arith}
+use Rattle.dp_spec.specs.declared.span.Span.{Span}
+use Rattle.dp_spec.specs.declared.scales.Scales.{Scales}
+use Rattle.dp_spec.specs.Model.{IsModel, Model}
+use Rattle.dp_spec.specs.Mode.{IsTrueFit, is_exact_mode}
+use Rattle.dp_spec.specs.Arithmetic.{arithmetic}
+use Rattle.dp_spec.specs.Calls.{calls_in}
+use Rattle.dp_spec.specs.Sizes.{AreWeights, CanUpdateWeights, CanReward}
+use Rattle.dp_spec.specs.SizesOfLookAhead.{CanLookAhead}
+use Rattle.dp_laws.proofs.SizeLaws.{arithmetic_is_exact, mode_can_look_ahead, mode_can_update_weights, mode_can_reward}
+use Rattle.dp_laws.proofs.Zeros.{mode_keeps_zero}
+use Rattle.dp_mdp.specs.TableRows.{IsTable}
+use Rattle.dp_pomdp.specs.Looking.{IsLooking, weights_of}
+
+-- The arithmetic of the mode of a true fit, made of the scales c, in the branch of a test of x where it is e: weights of
+-- time t can be looked ahead from over the r steps that are left.
+pub mode_looking : (e x : Bool) (c : Scales) (m : Model) → IsModel m → c ≡ m.scales → x ≡ e → (h t r : ℕ) (u : ℤ)
+    → IsTrueFit m h x u → t ≤ h → r ≡ h - t → (ws : List Span) → length ws ≡ m.states
+    → AreWeights x m t (weights_of ws) → IsLooking (arithmetic e c) (calls_in e c) m r ws
+mode_looking e x c m is same branch h t r u fit early left ws one_each are =
+    let mode : e ≡ is_exact_mode m h = sym branch ∙ fit.mode in
+    let some = fit.horizon.0 in
+    let most = fit.horizon.1 in
+    record {
+      zero = mode_keeps_zero e c;
+      horizon = h;
+      push = subst (λ (c : Scales). CanUpdateWeights (arithmetic e c) (calls_in e c) m h) (sym same) (mode_can_update_weights m is h some most e mode);
+      reward = subst (λ (c : Scales). CanReward (arithmetic e c) (calls_in e c) m h) (sym same) (mode_can_reward m is h some most e mode);
+      look = subst (λ (c : Scales). CanLookAhead (arithmetic e c) (calls_in e c) m h) (sym same) (mode_can_look_ahead m is h some most e mode);
+      time = t;
+      left = omega arith;
+      one_each = one_each;
+      weights = subst (λ (b : Bool). AreWeights b m t (weights_of ws)) (branch ∙ sym (arithmetic_is_exact e c)) are;
+    }
+
+-- the table of at most the horizon's steps
+pub mode_table : (e x : Bool) (c : Scales) (m : Model) → c ≡ m.scales → x ≡ e → (h r : ℕ) → r ≤ h
+    → (rows : List (List ℤ)) → IsTable (arithmetic x m.scales) m h rows → IsTable (arithmetic e c) m r rows
+mode_table e x c m same branch h r le rows table =
+    let here = subst (λ (b : Bool). IsTable (arithmetic b m.scales) m h rows) branch table in
+    let is = subst (λ (c : Scales). IsTable (arithmetic e c) m h rows) (sym same) here in
+    record {
+      long = let long = is.long in omega arith;
+      each = λ q below. is.each q (omega arith);
+    }

@@ -1,0 +1,18 @@
+use Rattle.std.proofs.Common.{◌≡◌, ◌<◌, ◌+◌, ◌-◌, ◌+ℤ◌, suc, length}
+use Rattle.dp_spec.specs.Model.{joint_observations}
+use Rattle.dp_spec.specs.Quantities.{action_look_ahead_in, look_ahead_in, weighted_reward_in, weights_after_in}
+use Rattle.dp_base.specs.Sums.{greatest, int_sum, numbers_below}
+use Rattle.dp_pomdp.specs.Looking.{weights_of}
+use Rattle.dp_pomdp.proofs.recursion.+looking.Given as goal
+
+abbrev pub decreases-action_look_ahead : goal.decreases-action_look_ahead
+decreases-action_look_ahead g l = suc (l.rest + l.rest)
+
+abbrev pub decreases-look_ahead : goal.decreases-look_ahead
+decreases-look_ahead g l = l.rest + l.rest
+
+abbrev pub invariant-action_look_ahead-loop-seen : goal.invariant-action_look_ahead-loop-seen
+invariant-action_look_ahead-loop-seen g l = l.total ≡ (weighted_reward_in (g.A.Arith.operations l.arith) l.model.model l.rest (weights_of l.weights) l.action).high +ℤ int_sum l.seen (λ o. look_ahead_in (g.A.Arith.operations l.arith) l.model.model l.rest (weights_after_in (g.A.Arith.operations l.arith) l.model.model (weights_of l.weights) l.action o) (l.look - 1))
+
+abbrev pub invariant-look_ahead-loop-action : goal.invariant-look_ahead-loop-action
+invariant-look_ahead-loop-action g l = l.best ≡ greatest (λ a. action_look_ahead_in (g.A.Arith.operations l.arith) l.model.model (l.rest - 1) (weights_of l.weights) a l.look) (numbers_below l.action)

@@ -1,0 +1,43 @@
+-- Weights held in a list, and that an arithmetic can go on from them.
+use Rattle.std.specs.Prelude.{ℕ, ◌+◌, ◌≡◌, ◌<◌, ◌≤◌, List, length, pos, slice_index_or, suc}
+use Rattle.dp_spec.specs.declared.span.Span.{Span}
+use Rattle.dp_spec.specs.Model.{Model, obs_at, trans_at}
+use Rattle.dp_spec.specs.Arithmetic.{Arithmetic, point}
+use Rattle.dp_spec.specs.Calls.{Calls}
+use Rattle.dp_spec.specs.Quantities.{span_sum}
+use Rattle.dp_spec.specs.Sizes.{AreWeights, CanUpdateWeights, CanReward}
+use Rattle.dp_spec.specs.SizesOfLookAhead.{CanLookAhead}
+use Rattle.dp_spec.specs.Zeros.{KeepsZero}
+
+-- the weight of each state
+abbrev pub weights_of : List Span → ℕ → Span
+weights_of ws s = slice_index_or ws s (point (pos 0))
+
+-- they are weights of the time at which r steps are left, for which the arithmetic can look ahead
+pub record IsLooking (A : Arithmetic) (C : Calls) (m : Model) (r : ℕ) (ws : List Span) : Type 0 where
+  pub zero : KeepsZero A
+  pub horizon : ℕ
+  pub push : CanUpdateWeights A C m horizon
+  pub reward : CanReward A C m horizon
+  pub look : CanLookAhead A C m horizon
+  pub time : ℕ
+  pub left : time + r ≡ horizon
+  pub one_each : length ws ≡ m.states
+  pub weights : AreWeights A.is_exact m time (weights_of ws)
+
+-- they are weights of a time before the horizon
+abbrev pub IsBeforeHorizon : Arithmetic → Calls → Model → List Span → Type 0
+IsBeforeHorizon A C m ws = (r : ℕ) × IsLooking A C m (suc r) ws
+
+-- no state has a weight
+abbrev pub AreZero : List Span → Type 0
+AreZero ws = (s : ℕ) → s < length ws → (slice_index_or ws s (point (pos 0))).high ≡ pos 0
+
+-- the part of the next weight of state t that comes from state s
+abbrev pub updated_part : Arithmetic → Model → List Span → ℕ → ℕ → ℕ → ℕ → Span
+updated_part A m ws a o t s = A.later (A.chance (weights_of ws s) (trans_at m a s t) (obs_at m a t o))
+
+-- next weights as far as they come from the first k states
+pub record IsPushed (A : Arithmetic) (m : Model) (ws : List Span) (a o k : ℕ) (next : List Span) : Type 0 where
+  pub one_each : length next ≡ m.states
+  pub sums : (t : ℕ) → t < m.states → weights_of next t ≡ span_sum k (updated_part A m ws a o t)

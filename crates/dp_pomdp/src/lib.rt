@@ -1,0 +1,8 @@
+//! Look-ahead from weights over the states, as if one agent saw every joint observation.
+#![tactic(auto)]
+
+mod bounds;
+mod recursion;
+mod step;
+
+pub use bounds::{LookRoom, action_bound, tail_bound};
