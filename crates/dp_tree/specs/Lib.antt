@@ -1,0 +1,2 @@
+pub mod TreeValue
+pub mod Nodes
