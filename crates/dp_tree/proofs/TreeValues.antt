@@ -9,7 +9,8 @@ use Rattle.dp_tree.specs.declared.tree.Tree.TheVariants as variants
 use Rattle.dp_tree.specs.declared.tree.Tree.TheFolds.{fold-Tree, fold-roll-Tree}
 use Rattle.dp_tree.specs.TreeValue.{bound_trees, bound_tree, bound_tree_node}
 
-pub trees_more : (ns : List ArenaNode) (ts : List BoundTree) (t : BoundTree) (f n : ℕ) → AreTreesAt ns f n (bound_trees ts) → IsTreeAt ns (f + n) t
+pub trees_more : (ns : List ArenaNode) (ts : List BoundTree) (t : BoundTree) (f n : ℕ)
+    → AreTreesAt ns f n (bound_trees ts) → IsTreeAt ns (f + n) t
     → AreTreesAt ns f (n + 1) (bound_trees (ts ++ t ∷ []))
 trees_more ns [] t f n at more =
     let e : f + n ≡ f = omega (arith, at) in
@@ -22,12 +23,16 @@ trees_more ns (u ∷ ts) t f n at more =
 -- ---- what `bound_tree` says of each variant
 pub bound_tree_leaf : (x : ℤ) → bound_tree (block.Leaf x) ≡ leaf x
 unfolding bound_tree
-bound_tree_leaf x = ap (fold-Tree BoundTree bound_tree_node) (sym (variants.rolls-Leaf x)) ∙ fold-roll-Tree BoundTree bound_tree_node _
+bound_tree_leaf x = ap (fold-Tree BoundTree bound_tree_node) (sym (variants.rolls-Leaf x))
+    ∙ fold-roll-Tree BoundTree bound_tree_node _
 
-pub bound_tree_branch : (i c : ℕ) (kids : _) → bound_tree (views.Branch i c kids) ≡ branch i c (bound_trees (map bound_tree kids.items))
+pub bound_tree_branch : (i c : ℕ) (kids : _)
+    → bound_tree (views.Branch i c kids) ≡ branch i c (bound_trees (map bound_tree kids.items))
 unfolding bound_tree
-bound_tree_branch i c kids = ap (fold-Tree BoundTree bound_tree_node) (sym (variants.rolls-Branch i c kids)) ∙ fold-roll-Tree BoundTree bound_tree_node _
+bound_tree_branch i c kids = ap (fold-Tree BoundTree bound_tree_node) (sym (variants.rolls-Branch i c kids))
+    ∙ fold-roll-Tree BoundTree bound_tree_node _
 
 pub bound_tree_merge : (i a b : ℕ) (kid : _) → bound_tree (views.Merge i a b kid) ≡ merge i a b (bound_tree kid.value)
 unfolding bound_tree
-bound_tree_merge i a b kid = ap (fold-Tree BoundTree bound_tree_node) (sym (variants.rolls-Merge i a b kid)) ∙ fold-roll-Tree BoundTree bound_tree_node _
+bound_tree_merge i a b kid = ap (fold-Tree BoundTree bound_tree_node) (sym (variants.rolls-Merge i a b kid))
+    ∙ fold-roll-Tree BoundTree bound_tree_node _

@@ -53,7 +53,8 @@ impl NodeArena {
     /// One leaf with this bound, node 0, in an arena that may have `most` nodes.
     pub fn new(alloc: Global, bound: i128, most: u32) -> Result<NodeArena, Memory>
         requires { 0 < most }
-        ensures leaf { IfOk result (λ a. a ≡ record { nodes = record { above = 0; kind = Leaf bound } ∷ []; most = most }) }
+        ensures leaf { IfOk result (λ a.
+            a ≡ record { nodes = record { above = 0; kind = Leaf bound } ∷ []; most = most }) }
     {
         let mut nodes = Vec::new(alloc);
         nodes.push(ArenaNode {
@@ -103,9 +104,11 @@ impl NodeArena {
         requires is_leaf { IsLeaf (kind_at self.old.nodes leaf) }
         requires shallow { above_at self.old.nodes leaf < 2048 }
         requires children { HasChildren step (length bounds.now) }
-        ensures ok { IfOk result (λ first. self.new ≡ record self.old { nodes = grown self.old.nodes leaf step bounds.now }) }
+        ensures ok { IfOk result (λ first.
+            self.new ≡ record self.old { nodes = grown self.old.nodes leaf step bounds.now }) }
         ensures first { IfOk result (λ first. first ≡ length self.old.nodes) }
-        ensures full { (result ≡ Err GrowFault.Full) ↔ (self.old.most < length self.old.nodes + length bounds.now) }
+        ensures full { (result ≡ Err GrowFault.Full)
+            ↔ (self.old.most < length self.old.nodes + length bounds.now) }
         ensures unchanged { OnErr result (self.new ≡ self.old) }
     {
         let first = self.nodes.len();

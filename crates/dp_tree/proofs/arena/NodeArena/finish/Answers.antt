@@ -16,4 +16,6 @@ pub returns-clause-counted : goal.returns-clause-counted
 returns-clause-counted c =
     let same = c.deref.ensures.value ∙ ap (λ (v : Nodes). v.nodes) c.self.view_is in
     let arena = subst (λ (z : List ArenaNode). IsArena z) (sym c.deref.ensures.value) c.self.invariant.arena in
-    IfOk-weaker c.build.result (λ t. IsTreeAt c.deref.result.now 0 (bound_tree t)) (λ t. inner_count (bound_tree t) ≡ inner_nodes c.args.self.nodes) (λ t at. counted_below c.args.self.nodes c.deref.result.now (bound_tree t) same arena at) c.build.ensures
+    IfOk-weaker c.build.result (λ t. IsTreeAt c.deref.result.now 0 (bound_tree t)) (λ t. inner_count (bound_tree t)
+    ≡ inner_nodes c.args.self.nodes) (λ t at. counted_below c.args.self.nodes c.deref.result.now (bound_tree t)
+    same arena at) c.build.ensures

@@ -30,25 +30,40 @@ returns-in_err-append-clause-full c =
 -- the nodes after the write
 nodes_after : (c : goal.After-drop-children-2) →
     set (c.self.inside.nodes.items ++ c.in_ok-children.children.items) c.args.leaf
-    (record { above = c.index_mut.result.now.above; kind = kinds.Inner c.args.step c.len-first.result (length c.args.bounds.now) })
+    (record {
+      above = c.index_mut.result.now.above;
+      kind = kinds.Inner c.args.step c.len-first.result (length
+          c.args.bounds.now);
+    })
     ≡ grown c.args.self.now.nodes c.args.leaf c.args.step c.args.bounds.now
 nodes_after c =
     let same : c.self.inside.nodes.items ≡ c.args.self.now.nodes = ap (λ (v : Nodes). v.nodes) c.self.view_is in
-    let count : c.len-first.result ≡ length c.self.inside.nodes.items = let ok = c.self.inside.nodes.ok.0 in omega (arith, c.len-first.ensures) in
-    let over : c.index_mut.result.now ≡ get_or (c.self.inside.nodes.items ++ c.in_ok-children.children.items) c.args.leaf c.index_mut.result.now =
+    let count : c.len-first.result ≡ length c.self.inside.nodes.items = let ok = c.self.inside.nodes.ok.0 in omega
+    (arith, c.len-first.ensures) in
+    let over : c.index_mut.result.now ≡ get_or (c.self.inside.nodes.items ++ c.in_ok-children.children.items)
+    c.args.leaf c.index_mut.result.now =
     c.index_mut.ensures.value ∙ ap (λ z. get_or z c.args.leaf c.index_mut.result.now) c.in_ok-append.ensures.items in
-    ap (λ n. set (c.self.inside.nodes.items ++ c.in_ok-children.children.items) c.args.leaf (record { above = c.index_mut.result.now.above; kind = kinds.Inner c.args.step n (length c.args.bounds.now) })) count
-    ∙ written c.args.self.now.nodes c.self.inside.nodes.items c.in_ok-children.children.items c.args.leaf c.args.step c.args.bounds.now c.index.result.now c.index_mut.result.now c.requires.node same c.index.ensures c.in_ok-children.ensures over
+    ap (λ n. set (c.self.inside.nodes.items ++ c.in_ok-children.children.items) c.args.leaf (record {
+      above =
+          c.index_mut.result.now.above;
+      kind = kinds.Inner c.args.step n (length c.args.bounds.now);
+    })) count
+    ∙ written c.args.self.now.nodes c.self.inside.nodes.items c.in_ok-children.children.items c.args.leaf
+    c.args.step c.args.bounds.now c.index.result.now c.index_mut.result.now c.requires.node same c.index.ensures
+    c.in_ok-children.ensures over
 
 pub invariant_of-self-2 : goal.invariant_of-self-2
 invariant_of-self-2 c =
     let same : c.self.inside.nodes.items ≡ c.args.self.now.nodes = ap (λ (v : Nodes). v.nodes) c.self.view_is in
-    let count : c.len-first.result ≡ length c.self.inside.nodes.items = let ok = c.self.inside.nodes.ok.0 in omega (arith, c.len-first.ensures) in
+    let count : c.len-first.result ≡ length c.self.inside.nodes.items = let ok = c.self.inside.nodes.ok.0 in omega
+    (arith, c.len-first.ensures) in
     let len : length c.self.inside.nodes.items ≡ length c.args.self.now.nodes = ap length same in
     let few = c.self.invariant.few in
     let within = subst (λ (z : List ArenaNode). IsArenaWithin z c.self.inside.most) same c.self.invariant in
     rw (c.in_ok-append.ensures.items, nodes_after c)
-    (grows_within c.args.self.now.nodes c.args.leaf c.args.step c.args.bounds.now c.self.inside.most within c.requires.node c.requires.is_leaf c.requires.shallow c.requires.children (let room = c.if-bounds-self.false in omega arith))
+    (grows_within c.args.self.now.nodes c.args.leaf c.args.step c.args.bounds.now c.self.inside.most within
+    c.requires.node c.requires.is_leaf c.requires.shallow c.requires.children (let room = c.if-bounds-self.false
+    in omega arith))
 
 pub returns-clause-ok : goal.returns-clause-ok
 returns-clause-ok c =
