@@ -1,11 +1,11 @@
 -- Weights pushed forwards, as loops form them: state by state, and for each state next state by next state.
-use Rattle.std.proofs.Common.{◌≡◌, ◌≢◌, ℕ, zero, suc, ◌+◌, ◌^◌, ◌<◌, ◌≤◌, pos, ◌≤ℤ◌, List, length, get_or, set, inl, inr, refl, sym, ap, ◌∙◌, arith, get_or-set_other, get_or-set_same, subst}
+use Rattle.std.proofs.Common.{◌≡◌, ◌≢◌, ℕ, suc, ◌^◌, ◌<◌, ◌≤◌, pos, ◌≤ℤ◌, List, length, set, inl, inr, refl, sym, ap, ◌∙◌, arith, get_or-set_other, get_or-set_same}
 use Rattle.std.proofs.lemmas.Bool.{cases_lt}
 use Rattle.std.proofs.lemmas.Int.{ints}
 use Rattle.std.proofs.lemmas.List.{length-set}
 use Rattle.dp_spec.specs.declared.span.Span.{Span}
 use Rattle.dp_spec.specs.Model.{Model, joint_actions, joint_observations, obs_at, trans_at}
-use Rattle.dp_spec.specs.Arithmetic.{Arithmetic, point, span_add}
+use Rattle.dp_spec.specs.Arithmetic.{Arithmetic, span_add}
 use Rattle.dp_spec.specs.Calls.{Calls, size}
 use Rattle.dp_spec.specs.Quantities.{span_sum, weights_after_in}
 use Rattle.dp_spec.specs.Zeros.{KeepsZero, nothing}

@@ -1,5 +1,5 @@
 -- The reward of a joint action from weights, state by state.
-use Rattle.std.proofs.Common.{◌≡◌, ℕ, suc, ◌^◌, ◌<◌, ◌≤◌, pos, ℤ, List, length, refl, sym, ap, ◌∙◌, arith}
+use Rattle.std.proofs.Common.{◌≡◌, ℕ, suc, ◌^◌, ◌<◌, ◌≤◌, pos, ℤ, List, refl, sym, ap, ◌∙◌, arith}
 use Rattle.dp_spec.specs.declared.span.Span.{Span}
 use Rattle.dp_base.specs.Sums.{nat_sum}
 use Rattle.dp_spec.specs.Model.{Model, joint_actions, joint_observations, obs_at, reward_at, trans_at}

@@ -1,9 +1,9 @@
 -- No joint policy earns more than look-ahead says, in either mode.
-use Rattle.std.proofs.Common.{◌≡◌, ℕ, suc, ◌+◌, ◌*◌, ◌-◌, ◌^◌, ◌<◌, ◌≤◌, Bool, ℤ, pos, ◌*ℤ◌, ◌≤ℤ◌, List, sym, subst, ap, ◌∙◌, refl, arith}
+use Rattle.std.proofs.Common.{◌≡◌, ℕ, suc, ◌+◌, ◌*◌, ◌-◌, ◌^◌, ◌<◌, ◌≤◌, Bool, ℤ, pos, ◌*ℤ◌, ◌≤ℤ◌, List, sym, subst, ap, ◌∙◌, arith}
 use Rattle.std.proofs.lemmas.Nat.{pow-add}
 use Rattle.dp_spec.specs.declared.span.Span.{Span}
 use Rattle.dp_spec.specs.Model.{IsModel, Model, step_scale, value_scale}
-use Rattle.dp_spec.specs.Mode.{IsTrueFit, unit_of}
+use Rattle.dp_spec.specs.Mode.{IsTrueFit}
 use Rattle.dp_spec.specs.PolicyTree.{IsPolicyOf, PolicyTree}
 use Rattle.dp_spec.specs.Value.{joint_root_action}
 use Rattle.dp_spec.specs.LookAhead.{action_look_ahead, look_ahead}

@@ -2,7 +2,7 @@
 use Rattle.std.specs.Int.{w128}
 use Rattle.std.proofs.lemmas.Int.{fits_signed_from_abs}
 use Rattle.dp_mdp.proofs.RunningSums.{read_back}
-use Rattle.std.proofs.Common.{FitsSigned, to_z, of_z, add-one, ◌≡◌, ℕ, suc, zero, ◌+◌, ◌-◌, ◌*◌, ◌^◌, ◌<◌, ◌≤◌, ℤ, pos, ◌+ℤ◌, ◌≤ℤ◌, length, unsigned_abs, List, refl, sym, subst, ◌∙◌, arith}
+use Rattle.std.proofs.Common.{FitsSigned, to_z, of_z, add-one, ◌≡◌, ℕ, suc, zero, ◌+◌, ◌-◌, ◌*◌, ◌^◌, ◌<◌, ◌≤◌, ℤ, pos, ◌+ℤ◌, length, unsigned_abs, List, refl, sym, subst, ◌∙◌, arith}
 use Rattle.std.proofs.Math.Nat.{suc-mul}
 use Rattle.std.proofs.lemmas.Int.{ints}
 use Rattle.dp_spec.specs.declared.span.Span.{Span}

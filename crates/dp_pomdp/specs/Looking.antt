@@ -1,5 +1,5 @@
 -- Weights held in a list, and that an arithmetic can go on from them.
-use Rattle.std.specs.Prelude.{ℕ, ◌+◌, ◌≡◌, ◌<◌, ◌≤◌, List, length, pos, slice_index_or, suc}
+use Rattle.std.specs.Prelude.{ℕ, ◌+◌, ◌≡◌, ◌<◌, List, length, pos, slice_index_or, suc}
 use Rattle.dp_spec.specs.declared.span.Span.{Span}
 use Rattle.dp_spec.specs.Model.{Model, obs_at, trans_at}
 use Rattle.dp_spec.specs.Arithmetic.{Arithmetic, point}

@@ -1,4 +1,4 @@
-use Rattle.std.proofs.Common.{◌≡◌, suc, ◌+◌, ◌-◌, ◌<◌, ◌≤◌, true, false, sym, subst, ◌∙◌, arith}
+use Rattle.std.proofs.Common.{◌≡◌, suc, ◌-◌, ◌≤◌, true, false, sym, subst, ◌∙◌, arith}
 use Rattle.dp_spec.specs.Calls.{AreInRange}
 use Rattle.dp_spec.proofs.ScaleRange.{scales_in_range}
 use Rattle.dp_pomdp.proofs.Modes.{mode_looking}

@@ -1,5 +1,4 @@
-use Rattle.std.proofs.Common.{◌≡◌, ◌<◌, ◌+◌, ◌-◌, ◌+ℤ◌, suc, length}
-use Rattle.dp_spec.specs.Model.{joint_observations}
+use Rattle.std.proofs.Common.{◌≡◌, ◌+◌, ◌-◌, ◌+ℤ◌, suc}
 use Rattle.dp_spec.specs.Quantities.{action_look_ahead_in, look_ahead_in, weighted_reward_in, weights_after_in}
 use Rattle.dp_base.specs.Sums.{greatest, int_sum, numbers_below}
 use Rattle.dp_pomdp.specs.Looking.{weights_of}

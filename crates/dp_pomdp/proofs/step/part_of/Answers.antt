@@ -1,4 +1,3 @@
-use Rattle.std.proofs.Common.{◌≡◌}
 use Rattle.dp_pomdp.proofs.Pushes.{may_chance, may_later}
 use Rattle.dp_pomdp.proofs.step.part_of.Goals as goal
 

@@ -1,4 +1,4 @@
-use Rattle.std.proofs.Common.{◌≡◌, ◌<◌, ◌≤◌, arith}
+use Rattle.std.proofs.Common.{◌<◌, arith}
 use Rattle.dp_pomdp.proofs.Pushes.{may_add_part}
 use Rattle.dp_pomdp.proofs.step.push_state.Goals as goal
 
