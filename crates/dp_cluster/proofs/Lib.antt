@@ -1,0 +1,13 @@
+pub mod OwnParts
+pub mod Comparing
+pub mod FrontParts
+pub mod JoinedFronts
+pub mod JoinedWeights
+pub mod KeptFronts
+pub mod Modes
+pub mod ChosenActions
+pub mod AdvancedParts
+pub mod Advances
+pub mod Pairs
+pub mod Rewards
+pub mod WeightRows

@@ -1,0 +1,7 @@
+pub mod Advances
+pub mod AgentParts
+pub mod Joins
+pub mod KeepingPolicies
+pub mod KeptFronts
+pub mod Pairs
+pub mod Rewards

@@ -1,0 +1,227 @@
+//! The next stage of a front.
+ghost use Rattle.std.specs.Prelude.{◌≡◌, ℕ, suc, ◌+◌, ◌-◌, ◌*◌, ◌^◌, ◌<◌, ◌≤◌, ◌++◌, true, false, map, length, IfOk};
+ghost use Rattle.std.specs.List.{range_with_len};
+ghost use Rattle.dp_spec.specs.Arithmetic.{arithmetic};
+ghost use Rattle.dp_spec.specs.Front.{class_counts, fixed_joint_action};
+ghost use Rattle.dp_spec.specs.JointNumbers.{product};
+ghost use Rattle.dp_spec.specs.Model.{joint_actions, joint_observations};
+ghost use Rattle.dp_spec.specs.Quantities.{class_weight_in, earned_reward_in};
+ghost use Rattle.dp_spec.specs.Steps.{advanced_agents, advanced_front, is_complete};
+ghost use Rattle.dp_spec.specs.WellFormed.{IsFront};
+ghost use Rattle.dp_spec.specs.ClassSteps.{chosen_joint_action, pair_number};
+ghost use Rattle.dp_value.specs.WeightUpdates.{weights_of};
+ghost use Rattle.dp_cluster.specs.Advances.{IsAdvanceable, weight_rows};
+ghost use Rattle.dp_spec.specs.Wide.{has_room};
+ghost use Rattle.dp_cluster.specs.KeepingPolicies.{KeepsToo};
+ghost use Rattle.dp_cluster.specs.KeptFronts.{IsFrontOf, kept_weight, part_fronts, part_observations};
+
+use crate::Front;
+use crate::part::AgentPart;
+use crate::reward::weighted_reward;
+use dp_base::Memory;
+use dp_model::Model;
+use dp_num::{Arith, Exact, Outward, add_spans};
+use dp_spec::Span;
+use dp_value::next_weight;
+use std::alloc::Global;
+use std::rc::Rc;
+
+impl Front {
+    /// The front at the next stage, where every class has an action: class `c` followed by observation
+    /// `o` becomes class `c * O + o`, for the agent's `O` observations.
+    pub fn advance(&self, alloc: Global, m: &Model) -> Result<Front, Memory>
+        requires of_model { IsFrontOf m.now.model self.now }
+        requires stage { self.now.front.stage < self.now.horizon }
+        requires complete { is_complete self.now.front.agents ≡ true }
+        requires room { has_room m.now.model self.now.horizon (advanced_front m.now.model self.now.front) ≡ true }
+        ensures front { IfOk result (λ f. f.front ≡ advanced_front m.now.model self.now.front) }
+        ensures horizon { IfOk result (λ f. f.horizon ≡ self.now.horizon) }
+        ensures of_model { IfOk result (λ f. IsFrontOf m.now.model f) }
+        ensures keeps { IfOk result (λ f. KeepsToo m.now.model self.now.front f.front) }
+    {
+        m.invariant();
+        let earned = earned_in(self, m);
+        let weights = weights_in(alloc, self, m)?;
+        let agents = advanced_parts(alloc, self, m)?;
+        Ok(self.next(agents, Rc::new(alloc, weights)?, earned))
+    }
+}
+
+// The parts of the agents at the next stage.
+fn advanced_parts(alloc: Global, front: &Front, m: &Model) -> Result<Vec<Rc<AgentPart>>, Memory>
+    requires of_model { IsFrontOf m.now.model front.now }
+    requires stage { front.now.front.stage < front.now.horizon }
+    ensures fronts { IfOk result (λ v. part_fronts (map (λ p. p.value) v.items) ≡
+        advanced_agents m.now.model.observations front.now.front.stage front.now.front.agents) }
+    ensures observations { IfOk result (λ v. part_observations (map (λ p. p.value) v.items) ≡ m.now.model.observations) }
+{
+    front.invariant();
+    let mut all = Vec::new(alloc);
+    for agent in 0..front.agents() {
+        let part = front.part(agent).advanced(alloc)?;
+        all.push(Rc::new(alloc, part)?)?;
+    }
+    Ok(all)
+}
+
+// What is earned before the next stage, in the arithmetic of the front's mode.
+fn earned_in(front: &Front, m: &Model) -> Span
+    requires of_model { IsFrontOf m.now.model front.now }
+    requires stage { front.now.front.stage < front.now.horizon }
+    ensures { result ≡ earned_reward_in (arithmetic front.now.is_exact m.now.model.scales) m.now.model
+        (fixed_joint_action m.now.model (advanced_front m.now.model front.now.front)) front.now.horizon (suc front.now.front.stage) }
+{
+    front.invariant();
+    if front.is_exact() {
+        earned_after(&Exact::of(m.scales()), front, m)
+    } else {
+        earned_after(&Outward::of(m.scales()), front, m)
+    }
+}
+
+// What is earned before the next stage.
+fn earned_after<A: Arith>(arith: &A, front: &Front, m: &Model) -> Span
+    requires sizes { IsAdvanceable (A.operations arith.now) (A.calls arith.now) m.now.model front.now }
+    ensures { result ≡ earned_reward_in (A.operations arith.now) m.now.model
+        (fixed_joint_action m.now.model (advanced_front m.now.model front.now.front)) front.now.horizon (suc front.now.front.stage) }
+{
+    m.invariant();
+    let rest = front.horizon() - front.stage() - 1;
+    let mut total = front.earned();
+    for class in 0..front.joint_classes() {
+        let action = action_of(front, m, class);
+        let reward = weighted_reward(arith, m, front.class_weights(class), action, rest);
+        total = add_spans(total, reward);
+    }
+    total
+}
+
+// The weights of the joint classes of the next stage, in the arithmetic of the front's mode; none at the
+// horizon.
+fn weights_in(alloc: Global, front: &Front, m: &Model) -> Result<Vec<Span>, Memory>
+    requires of_model { IsFrontOf m.now.model front.now }
+    requires stage { front.now.front.stage < front.now.horizon }
+    requires room { suc front.now.front.stage < front.now.horizon →
+        product (class_counts front.now.front.agents) * joint_observations m.now.model * m.now.model.states ≤ 2 ^ 22 }
+    ensures { IfOk result (λ v. suc front.now.front.stage < front.now.horizon → v.items ≡
+        weight_rows (class_weight_in (arithmetic front.now.is_exact m.now.model.scales) m.now.model (advanced_front m.now.model front.now.front))
+        m.now.model.states (product (class_counts front.now.front.agents) * joint_observations m.now.model)) }
+{
+    front.invariant();
+    if front.stage() + 1 == front.horizon() {
+        Ok(Vec::new(alloc))
+    } else if front.is_exact() {
+        weights_after(alloc, &Exact::of(m.scales()), front, m)
+    } else {
+        weights_after(alloc, &Outward::of(m.scales()), front, m)
+    }
+}
+
+// The weights of the joint classes of the next stage.
+fn weights_after<A: Arith>(
+    alloc: Global,
+    arith: &A,
+    front: &Front,
+    m: &Model,
+) -> Result<Vec<Span>, Memory>
+    requires sizes { IsAdvanceable (A.operations arith.now) (A.calls arith.now) m.now.model front.now }
+    requires room { product (class_counts front.now.front.agents) * joint_observations m.now.model * m.now.model.states ≤ 2 ^ 22 }
+    ensures { IfOk result (λ v. v.items ≡
+        weight_rows (class_weight_in (A.operations arith.now) m.now.model (advanced_front m.now.model front.now.front))
+        m.now.model.states (product (class_counts front.now.front.agents) * joint_observations m.now.model)) }
+{
+    m.invariant();
+    let count = front.joint_classes() * m.joint_observations() as usize;
+    let mut weights = Vec::new(alloc);
+    for next in 0..count {
+        let Pair { class, seen } = pair_of(front, m, count, next);
+        push_weights(arith, front, m, class, seen, &mut weights)?;
+    }
+    Ok(weights)
+}
+
+// Adds the weights of the joint class that a joint class and a joint observation lead to, one for each
+// state.
+fn push_weights<A: Arith>(
+    arith: &A,
+    front: &Front,
+    m: &Model,
+    class: usize,
+    seen: u32,
+    weights: &mut Vec<Span>,
+) -> Result<(), Memory>
+    requires sizes { IsAdvanceable (A.operations arith.now) (A.calls arith.now) m.now.model front.now }
+    requires class { class < product (class_counts front.now.front.agents) }
+    requires seen { seen < joint_observations m.now.model }
+    ensures { IfOk result (λ _. weights.new.items ≡ weights.old.items ++ map
+        (class_weight_in (A.operations arith.now) m.now.model (advanced_front m.now.model front.now.front)
+        (pair_number (class_counts front.now.front.agents) m.now.model.observations class seen)) (range_with_len 0 m.now.model.states)) }
+{
+    m.invariant();
+    let action = action_of(front, m, class);
+    let before = front.class_weights(class);
+    for state in 0..m.states() {
+        weights.push(next_weight(arith, m, before, action, seen, state))?;
+    }
+    Ok(())
+}
+
+// A joint class, and the joint observation that follows it.
+#[derive(Clone, Copy)]
+struct Pair {
+    class: usize,
+    seen: u32,
+}
+
+// The joint class and the joint observation that lead to joint class `next` of the next stage, which has
+// `count` joint classes.
+fn pair_of(front: &Front, m: &Model, count: usize, next: usize) -> Pair
+    requires stage { front.now.front.stage < front.now.horizon }
+    requires states { front.now.states ≡ m.now.model.states }
+    requires observations { front.now.observations ≡ m.now.model.observations }
+    requires agents { length front.now.front.agents ≡ length m.now.model.observations }
+    requires count { count ≡ product (class_counts front.now.front.agents) * joint_observations m.now.model }
+    requires limit { count ≤ 2 ^ 22 }
+    requires next { next < count }
+    ensures class { result.class < product (class_counts front.now.front.agents) }
+    ensures seen { result.seen < joint_observations m.now.model }
+    ensures number { pair_number (class_counts front.now.front.agents) m.now.model.observations result.class result.seen ≡ next }
+{
+    let mut left = count;
+    let mut rest = next;
+    let mut pair = Pair { class: 0, seen: 0 };
+    for agent in 0..front.agents() {
+        let classes = front.classes(agent) as usize;
+        let observations = front.part(agent).observations();
+        left = left / (classes * observations as usize);
+        let own = rest / left;
+        rest = rest % left;
+        pair = Pair {
+            class: pair.class * classes + own / observations as usize,
+            seen: pair.seen * observations + (own % observations as usize) as u32,
+        };
+    }
+    pair
+}
+
+// The joint action that is chosen for a joint class.
+fn action_of(front: &Front, m: &Model, class: usize) -> u32
+    requires front { IsFront m.now.model front.now.horizon front.now.front }
+    requires stage { front.now.front.stage < front.now.horizon }
+    requires some { 0 < front.now.states }
+    requires class { class < product (class_counts front.now.front.agents) }
+    ensures is { result ≡ chosen_joint_action m.now.model front.now.front class }
+    ensures action { result < joint_actions m.now.model }
+{
+    m.invariant();
+    let mut left = front.joint_classes();
+    let mut rest = class;
+    let mut action = 0;
+    for agent in 0..front.agents() {
+        left = left / front.classes(agent) as usize;
+        let own = (rest / left) as u32;
+        rest = rest % left;
+        action = action * m.actions(agent) + front.action(agent, own).unwrap_or(0);
+    }
+    action
+}

@@ -1,0 +1,12 @@
+//! Fronts: partial joint policies with the weights of their joint classes, in either mode.
+#![tactic(auto)]
+
+mod advance;
+mod fractions;
+mod front;
+mod join;
+mod part;
+mod reward;
+mod shared;
+
+pub use front::Front;

@@ -1,0 +1,273 @@
+// One agent's part of a front.
+ghost use Rattle.std.specs.Prelude.{◌≡◌, ◌<◌, ◌-◌, ◌*◌, ◌^◌, ◌∷◌, ℕ, List, map, length, get_or, set, None, Some, IfOk};
+ghost use Rattle.dp_spec.specs.Front.{AgentFront};
+ghost use Rattle.dp_spec.specs.Steps.{root_agent, all_chosen, advanced_agent};
+ghost use Rattle.dp_spec.specs.Merge.{merged_agent, renumbered, kept_class};
+ghost use Rattle.dp_cluster.specs.AgentParts.{AreMergedStages, ArePastStages, class_led_to};
+
+use crate::shared::shared;
+use dp_base::Memory;
+use std::alloc::Global;
+use std::rc::Rc;
+
+// A stage that lies behind a front: the action of each class of the agent, and the class that each
+// class leads to with each observation.
+#[derive(Drop)]
+pub(crate) struct PastStage {
+    actions: Vec<u32>,
+    // Class `c` followed by observation `o` leads to class `links[c * observations + o]`. No links:
+    // it leads to class `c * observations + o`.
+    links: Vec<u32>,
+}
+
+// An agent's part of a front: the stages behind it, the latest first, and how many classes it has, each
+// with its action or none. No histories are kept: a class holds those that the links lead to it.
+#[derive(Drop)]
+pub(crate) struct AgentPart {
+    observations: u32,
+    past: Vec<Rc<PastStage>>,
+    classes: u32,
+    // The action of each class. Classes past its end have none.
+    chosen: Vec<Option<u32>>,
+}
+
+impl std::marker::Model for AgentPart {
+    ghost use Rattle.std.specs.Prelude.{map};
+    ghost use Rattle.dp_cluster.specs.AgentParts.{OwnPart, part_of, ArePastStages};
+
+    ghost Value = { OwnPart };
+
+    ghost view = { λ p. record {
+      observations = p.observations;
+      front = part_of p.observations (map (λ s. s.value) p.past.items) p.classes p.chosen.items;
+    } };
+
+    ghost invariant = { λ p. ArePastStages p.observations (map (λ s. s.value) p.past.items) };
+}
+
+impl AgentPart {
+    // The part of the root front: one class, which holds the empty history.
+    pub(crate) fn root(alloc: Global, observations: u32) -> AgentPart
+        ensures { result ≡ record { observations = observations; front = root_agent } }
+    {
+        AgentPart {
+            observations,
+            past: Vec::new(alloc),
+            classes: 1,
+            chosen: Vec::new(alloc),
+        }
+    }
+
+    #[inline]
+    pub(crate) fn observations(&self) -> u32
+        ensures { result ≡ self.now.observations }
+    {
+        self.observations
+    }
+
+    // How many classes there are.
+    #[inline]
+    pub(crate) fn classes(&self) -> u32
+        ensures { result ≡ length self.now.front.chosen }
+    {
+        self.classes
+    }
+
+    // The action of a class, or none.
+    #[inline]
+    pub(crate) fn action(&self, class: u32) -> Option<u32>
+        requires { class < length self.now.front.chosen }
+        ensures { result ≡ get_or self.now.front.chosen class None }
+    {
+        action_at(&self.chosen, class)
+    }
+
+    // Whether every class has an action.
+    pub(crate) fn complete(&self) -> bool
+        ensures { result ≡ all_chosen self.now.front.chosen }
+    {
+        for class in 0..self.classes {
+            if action_at(&self.chosen, class).is_none() {
+                return false;
+            }
+        }
+        true
+    }
+
+    // The part after an action is chosen for a class.
+    pub(crate) fn with_choice(
+        &self,
+        alloc: Global,
+        class: u32,
+        action: u32,
+    ) -> Result<AgentPart, Memory>
+        requires { class < length self.now.front.chosen }
+        ensures { IfOk result (λ p. p ≡ record self.now {
+          front = record self.now.front { chosen = set self.now.front.chosen class (Some action) };
+        }) }
+    {
+        let mut chosen = Vec::new(alloc);
+        for c in 0..self.classes {
+            let kept = action_at(&self.chosen, c);
+            chosen.push(if c == class { Some(action) } else { kept })?;
+        }
+        Ok(AgentPart {
+            observations: self.observations,
+            past: shared(alloc, &self.past)?,
+            classes: self.classes,
+            chosen,
+        })
+    }
+
+    // The part at the next stage: the actions are fixed, and each class goes on with each observation.
+    pub(crate) fn advanced(&self, alloc: Global) -> Result<AgentPart, Memory>
+        requires classes { (x : ℕ) → x < self.now.observations ^ length self.now.front.fixed →
+            get_or self.now.front.class_of x 0 < length self.now.front.chosen }
+        requires room { length self.now.front.chosen * self.now.observations < 2 ^ 32 }
+        ensures { IfOk result (λ p. p ≡ record self.now {
+          front = advanced_agent self.now.observations (length self.now.front.fixed) self.now.front;
+        }) }
+    {
+        let mut actions = Vec::new(alloc);
+        for c in 0..self.classes {
+            actions.push(action_at(&self.chosen, c).unwrap_or(0))?;
+        }
+        let stage = PastStage {
+            actions,
+            links: Vec::new(alloc),
+        };
+        Ok(AgentPart {
+            observations: self.observations,
+            past: with_stage(alloc, stage, &self.past)?,
+            classes: self.classes * self.observations,
+            chosen: Vec::new(alloc),
+        })
+    }
+
+    // The part after class `second` was joined into class `first`.
+    pub(crate) fn merged(&self, alloc: Global, first: u32, second: u32) -> Result<AgentPart, Memory>
+        requires order { first < second }
+        requires second { second < length self.now.front.chosen }
+        ensures { IfOk result (λ p. p ≡ record self.now { front = merged_agent first second self.now.front }) }
+    {
+        let mut chosen = Vec::new(alloc);
+        for c in 0..self.classes - 1 {
+            chosen.push(action_at(&self.chosen, kept_class(second, c)))?;
+        }
+        let past = merged_stages(alloc, self.observations, &self.past, first, second)?;
+        Ok(AgentPart {
+            observations: self.observations,
+            past,
+            classes: self.classes - 1,
+            chosen,
+        })
+    }
+}
+
+// The action at a place of a list, and none past its end.
+#[inline]
+fn action_at(chosen: &[Option<u32>], class: u32) -> Option<u32>
+    ensures { result ≡ get_or chosen.now class None }
+{
+    let at = class as usize;
+    if at < chosen.len() { chosen[at] } else { None }
+}
+
+impl PastStage {
+    // The class that is led to from place `class * observations + observation`.
+    #[inline]
+    fn link(&self, place: u32) -> u32
+        ensures { result ≡ class_led_to self.now place }
+    {
+        let at = place as usize;
+        if at < self.links.len() {
+            self.links[at]
+        } else {
+            place
+        }
+    }
+
+    // The stage where class `second` of the next stage was joined into class `first`.
+    fn merged(
+        &self,
+        alloc: Global,
+        observations: u32,
+        first: u32,
+        second: u32,
+    ) -> Result<PastStage, Memory>
+        requires room { length self.now.actions.items * observations < 2 ^ 32 }
+        requires order { first < second }
+        ensures actions { IfOk result (λ s. s.actions.items ≡ self.now.actions.items) }
+        ensures links { IfOk result (λ s. (p : ℕ) → p < length self.now.actions.items * observations →
+            class_led_to s p ≡ renumbered first second (class_led_to self.now p)) }
+    {
+        let kept: &[u32] = &self.actions;
+        let mut links = Vec::new(alloc);
+        for place in 0..kept.len() * observations as usize {
+            links.push(renumbered(first, second, self.link(place as u32)))?;
+        }
+        Ok(PastStage {
+            actions: Vec::from_slice(alloc, kept)?,
+            links,
+        })
+    }
+}
+
+// What class `c` is called after class `second` was joined into class `first`.
+#[inline]
+fn renumbered(first: u32, second: u32, c: u32) -> u32
+    ensures { result ≡ renumbered first second c }
+{
+    if c == second {
+        first
+    } else if second < c {
+        c - 1
+    } else {
+        c
+    }
+}
+
+// The class that has become class `c`, where class `second` was joined into another.
+#[inline]
+pub(crate) fn kept_class(second: u32, c: u32) -> u32
+    requires { c < 2 ^ 32 - 1 }
+    ensures { result ≡ kept_class second c }
+{
+    if c < second { c } else { c + 1 }
+}
+
+// The stages, the latest first, where class `second` of the next stage was joined into class `first`.
+fn merged_stages(
+    alloc: Global,
+    observations: u32,
+    stages: &[Rc<PastStage>],
+    first: u32,
+    second: u32,
+) -> Result<Vec<Rc<PastStage>>, Memory>
+    requires stages { ArePastStages observations (map (λ s. s.value) stages.now) }
+    requires order { first < second }
+    ensures { IfOk result (λ v. AreMergedStages observations first second
+        (map (λ s. s.value) stages.now) (map (λ s. s.value) v.items)) }
+{
+    if stages.is_empty() {
+        return Ok(Vec::new(alloc));
+    }
+    let latest = stages[0].merged(alloc, observations, first, second)?;
+    with_stage(alloc, latest, &stages[1..])
+}
+
+// A stage before others, which are shared.
+fn with_stage(
+    alloc: Global,
+    stage: PastStage,
+    older: &[Rc<PastStage>],
+) -> Result<Vec<Rc<PastStage>>, Memory>
+    ensures { IfOk result (λ v. map (λ s. s.value) v.items ≡ stage ∷ map (λ s. s.value) older.now) }
+{
+    let mut all = Vec::new(alloc);
+    all.push(Rc::new(alloc, stage)?)?;
+    for stage in older {
+        all.push(stage.clone()?)?;
+    }
+    Ok(all)
+}
