@@ -1,3 +1,6 @@
+pub mod JointRows
 pub mod Modes
-pub mod WeightUpdates
+pub mod RewardSums
+pub mod RowUpdates
 pub mod TwoStates
+pub mod WeightUpdates

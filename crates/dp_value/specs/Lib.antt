@@ -1,1 +1,5 @@
+pub mod Rewards
+pub mod Rooms
+pub mod RowWeights
 pub mod WeightUpdates
+pub mod Worths

@@ -1,0 +1,4 @@
+pub mod ConstantSteps
+pub mod JoinedRows
+pub mod Lists
+pub mod ReachedRows
