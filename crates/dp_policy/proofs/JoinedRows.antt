@@ -168,6 +168,11 @@ size_most (n ∷ ns) (suc i) some few =
     let le : product ns ≤ product ns * n = le_times (product ns) n first in
     size_most ns i (positive_right n (product ns) 0 some) (omega arith)
 
+-- an agent has few observations
+pub few_observations : (m : Model) → IsModel m → (i : ℕ) → get_or m.observations i 0 ≤ 256
+unfolding joint_observations
+few_observations m is i = size_most m.observations i (some_joint_observation m is) is.sizes.joint_observations_limit
+
 -- the numbers that are kept are within their limits
 pub kept_rows : (m : Model) → IsModel m → (h : ℕ) → h ≤ 24 → (p : SharedPolicy) → IsSharedOf m h p → AreKept h p
 unfolding joint_observations

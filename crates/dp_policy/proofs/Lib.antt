@@ -1,4 +1,5 @@
 pub mod ConstantSteps
 pub mod JoinedRows
 pub mod Lists
+pub mod PlainStages
 pub mod ReachedRows

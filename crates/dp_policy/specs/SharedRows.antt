@@ -1,5 +1,5 @@
 -- The rows of a shared policy with its horizon, and what is kept of them without a model.
-use Rattle.std.specs.Prelude.{ℕ, suc, ◌^◌, ◌<◌, ◌≤◌, ◌≡◌, List, [], ◌∷◌, length, get_or}
+use Rattle.std.specs.Prelude.{ℕ, suc, ◌+◌, ◌*◌, ◌^◌, ◌<◌, ◌≤◌, ◌≡◌, List, [], ◌∷◌, length, get_or}
 use Rattle.dp_spec.specs.PolicyTree.{PolicyTree, subtree}
 use Rattle.dp_spec.specs.SharedPolicy.{AgentRows, IsRow, SharedPolicy, first_count, next_count, no_row, row_at, row_count}
 
@@ -22,6 +22,11 @@ pub record AreKept (h : ℕ) (p : SharedPolicy) : Type 0 where
   pub inside : (i t r o : ℕ) → i < length p → suc t < h → r < row_count (get_or p i []) t
       → o < length (row_at (get_or p i []) t r).next
       → get_or (row_at (get_or p i []) t r).next o 0 < row_count (get_or p i []) (suc t)
+
+-- stage t of h has so many rows, and row c goes on to row c * n + o after observation o, as own histories do
+pub record IsPlainStage (n h t count : ℕ) (stages : AgentRows) : Type 0 where
+  pub rows : row_count stages t ≡ count
+  pub nexts : suc t < h → (c o : ℕ) → c < count → o < n → get_or (row_at stages t c).next o 0 ≡ c * n + o
 
 -- what remains of a tree after own observations, the earliest first
 abbrev pub remaining_after : PolicyTree → List ℕ → PolicyTree

@@ -3,6 +3,7 @@
 
 mod constant;
 mod join;
+mod plain;
 mod row;
 mod shared;
 
