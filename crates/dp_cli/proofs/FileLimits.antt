@@ -9,7 +9,7 @@ use Rattle.dp_model.specs.Limits.{first_passed, greatest_allowed, passed_by}
 use Rattle.dp_meaning.specs.declared.text.Text.{Text}
 use Rattle.dp_meaning.specs.declared.why.Fault.{Fault}
 use Rattle.dp_meaning.specs.Limits.{passed_limit, tried_limits}
-use Rattle.dp_meaning.specs.Meaning.{FaultAt, Meaning, Means, Passes, ReadModel, meaning, meaning_of_model, meaning_of_text, meaning_within, model_of, text_of}
+use Rattle.dp_meaning.specs.Meaning.{FaultAt, Meaning, Means, Passes, ReadModel, meaning, meaning_of_model, meaning_of_text, meaning_within, repaired_model, text_of}
 use Rattle.dp_spec.specs.Model.{Model}
 use Rattle.dp_cli.specs.declared.refusal.FileRole.{FileRole}
 use Rattle.dp_cli.specs.declared.refusal.FileRole.TheVariants as roles
@@ -72,7 +72,7 @@ passes (Means read) = None
 passed_is_other : (bytes : List ℕ) (text : Text) (tried : Option TooLarge) → IsOther tried
     → IsOther (passes (meaning_within bytes text tried))
 passed_is_other bytes text (Some passed) h = h
-passed_is_other bytes text None h = by (model_of (length bytes) text)
+passed_is_other bytes text None h = by (repaired_model (length bytes) text)
   where
     by : (r : Result ReadModel Fault) → IsOther (passes (meaning_of_model bytes r))
     by (Ok read) = tt
