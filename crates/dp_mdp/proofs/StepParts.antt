@@ -8,7 +8,7 @@ use Rattle.dp_spec.specs.Arithmetic.{Arithmetic}
 use Rattle.dp_spec.specs.Quantities.{mdp_table_in, span_sum}
 use Rattle.dp_spec.specs.Calls.{Calls, size}
 use Rattle.dp_spec.specs.SizesOfTable.{table_later_size, table_reward_size}
-use Rattle.dp_laws.proofs.SpanSums.{add_nothing, span_sum_none}
+use Rattle.dp_laws.proofs.SpanSums.{span_add_none, span_sum_none}
 use Rattle.dp_laws.proofs.SizeSums.{int_sum_part, span_sum_part, span_sum_size, table_action_le}
 use Rattle.dp_base.proofs.NaturalSumLaws.{nat_sum_at, nat_sum_le}
 use Rattle.dp_mdp.specs.Building.{AllowsRow, action_value, later_value}
@@ -23,7 +23,7 @@ add_zero x = omega (arith, ints)
 -- a term of nothing may be left out of a sum of spans
 pub skip_nothing : (k : ℕ) (f : ℕ → Span) (total : Span) → total ≡ span_sum k f → f k ≡ nothing
     → total ≡ span_sum (suc k) f
-skip_nothing k f total e none = rw (e, none, add_nothing (span_sum k f)) refl
+skip_nothing k f total e none = rw (e, none, span_add_none (span_sum k f)) refl
 
 -- and of numbers
 pub skip_zero : (k : ℕ) (f : ℕ → ℤ) (total : ℤ) → total ≡ int_sum k f → f k ≡ pos 0 → total ≡ int_sum (suc k) f

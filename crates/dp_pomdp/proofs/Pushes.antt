@@ -10,7 +10,7 @@ use Rattle.dp_spec.specs.Calls.{Calls, size}
 use Rattle.dp_spec.specs.Quantities.{span_sum, weights_after_in}
 use Rattle.dp_spec.specs.Zeros.{KeepsZero, nothing}
 use Rattle.dp_laws.proofs.SizeSums.{span_sum_part}
-use Rattle.dp_laws.proofs.SpanSums.{add_nothing}
+use Rattle.dp_laws.proofs.SpanSums.{span_add_none}
 use Rattle.dp_pomdp.specs.Looking.{IsBeforeHorizon, IsLooking, IsPushed, updated_part, weights_of}
 
 -- ---- what adds nothing
@@ -51,7 +51,7 @@ module _ (A : Arithmetic) (m : Model) (ws : List Span) (a o : ℕ) where
     sums = λ t lt.
         let none = no_weight A C m (suc is.0) ws is.1 k state e in
         let part = part_of_none A is.1.zero (weights_of ws k) (trans_at m a k t) (obs_at m a t o) none in
-        so_far.sums t lt ∙ sym (ap (span_add (span_sum k (updated_part A m ws a o t))) part ∙ add_nothing _);
+        so_far.sums t lt ∙ sym (ap (span_add (span_sum k (updated_part A m ws a o t))) part ∙ span_add_none _);
   }
 
   -- after the last state

@@ -10,7 +10,7 @@ use Rattle.dp_spec.specs.Sizes.{reward_size}
 use Rattle.dp_spec.specs.Zeros.{KeepsZero, nothing}
 use Rattle.dp_base.proofs.NaturalSumLaws.{nat_sum_at, nat_sum_le}
 use Rattle.dp_laws.proofs.SizeSums.{span_sum_part, span_sum_size}
-use Rattle.dp_laws.proofs.SpanSums.{add_nothing, span_sum_none}
+use Rattle.dp_laws.proofs.SpanSums.{span_add_none, span_sum_none}
 use Rattle.dp_mdp.specs.StepRewards.{AllowsReward, arrival_reward, reward_part, state_reward}
 use Rattle.dp_pomdp.proofs.Pushes.{no_weight}
 use Rattle.dp_pomdp.specs.Looking.{IsLooking, weights_of}
@@ -61,7 +61,7 @@ module _ (A : Arithmetic) (C : Calls) (m : Model) (r : ℕ) (ws : List Span) (is
       → total ≡ span_sum k (reward_from A m r ws a) → total ≡ span_sum (suc k) (reward_from A m r ws a)
   skip_reward k total state e so_far =
       let none = none_earned A is.zero m r (weights_of ws k) a k (no_weight A C m (suc r) ws is k state e) in
-      so_far ∙ sym (ap (span_add (span_sum k (reward_from A m r ws a))) none ∙ add_nothing _)
+      so_far ∙ sym (ap (span_add (span_sum k (reward_from A m r ws a))) none ∙ span_add_none _)
 
   -- all parts together
   parts_fit : reward_size A m r (weights_of ws) a < 2 ^ 127
