@@ -83,7 +83,7 @@ looking_next A C m r ws next a o is pa po len same = record {
   time = suc is.time;
   left = let all = is.left in omega arith;
   one_each = len;
-  weights = weights_same A.is_exact m (suc is.time) (weights_after_in A m (weights_of ws) a o) (weights_of next) (λ t p. sym (same t p)) (is.push.pushed is.time (weights_of ws) a o (let all = is.left in omega arith) is.weights pa po);
+  weights = weights_same A.is_exact m (suc is.time) (weights_after_in A m (weights_of ws) a o) (weights_of next) (λ t p. sym (same t p)) (is.push.updated is.time (weights_of ws) a o (let all = is.left in omega arith) is.weights pa po);
 }
 
 -- the reward now and the first look-aheads after it
