@@ -1,2 +1,4 @@
 pub mod ExactSteps
 pub mod Parts
+pub mod Fractions
+mod FractionRows
