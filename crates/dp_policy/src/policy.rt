@@ -7,7 +7,6 @@ ghost use Rattle.dp_policy.specs.Trees.{AreKeptTrees, joint_policy, observations
 
 use crate::PTree;
 use crate::joined_trees::are_policy;
-use crate::tree::{action_of, after};
 use dp_model::Model;
 
 /// A joint policy (Oliehoek and Amato, chapter 3): a tree for each agent, over a horizon.
@@ -85,8 +84,8 @@ impl Policy {
         let _ = &self.horizon;
         let mut here = self.tree(agent);
         for seen in history {
-            here = after(here, *seen as usize);
+            here = here.subtree(*seen);
         }
-        action_of(here)
+        here.root_action()
     }
 }

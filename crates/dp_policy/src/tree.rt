@@ -13,22 +13,24 @@ pub struct PTree {
     pub kids: Vec<PTree>,
 }
 
-// The action at the root.
-#[inline]
-#[tactic(auto, using(crate::proofs::TreeValues::action_is))]
-pub(crate) fn action_of(tree: &PTree) -> u32
-    ensures { result ≡ root_action (policy_tree tree.now) }
-{
-    tree.action
-}
+impl PTree {
+    /// The action that is done now.
+    #[inline]
+    #[tactic(auto, using(crate::proofs::TreeValues::action_is))]
+    pub fn root_action(&self) -> u32
+        ensures { result ≡ root_action (policy_tree self.now) }
+    {
+        self.action
+    }
 
-// What remains of a tree after an observation.
-#[inline]
-pub(crate) fn after(tree: &PTree, seen: usize) -> &PTree
-    requires { seen < tree_count (subtrees (policy_tree tree.now)) }
-    ensures { policy_tree result.now ≡ subtree (policy_tree tree.now) seen }
-{
-    &tree.kids[seen]
+    /// What remains of the tree after an own observation.
+    #[inline]
+    pub fn subtree(&self, seen: u32) -> &PTree
+        requires { seen < tree_count (subtrees (policy_tree self.now)) }
+        ensures { policy_tree result.now ≡ subtree (policy_tree self.now) seen }
+    {
+        &self.kids[seen as usize]
+    }
 }
 
 // Whether this is a tree of so many steps.

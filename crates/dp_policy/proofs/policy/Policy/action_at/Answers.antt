@@ -19,8 +19,8 @@ loop-seen-init c =
       reached = ap (λ (q : PolicyTree). remaining_after q c.args.history.now) (sym c.tree-here.ensures);
     }
 
-pub after-here-requires : goal.after-here-requires
-after-here-requires c =
+pub subtree-here-requires : goal.subtree-here-requires
+subtree-here-requires c =
     let e = observations_counted _ _ _ (policy_tree c.loop-seen.here.now) (omega (arith, c.requires.shorter, c.loop-seen-test.true)) c.loop-seen.invariant.whole in
     omega (arith, e, c.requires.seen c.loop-seen.seen-index c.loop-seen-test.true)
 
@@ -32,14 +32,14 @@ loop-seen-preserved c =
     let t = c.loop-seen.seen-index in
     let q = policy_tree c.loop-seen.here.now in
     record {
-      whole = rw c.after-here.ensures (next_whole (2 ^ 32) n (p.horizon - t) (p.horizon - (t + 1)) q (get_or H t 0)
+      whole = rw c.subtree-here.ensures (next_whole (2 ^ 32) n (p.horizon - t) (p.horizon - (t + 1)) q (get_or H t 0)
           (omega (arith, c.requires.shorter, c.loop-seen-test.true)) (c.requires.seen t c.loop-seen-test.true) c.loop-seen.invariant.whole);
-      reached = rw add-one (followed_step H (remaining_after (tree_of (joint_policy p) c.args.agent) H) q (policy_tree c.after-here.result.now) t c.loop-seen-test.true c.loop-seen.invariant.reached c.after-here.ensures);
+      reached = rw add-one (followed_step H (remaining_after (tree_of (joint_policy p) c.args.agent) H) q (policy_tree c.subtree-here.result.now) t c.loop-seen-test.true c.loop-seen.invariant.reached c.subtree-here.ensures);
     }
 
 pub returns : goal.returns
 returns c =
     let p = c.args.self.now in
     let H = c.args.history.now in
-    c.action_of.ensures
+    c.root_action.ensures
     ∙ ap root_action (followed_end H (remaining_after (tree_of (joint_policy p) c.args.agent) H) (policy_tree c.loop-seen.here.now) c.loop-seen.seen-index c.loop-seen-test.false c.loop-seen.invariant.reached)
