@@ -1,7 +1,7 @@
 use Rattle.std.proofs.Common.{map, refl, subst}
 use Rattle.dp_spec.specs.SharedPolicy.{IsSharedOf}
 use Rattle.dp_policy.proofs.JoinedRows.{kept_rows}
-use Rattle.dp_policy.proofs.join.join_rows.Goals as goal
+use Rattle.dp_policy.proofs.joined_rows.join_rows.Goals as goal
 
 pub of-requires : goal.of-requires
 of-requires c =

@@ -2,7 +2,7 @@ use Rattle.std.proofs.Common.{◌<◌, [], add-one, length, map, refl, sym, arit
 use Rattle.std.proofs.lemmas.List.{length-map}
 use Rattle.dp_policy.proofs.JoinedRows.{agent_fails, agent_step, agents_end, rows_alike}
 use Rattle.dp_policy.proofs.Lists.{is_not, is_so, mapped_at, not_true}
-use Rattle.dp_policy.proofs.join.are_of_agents.Goals as goal
+use Rattle.dp_policy.proofs.joined_rows.are_of_agents.Goals as goal
 
 pub returns-then-rows-agents : goal.returns-then-rows-agents
 returns-then-rows-agents c =

@@ -1,7 +1,7 @@
 use Rattle.std.proofs.Common.{drop, map}
 use Rattle.std.specs.Prelude.{◌↔◌}
 use Rattle.dp_spec.specs.SharedPolicy.{AreRowsOfAgents}
-use Rattle.dp_policy.proofs.join.are_of_agents.Given as goal
+use Rattle.dp_policy.proofs.joined_rows.are_of_agents.Given as goal
 
 abbrev pub invariant-loop-agent : goal.invariant-loop-agent
 invariant-loop-agent l =
