@@ -1,2 +1,3 @@
 pub mod ExactSteps
 pub mod Parts
+pub mod VectorLaws

@@ -5,6 +5,7 @@ mod arith;
 mod exact;
 mod outward;
 mod spans;
+mod vectors;
 
 pub use arith::Arith;
 pub use dp_base::{
@@ -14,6 +15,7 @@ pub use dp_spec::{Scales, Span};
 pub use exact::Exact;
 pub use outward::Outward;
 pub use spans::add_spans;
+pub use vectors::primitive;
 
 #[cfg(test)]
 mod arithmetic_tests;
