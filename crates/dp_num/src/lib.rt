@@ -6,6 +6,7 @@ mod exact;
 mod fraction;
 mod outward;
 mod spans;
+mod vectors;
 
 pub use arith::Arith;
 pub use dp_base::{
@@ -16,6 +17,7 @@ pub use exact::Exact;
 pub use fraction::fraction_text;
 pub use outward::Outward;
 pub use spans::add_spans;
+pub use vectors::primitive;
 
 #[cfg(test)]
 mod arithmetic_tests;

@@ -1,0 +1,6 @@
+use Rattle.std.proofs.Common.{map, take, unsigned_abs}
+use Rattle.dp_spec.specs.Primitive.{IsGcdOf}
+use Rattle.dp_num.proofs.vectors.common_divisor.Given as goal
+
+abbrev pub invariant-loop-value : goal.invariant-loop-value
+invariant-loop-value l = IsGcdOf (take l.value-index (map unsigned_abs l.values)) l.common
