@@ -3,6 +3,7 @@
 
 mod certificate;
 mod fault;
+mod fits;
 
 pub use certificate::Certificate;
 pub use dp_lines::FileWhy;
