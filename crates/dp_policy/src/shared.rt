@@ -39,6 +39,14 @@ impl Shared {
         Shared { horizon, rows }
     }
 
+    /// What holds of all shared policies. It does nothing.
+    #[inline]
+    pub fn invariant(&self)
+        ensures { AreKept self.now.horizon self.now.rows }
+    {
+        let _ = &self.horizon;
+    }
+
     /// How many agents there are.
     pub fn agents(&self) -> u32
         ensures is { result ≡ length self.now.rows }
