@@ -26,7 +26,7 @@ old_front L n Fs F xs j lt = let t : nat_lt j n ≡ true = grind (arith, nat_tes
 old_cap : (L : Labels) (n : ℕ) (Fs : List Front) (F : Front) (xs : List ℤ) (j : ℕ) → j < n → (more_labels L n Fs F xs).cap j ≡ L.cap j
 old_cap L n Fs F xs j lt = let t : nat_lt j n ≡ true = grind (arith, nat_tests) in ap (λ b. cond b (L.cap j) (get_or xs (j - n) (pos 0))) t
 
-new_front : (L : Labels) (n : ℕ) (Fs : List Front) (F : Front) (xs : List ℤ) (j : ℕ) → (more_labels L n Fs F xs).front (n + j) ≡ get_or Fs j F
+pub new_front : (L : Labels) (n : ℕ) (Fs : List Front) (F : Front) (xs : List ℤ) (j : ℕ) → (more_labels L n Fs F xs).front (n + j) ≡ get_or Fs j F
 new_front L n Fs F xs j =
     let t : nat_lt (n + j) n ≡ false = grind (arith, nat_tests) in
     let e : (n + j) - n ≡ j = omega arith in
