@@ -1,6 +1,5 @@
 -- The first reason why a certificate is not valid: there is none exactly where it is valid, and what it names is
--- what the
--- definitions give.
+-- what the definitions give.
 use Rattle.std.proofs.Common.{ℤ, ◌≡◌, ◌⊎◌, inl, inr, ℕ, zero, suc, ◌+◌, ◌<◌, Bool, true, false, not, ◌&&◌, eqb, ltb, IsTrue, pos, List, [], ◌∷◌, ◌++◌, length, get_or, Option, Some, None, refl, sym, ap, ◌∙◌, subst, arith}
 use Rattle.std.specs.Prelude.{◌↔◌, is_none, unwrap_or}
 use Rattle.std.specs.Bool.{Decides, beq}

@@ -1,6 +1,5 @@
 -- Trees whose leaves are low, by their nodes: a leaf is low where its front's bound is, and in exact arithmetic a
--- full one
--- where the value of its front's policy is.
+-- full one where the value of its front's policy is.
 use Rattle.std.proofs.Common.{◌≡◌, ℕ, suc, ◌<◌, ◌≤◌, inl, inr, ℤ, ◌≤ℤ◌, get_or, refl, sym, subst, arith, All, []}
 use Rattle.std.specs.Int.{int_min}
 use Rattle.std.proofs.lemmas.Bool.{cases_lt}

@@ -1,6 +1,5 @@
 -- The worth of a plain shared policy is the forward worth of what its rows mean, in any arithmetic: its joint rows
--- are
--- the joint histories.
+-- are the joint histories.
 use Rattle.std.proofs.Common.{◌≡◌, ◌≢◌, ℕ, zero, suc, ◌-◌, ◌<◌, ◌≤◌, true, false, cond, eqb, ℤ, pos, List, [], ◌∷◌, length, refl, sym, ap, ◌∙◌, arith}
 use Rattle.std.proofs.Math.Nat.{pow-suc}
 use Rattle.std.proofs.lemmas.Bool.Decides.{nat_tests}

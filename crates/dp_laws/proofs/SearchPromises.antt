@@ -1,6 +1,5 @@
 -- What a search over the fronts of a model promises, in the words of certificates: what holds of each node of the
--- arena
--- holds of each node of the finished tree.
+-- arena holds of each node of the finished tree.
 use Rattle.std.proofs.Common.{◌≡◌, ℕ, suc, ◌+◌, ◌<◌, ◌≤◌, Bool, true, false, not, ℤ, ◌≤ℤ◌, ◌<ℤ◌, List, [], length, get_or, sym, ap, subst, ◌∙◌, arith, inl, inr, All}
 use Rattle.std.specs.Prelude.{IsTrue, nat_lt}
 use Rattle.std.specs.Int.{int_min}

@@ -82,8 +82,7 @@ at_place k i f =
     ]
 
 -- the weights of all pairs that lead to J, against a function of J, are the weights of all pairs against that
--- function
--- of where they lead
+-- function of where they lead
 sum_by_target : (K I O S : ℕ) (next : ℕ → ℕ → ℕ) (w : ℕ → ℕ → ℕ → ℕ) (B : ℕ → ℕ → ℤ)
     → ((i o : ℕ) → i < I → o < O → next i o < K) →
     int_sum K (λ J. int_sum S (λ s. pos (nat_sum I (λ i. nat_sum O (λ o. cond (eqb (next i o) J) (w i o s) 0)))

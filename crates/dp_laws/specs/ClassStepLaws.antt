@@ -39,8 +39,7 @@ JointClassesHoldHistories =
 -- ---- advancing
 
 -- the weights of a joint class of the advanced front are those after the joint class and the joint observation that
--- lead
--- to it
+-- lead to it
 abbrev pub AdvancedWeightsAreNextWeights : Type 0
 AdvancedWeightsAreNextWeights =
     (A : Arithmetic) (m : Model) (h : ℕ) (F : Front) → IsFront m h F → StepsByClass A m F → (C o s : ℕ) →

@@ -24,8 +24,7 @@ NoKeepingPolicyAboveBound =
     policy_value m h qs ≤ℤ bound_of m r F look
 
 -- The same of the bound that is computed in the arithmetic of either mode: over the value scale the value is at most
--- the
--- bound in the unit of the mode, which is the value scale in exact mode and 10^9 in outward mode.
+-- the bound in the unit of the mode, which is the value scale in exact mode and 10^9 in outward mode.
 abbrev pub NoKeepingPolicyAboveComputedBound : Type 0
 NoKeepingPolicyAboveComputedBound =
     (m : Model) → IsModel m → (h look : ℕ) (F : Front) (qs : List PolicyTree) (e : Bool) → IsFront m h F →

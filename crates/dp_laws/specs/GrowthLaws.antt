@@ -45,8 +45,7 @@ pub record IsPromised (A : Arithmetic) (m : Model) (h look budget : ℕ) (mergin
       All (λ n. All (λ k. IfInner n.tree (IfNarrowLeaf m h k (λ x. lower <ℤ x → x ≤ℤ n.cap)))
       (root_nodes A m h look T)) (root_nodes A m h look T)
   -- where it merges, and the arithmetic is exact, no branch stands where two classes could be merged; else there is
-  -- no
-  -- merge
+  -- no merge
   pub merged : merging ≡ true → IsTrue A.is_exact
       → All (λ n. IfBranch n.tree (λ i c. HasNoEquivalent m n.front)) (root_nodes A m h look T)
   pub unmerged : merging ≡ false → HasNoMerge T
@@ -74,8 +73,7 @@ SearchKeepsItsPromises =
 -- ---- its certificate
 
 -- what stands in a certificate besides what the search found: as asked, in the mode and the unit of the horizon,
--- with a
--- policy of the version whose worth is the lower end, and the greatest leaf as the upper end
+-- with a policy of the version whose worth is the lower end, and the greatest leaf as the upper end
 pub record StatesSearch (m : Model) (h : ℕ) (asked : PlanOptions) (best : ℕ) (c : Certificate) : Type 0 where
   pub version : c.version ≡ asked.version
   pub horizon : c.horizon ≡ h
@@ -110,8 +108,7 @@ FullBoundsAreValues =
     front_bound (exact m.scales) m h look F ≡ policy_value m h (full_policy m F)
 
 -- where each leaf that is not full is at most the lower end, and so is the value of the policy of each full one,
--- every
--- leaf is
+-- every leaf is
 abbrev pub LowTreesAreClosed : Type 0
 LowTreesAreClosed =
     (m : Model) → IsModel m → (h look : ℕ) (lower : ℤ) (T : BoundTree) → FitsRoot (exact m.scales) m h look T →

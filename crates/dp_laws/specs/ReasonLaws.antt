@@ -1,6 +1,5 @@
 -- Why a certificate is not valid: a tree fits where nothing is wrong at any of its nodes, there is no reason exactly
--- where
--- the certificate is valid, and the first reason names what the definitions give.
+-- where the certificate is valid, and the first reason names what the definitions give.
 use Rattle.std.specs.Prelude.{◌≡◌, ◌↔◌, ℕ, Some, None}
 use Rattle.dp_spec.specs.Model.{Model}
 use Rattle.dp_spec.specs.Mode.{IsWithinVersion}

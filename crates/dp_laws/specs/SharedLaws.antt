@@ -78,8 +78,7 @@ PlainWorthIsForwardWorth =
 -- ---- shared forms
 
 -- the shared form of the joint policy that the rows of a shared policy mean is a shared policy, means the same, and
--- is
--- a shared form
+-- is a shared form
 abbrev pub SharedFormMeansThePolicy : Type 0
 SharedFormMeansThePolicy =
     (m : Model) (h : ℕ) (p : SharedPolicy) → IsModel m → 0 < h → IsSharedOf m h p →

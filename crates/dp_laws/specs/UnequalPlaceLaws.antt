@@ -1,6 +1,5 @@
 -- The places at which two classes are compared: the first at which they differ, and that there is none exactly where
--- the
--- classes are equivalent.
+-- the classes are equivalent.
 use Rattle.std.specs.Prelude.{◌≡◌, ◌↔◌, ℕ, Some, None}
 use Rattle.dp_spec.specs.Model.{Model}
 use Rattle.dp_spec.specs.Front.{Front}
