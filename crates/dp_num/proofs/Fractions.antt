@@ -129,10 +129,12 @@ signed_text num d n up false told sign some is = absurd cc
 
 -- a one before a number of at most k digits keeps its zeros
 pub kept_zeros : (k n : ℕ) → k < 7 → n < 10 ^ k → decimal (10 ^ k + n) ≡ 49 ∷ last_digits k n
-kept_zeros zero n few small = let e : 10 ^ 0 + n ≡ 1 = omega arith in ap decimal e ∙ decimal_digit 1 (omega arith)
+kept_zeros zero n few small = let e : 10 ^ 0 + n ≡ 1 = omega arith in ap decimal e
+    ∙ decimal_digit 1 (omega arith)
 kept_zeros (suc k) n few small =
     let power : 10 ^ suc k ≡ 10 ^ k * 10 = pow-suc 10 k in
-    let most : 10 ^ suc k ≤ 10 ^ 7 = pow-le-pow_right {n = 10} (omega arith) {i = suc k} {j = 7} (omega arith) in
+    let most : 10 ^ suc k ≤ 10 ^ 7 = pow-le-pow_right {n = 10} (omega arith) {i = suc k} {j = 7}
+    (omega arith) in
     let whole : (10 ^ suc k + n) / 10 ≡ 10 ^ k + n / 10 = omega arith in
     let last : (10 ^ suc k + n) % 10 ≡ n % 10 = omega arith in
     let some : 1 ≤ 10 ^ k = one-le-pow k 10 (omega arith) in

@@ -14,7 +14,8 @@ pub returns : goal.returns
 returns c =
     let old = string_bytes c.args.text.now in
     let second = string_bytes c.push_str-2.new.self in
-    millionths_pushed _ _ _ _ c.format-digits.result.now c.args.self.now.whole c.args.self.now.part c.requires.part
+    millionths_pushed _ _ _ _ c.format-digits.result.now c.args.self.now.whole c.args.self.now.part
+    c.requires.part
     c.format-digits.ensures.text
     (c.in_ok-push_str.ensures.bytes ∙ ap (λ l. old ++ l) c.format.ensures.text)
     c.in_ok-push_str-2.ensures.bytes
