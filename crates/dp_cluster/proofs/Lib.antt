@@ -15,3 +15,4 @@ pub mod OwnPlaces
 pub mod OwnRuns
 pub mod RunsOfWeights
 pub mod WeightRows
+pub mod Widening

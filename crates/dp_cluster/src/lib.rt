@@ -5,6 +5,7 @@ mod advance;
 mod fractions;
 mod front;
 mod join;
+mod limits;
 mod merge;
 mod part;
 mod reward;
