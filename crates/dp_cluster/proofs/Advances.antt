@@ -1,19 +1,19 @@
 -- The advance of a front as it is kept: what its calls and sums need, and what it gives.
-use Rattle.std.proofs.Common.{◌≡◌, ℕ, suc, ◌+◌, ◌-◌, ◌*◌, ◌^◌, ◌<◌, ◌≤◌, Bool, true, false, inl, inr, pos, List, length, get_or, sym, ap, ◌∙◌, subst, arith}
+use Rattle.std.proofs.Common.{◌≡◌, ℕ, suc, ◌+◌, ◌*◌, ◌^◌, ◌<◌, ◌≤◌, Bool, true, false, inl, inr, pos, List, length, get_or, sym, ap, ◌∙◌, subst, arith}
 use Rattle.dp_spec.specs.declared.span.Span.{Span}
 use Rattle.dp_spec.specs.declared.scales.Scales.{Scales}
 use Rattle.dp_spec.specs.Arithmetic.{Arithmetic, arithmetic, point, span_add}
 use Rattle.dp_spec.specs.Calls.{Calls, calls_in, size}
 use Rattle.dp_spec.specs.Front.{Front, class_counts, fixed_joint_action}
 use Rattle.dp_spec.specs.JointNumbers.{product}
-use Rattle.dp_spec.specs.Model.{Model, joint_actions, joint_observations, obs_at, reward_at, trans_at}
+use Rattle.dp_spec.specs.Model.{Model, joint_actions, joint_observations}
 use Rattle.dp_spec.specs.Quantities.{class_weight_in, earned_reward_in, span_sum, weighted_reward_in, weights_after_in}
-use Rattle.dp_spec.specs.Sizes.{AreWeights, reward_size}
+use Rattle.dp_spec.specs.Sizes.{reward_size}
 use Rattle.dp_spec.specs.SizesOfEarnings.{earned_size}
 use Rattle.dp_spec.specs.SizesOfFronts.{class_reward_size}
 use Rattle.dp_spec.specs.Steps.{advanced_agents, advanced_front, is_complete}
 use Rattle.dp_spec.specs.WellFormed.{IsFront, KeepsHistoriesApart}
-use Rattle.dp_base.proofs.NaturalSumLaws.{nat_sum_ext, nat_sum_le}
+use Rattle.dp_base.proofs.NaturalSumLaws.{nat_sum_le}
 use Rattle.dp_laws.proofs.AdvancedFronts.{as_many_agents, counts_are_pairs}
 use Rattle.dp_spec.specs.ClassSteps.{chosen_joint_action, pair_number}
 use Rattle.dp_laws.proofs.SizeLaws.{mode_can_refine, mode_can_reward, mode_can_update_weights}

@@ -7,7 +7,7 @@ use Rattle.std.proofs.lemmas.Nat.{mod_below}
 use Rattle.dp_spec.specs.declared.span.Span.{Span}
 use Rattle.dp_spec.specs.Arithmetic.{arithmetic, exact, span_add}
 use Rattle.dp_spec.specs.Calls.{size}
-use Rattle.dp_spec.specs.Front.{AgentFront, Front, class_counts, fixed_joint_action}
+use Rattle.dp_spec.specs.Front.{AgentFront, Front, class_counts}
 use Rattle.dp_spec.specs.JointNumbers.{product}
 use Rattle.dp_spec.specs.Merge.{merged_agents, merged_front, without, placed_number, kept_class}
 use Rattle.dp_spec.specs.Model.{Model}

@@ -5,9 +5,8 @@ use Rattle.std.proofs.lemmas.List.{length-map}
 use Rattle.std.proofs.lemmas.List.FromFn.{length-map-range_with_len}
 use Rattle.dp_spec.specs.declared.span.Span.{Span}
 use Rattle.dp_spec.specs.Arithmetic.{Arithmetic, arithmetic, point}
-use Rattle.dp_spec.specs.Front.{Front, class_counts, fixed_joint_action, joint_class, own_histories}
-use Rattle.dp_spec.specs.JointHistory.{IsJointHistory}
-use Rattle.dp_spec.specs.JointNumbers.{joint_number, product}
+use Rattle.dp_spec.specs.Front.{Front, class_counts, fixed_joint_action, joint_class}
+use Rattle.dp_spec.specs.JointNumbers.{product}
 use Rattle.dp_spec.specs.Mode.{is_exact_mode}
 use Rattle.dp_spec.specs.Model.{IsModel, Model, joint_observations, start_at}
 use Rattle.dp_spec.specs.Quantities.{class_weight_in, earned_reward_in, history_weight_in, span_history_sum}

@@ -4,10 +4,15 @@ pub mod FrontParts
 pub mod JoinedFronts
 pub mod JoinedWeights
 pub mod KeptFronts
+pub mod MergeFaults
 pub mod Modes
 pub mod ChosenActions
 pub mod AdvancedParts
 pub mod Advances
 pub mod Pairs
 pub mod Rewards
+pub mod OwnPlaces
+pub mod OwnRuns
+pub mod RunsOfWeights
 pub mod WeightRows
+pub mod Widening

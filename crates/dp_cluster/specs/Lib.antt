@@ -3,5 +3,7 @@ pub mod AgentParts
 pub mod Joins
 pub mod KeepingPolicies
 pub mod KeptFronts
+pub mod Merging
+pub mod OwnWeights
 pub mod Pairs
 pub mod Rewards

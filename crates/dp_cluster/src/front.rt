@@ -198,6 +198,7 @@ impl Front {
         requires first { IsUnassigned agent first self.now.front.agents }
         requires second { IsUnassigned agent second self.now.front.agents }
         ensures front { IfOk result (λ f. f.front ≡ merged_front self.now.front agent first second) }
+        ensures horizon { IfOk result (λ f. f.horizon ≡ self.now.horizon) }
         ensures of_model { IfOk result (λ f. (m : PlainModel) → IsFrontOf m self.now → IsFrontOf m f) }
     {
         let weights = joined_weights(alloc, self, agent, first, second)?;

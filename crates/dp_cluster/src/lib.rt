@@ -5,8 +5,12 @@ mod advance;
 mod fractions;
 mod front;
 mod join;
+mod limits;
+mod merge;
 mod part;
 mod reward;
+mod runs;
 mod shared;
 
 pub use front::Front;
+pub use merge::MergeFault;
