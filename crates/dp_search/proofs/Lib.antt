@@ -2,3 +2,4 @@ pub mod Steps
 pub mod MoreLeaves
 pub mod GrownLeaves
 pub mod TriedPolicies
+pub mod LeavesSoFar

@@ -2,3 +2,4 @@ pub mod LeafOrder
 pub mod Running
 pub mod SearchStates
 pub mod Toy
+pub mod GreatestLeaves

@@ -2,6 +2,7 @@
 #![tactic(auto)]
 
 mod children;
+mod greatest_leaf;
 mod held_leaf;
 mod held_leaves;
 mod look;
@@ -11,5 +12,6 @@ mod state;
 #[cfg(test)]
 mod tests;
 
+pub use greatest_leaf::greatest_bound;
 pub use planner::{Child, Expanded, Planner};
 pub use search::{Searched, search_best_first};

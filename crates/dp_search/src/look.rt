@@ -8,6 +8,14 @@ use crate::state::State;
 use dp_base::Memory;
 use std::alloc::Global;
 
+/// A copy of a bound.
+pub fn copied(a: &i128) -> i128
+    ensures { result ≡ a.now }
+{
+    let a = *a;
+    a
+}
+
 /// Whether a is more than b.
 pub fn exceeds(a: &i128, b: &i128) -> bool
     ensures more { result ≡ true → b.now <ℤ a.now }

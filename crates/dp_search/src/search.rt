@@ -9,20 +9,12 @@ ghost use Rattle.dp_search.specs.SearchStates.{IsState, held_leaves, open_leaf, 
 use crate::children::leaves_of;
 use crate::held_leaf::HeldLeaf;
 use crate::held_leaves::HeldLeaves;
-use crate::look::{exceeds, hold, look_at_all, try_policy};
+use crate::look::{copied, exceeds, hold, look_at_all, try_policy};
 use crate::planner::Planner;
 use crate::state::State;
 use dp_base::Memory;
 use dp_tree::{NodeArena, Tree};
 use std::alloc::Global;
-
-// A copy.
-fn copied(a: &i128) -> i128
-    ensures { result ≡ a.now }
-{
-    let a = *a;
-    a
-}
 
 /// Takes a leaf of greatest bound, where the budget is not spent and the leaf is above the lower end.
 fn take_greatest<F: Drop, P>(state: &mut State<F, P>, budget: u32) -> Option<HeldLeaf<F>>
