@@ -1,5 +1,5 @@
 -- The greatest bound so far, child after child. (Own.)
-use Rattle.std.specs.Prelude.{Bool, true, false, ℤ, cond}
+use Rattle.std.specs.Prelude.{Bool, ℤ, cond}
 use Rattle.std.specs.Int.{int_max}
 
 -- the greater of two bounds, or the second where there is no first

@@ -1,5 +1,6 @@
 pub mod LeafOrder
 pub mod Running
 pub mod SearchStates
+pub mod Rules
 pub mod Toy
 pub mod GreatestLeaves

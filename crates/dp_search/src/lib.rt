@@ -2,16 +2,20 @@
 #![tactic(auto)]
 
 mod children;
+mod chooser;
 mod greatest_leaf;
 mod held_leaf;
 mod held_leaves;
 mod look;
+mod place;
 mod planner;
 mod search;
 mod state;
 #[cfg(test)]
 mod tests;
 
+pub use chooser::Chooser;
 pub use greatest_leaf::greatest_bound;
+pub use place::Place;
 pub use planner::{Child, Expanded, Planner};
 pub use search::{Searched, search_best_first};

@@ -1,7 +1,7 @@
-use Rattle.std.proofs.Common.{rules, ◌≡◌, ℕ, ℤ, List, length, map, drop, [], sym, ap, ◌∙◌, arith, to_z, of_z}
+use Rattle.std.proofs.Common.{rules, ◌≡◌, ℤ, map, drop, [], sym, ap, ◌∙◌, arith, to_z}
 use Rattle.std.specs.Int.{w128}
 use Rattle.std.proofs.lemmas.Int.{to_z-of_z}
-use Rattle.dp_spec.specs.BoundTree.{BoundTree, branch, greatest_leaf, greatest_leaf_of, leaf}
+use Rattle.dp_spec.specs.BoundTree.{branch, greatest_leaf}
 use Rattle.dp_tree.specs.TreeValue.{bound_tree, bound_trees}
 use Rattle.dp_tree.proofs.TreeValues.{bound_tree_branch, bound_tree_leaf, bound_tree_merge}
 use Rattle.dp_search.proofs.LeavesSoFar.{greatest_at_end, greatest_with, mapped_end}
