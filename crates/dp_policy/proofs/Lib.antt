@@ -5,3 +5,4 @@ pub mod PlainStages
 pub mod ReachedRows
 pub mod TreeValues
 pub mod JoinedTrees
+pub mod ConstantTrees

@@ -1,19 +1,21 @@
 //! Joint policies: by a tree for each agent, and by rows that own histories share.
 #![tactic(auto)]
 
-mod constant;
 mod joined_rows;
 mod joined_trees;
 mod plain;
 mod policy;
 mod row;
+mod rows_of_action;
 mod shared;
 mod tree;
+mod trees_of_action;
 
-pub use constant::constant_rows;
 pub use joined_rows::join_rows;
 pub use joined_trees::join;
 pub use policy::Policy;
 pub use row::Row;
+pub use rows_of_action::constant_rows;
 pub use shared::Shared;
 pub use tree::PTree;
+pub use trees_of_action::constant;
