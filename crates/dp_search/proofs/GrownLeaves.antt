@@ -18,7 +18,8 @@ use Rattle.dp_search.specs.SearchStates.{open_leaf, next_front}
 use Rattle.dp_search.proofs.Steps.{ends_at_budget, ends_closed, grown_runs, opened_length, bounds_of, fronts_of}
 
 -- what holds of each value of a list holds where the value was taken
-all_of_map : {X Y : Type 0} (P : Y → Type 0) (f : X → Y) (xs : List X) → All P (map f xs) → All (λ x. P (f x)) xs
+all_of_map : {X Y : Type 0} (P : Y → Type 0) (f : X → Y) (xs : List X) → All P (map f xs)
+    → All (λ x. P (f x)) xs
 all_of_map P f [] all = λ k d lt. absurd (omega arith)
 all_of_map P f (x ∷ xs) all =
     All-cons (λ x. P (f x)) x xs (All-head P (f x) (map f xs) all)
@@ -49,7 +50,8 @@ pub fronts_of_leaves : {F : Type 0} (IsFront : F → Type 0) (leaves : List (Hel
     → All (λ (c : Child F). IsFront c.front) children → All (λ (o : HeldLeaf F). IsFront o.front) leaves
 fronts_of_leaves {F} IsFront leaves children same all =
     all_of_map IsFront (λ (o : HeldLeaf F). o.front) leaves
-    (subst (λ (fs : List F). All IsFront fs) (sym same) (All-map IsFront (λ (c : Child F). c.front) children all))
+    (subst (λ (fs : List F). All IsFront fs) (sym same) (All-map IsFront (λ (c : Child F). c.front)
+    children all))
 
 pub is_leaf_of : (kind : NodeKind) (x : ℤ) → kind ≡ Leaf x → IsLeaf kind
 is_leaf_of kind x e = subst (λ (k : NodeKind). IsLeaf k) (sym e) tt
@@ -61,7 +63,8 @@ module _ {F : Type 0} (meaning : F → Front) (S : Space) (constants : ℤ) (wid
       → IsRunning S constants width budget arena lower inner
       (open_leaf meaning top ∷ map (open_leaf meaning) items) []
       → lower <ℤ top.bound → All (λ (y : HeldLeaf F). y.bound ≤ℤ top.bound) items → inner < budget
-      → S.May (meaning top.front) s → map (λ (c : Child F). meaning c.front) children ≡ S.next (meaning top.front)
+      → S.May (meaning top.front) s → map (λ (c : Child F). meaning c.front) children
+      ≡ S.next (meaning top.front)
       s → All (λ (c : Child F). c.bound ≡ S.bound (meaning c.front)) children → length children ≤ width
       → map (open_leaf meaning) leaves ≡ opened (length arena.nodes) (top.above + 1) top.bound
       (map (next_front meaning) children)

@@ -11,7 +11,8 @@ max_of_three x y z = grind (arith, ints)
 
 -- the greatest leaf of the children that are left, after some of that greatest bound or none
 abbrev pub greatest_with : Bool → ℤ → List BoundTree → ℤ
-greatest_with some g left = cond some (greatest_leaf_of (bound_trees (leaf g ∷ left))) (greatest_leaf_of (bound_trees left))
+greatest_with some g left = cond some (greatest_leaf_of (bound_trees (leaf g ∷ left)))
+    (greatest_leaf_of (bound_trees left))
 
 -- one child further
 pub greatest_further : (some : Bool) (g : ℤ) (t : BoundTree) (left : List BoundTree)
@@ -19,7 +20,8 @@ pub greatest_further : (some : Bool) (g : ℤ) (t : BoundTree) (left : List Boun
 greatest_further false g t [] = refl
 greatest_further false g t (s ∷ left) = refl
 greatest_further true g t [] = refl
-greatest_further true g t (s ∷ left) = max_of_three g (greatest_leaf t) (greatest_leaf_of (bound_trees (s ∷ left)))
+greatest_further true g t (s ∷ left) = max_of_three g (greatest_leaf t)
+    (greatest_leaf_of (bound_trees (s ∷ left)))
 
 -- all children are done
 pub greatest_at_end : (some : Bool) (g : ℤ) → (some ≡ false → g ≡ pos 0) → greatest_with some g [] ≡ g

@@ -3,3 +3,4 @@ pub mod MoreLeaves
 pub mod GrownLeaves
 pub mod TriedPolicies
 pub mod LeavesSoFar
+pub mod ConstantPolicies

@@ -227,7 +227,8 @@ bounds_of ps = map (λ (p : OpenLeaf). p.bound) ps
 abbrev pub fronts_of : List NextFront → List Front
 fronts_of cs = map (λ (c : NextFront). c.front) cs
 
-bound_of_opened : (S : Space) (n d : ℕ) (cap : ℤ) (cs : List NextFront) → All (λ c. c.bound ≡ S.bound c.front) cs
+bound_of_opened : (S : Space) (n d : ℕ) (cap : ℤ) (cs : List NextFront)
+    → All (λ c. c.bound ≡ S.bound c.front) cs
     → (j : ℕ) → j < length cs
     → get_or (bounds_of (opened n d cap cs)) j (pos 0) ≡ int_min cap (S.bound (get_or (fronts_of cs) j S.root))
 bound_of_opened S n d cap [] own j lt = absurd (omega arith)
@@ -300,7 +301,8 @@ module _ (S : Space) (constants : ℤ) (width budget : ℕ) (arena : Nodes) (low
       grown_room = let h : suc inner ≤ budget = omega arith in omega (arith, mul-le-mul_right width h)
 
   pub grown_runs : IsRunning S constants width budget arena lower inner (top ∷ es) [] → lower <ℤ top.bound
-      → All (λ e. e.bound ≤ℤ top.bound) es → inner < budget → (s : Step) (cs : List NextFront) → S.May top.front s
+      → All (λ e. e.bound ≤ℤ top.bound) es → inner < budget → (s : Step) (cs : List NextFront)
+      → S.May top.front s
       → fronts_of cs ≡ S.next top.front s → All (λ c. c.bound ≡ S.bound c.front) cs → length cs ≤ width
       → IsRunning S constants width budget (record {
         nodes = grown arena.nodes top.node s
@@ -317,7 +319,8 @@ module _ (S : Space) (constants : ℤ) (width budget : ℕ) (arena : Nodes) (low
       let state = subst (λ (z : ℕ). IsSearch S constants lower ns running.labels z (top ∷ es))
       all running.search in
       let is = All-head (IsOpenLeaf S ns running.labels n) top es state.held in
-      let caps = subst (λ (Fs : List Front). AreCaps S top.bound Fs xs) next (caps_are S n d top.bound cs own) in
+      let caps = subst (λ (Fs : List Front). AreCaps S top.bound Fs xs) next
+      (caps_are S n d top.bound cs own) in
       let read = grown_is ns top.node s xs is.within in
       let many = bounds_length n d top.bound cs in
       let longer = read.longer in
@@ -327,12 +330,13 @@ module _ (S : Space) (constants : ℤ) (width budget : ℕ) (arena : Nodes) (low
         settled = n;
         search = searching.search_grows S constants lower ns running.labels top es state over greatest s xs may
             caps;
-        waiting = pending_children (grown ns top.node s xs) L' S.root n d top.bound cs (omega arith) (λ j less. (
-          ap (λ (z : ArenaNode). z.kind) (read.children j (omega arith)),
-          new_front running.labels n (S.next (running.labels.front top.node) s) S.root xs j
-              ∙ ap (λ F. get_or (S.next F s) j S.root) is.front ∙ ap (λ Fs. get_or Fs j S.root) (sym next),
-          ap (λ (z : ArenaNode). z.above) (read.children j (omega arith)) ∙ ap suc is.above,
-        ));
+        waiting = pending_children (grown ns top.node s xs) L' S.root n d top.bound cs (omega arith)
+            (λ j less. (
+              ap (λ (z : ArenaNode). z.kind) (read.children j (omega arith)),
+              new_front running.labels n (S.next (running.labels.front top.node) s) S.root xs j
+                  ∙ ap (λ F. get_or (S.next F s) j S.root) is.front ∙ ap (λ Fs. get_or Fs j S.root) (sym next),
+              ap (λ (z : ArenaNode). z.above) (read.children j (omega arith)) ∙ ap suc is.above,
+            ));
         counted = ap suc running.counted ∙ sym (grown_inner_nodes ns top.node s xs top.bound is.within is.leaf);
         within = lt;
         room = (let r = running.room in let e : suc inner * width ≡ inner * width + width = omega arith in

@@ -11,7 +11,8 @@ use Rattle.dp_search.specs.Running.{IsRunning}
 use Rattle.dp_search.specs.SearchStates.{held_leaves, open_leaf, Runs}
 use Rattle.dp_search.proofs.Steps.{full_passes, running_raised}
 
-module _ {F P : Type 0} (meaning : F → Front) (S : Space) (constants : ℤ) (width budget : ℕ) (st st' : State F P)
+module _ {F P : Type 0} (meaning : F → Front) (S : Space) (constants : ℤ) (width budget : ℕ)
+    (st st' : State F P)
     (rest : List OpenLeaf) where
   -- what runs with the parts of the first state runs as the second state
   moved : st'.arena ≡ st.arena → st'.held ≡ st.held → st'.inner ≡ st.inner

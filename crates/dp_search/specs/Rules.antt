@@ -17,5 +17,6 @@ pub record IsBranchingRule {F : Type 0} (g : Shared F (Bor (List Place) × Unit 
       → FnReturnsAt g rule places x → x < length places
 
 -- what the rule may answer for places of the definitions
-abbrev pub MayAnswer : {F : Type 0} → Shared F (Bor (List Place) × Unit {0}) ℕ → F → List qualities.Place → ℕ → Type 0
+abbrev pub MayAnswer : {F : Type 0} → Shared F (Bor (List Place) × Unit {0}) ℕ → F → List qualities.Place → ℕ
+    → Type 0
 MayAnswer g rule places x = (told : List Place) × (map place_of told ≡ places) × FnReturnsAt g rule told x

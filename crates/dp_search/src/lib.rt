@@ -3,6 +3,7 @@
 
 mod children;
 mod chooser;
+mod constants;
 mod greatest_leaf;
 mod held_leaf;
 mod held_leaves;

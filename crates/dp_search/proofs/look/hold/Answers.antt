@@ -19,7 +19,8 @@ returns-in_ok-push-clause-runs g c = λ budget rest running.
     let leaf = c.args.leaf in
     let items = heap_items st.held.heap in
     let narrow = sym c.if-not-is_wide.ensures in
-    let held = leaf_held S constants width budget st.arena st.inner st.lower (map (open_leaf meaning) items) rest
+    let held = leaf_held S constants width budget st.arena st.inner st.lower (map (open_leaf meaning) items)
+    rest
     (open_leaf meaning leaf) c.requires.early narrow running in
     let moved = IsPermutation-map (open_leaf meaning) (leaf ∷ items) (heap_items c.push.new.self.heap)
     c.in_ok-push.ensures.held in
@@ -30,7 +31,8 @@ returns-in_ok-push-clause-kept g c =
     let items = heap_items c.args.state.now.held.heap in
     let P = λ (o : HeldLeaf _). g.X.Planner.IsFront c.args.planner.now o.front in
     record {
-      fronts = All-permutation P (c.args.leaf ∷ items) (heap_items c.push.new.self.heap) c.in_ok-push.ensures.held
+      fronts = All-permutation P (c.args.leaf ∷ items) (heap_items c.push.new.self.heap)
+          c.in_ok-push.ensures.held
           (All-cons P c.args.leaf items c.requires.front c.requires.kept.fronts);
       policy = c.requires.kept.policy;
       lower = c.requires.kept.lower;
@@ -45,7 +47,8 @@ returns-else-exceeds-clause-runs g c = λ budget rest running.
     let st = c.args.state.now in
     let leaf = c.args.leaf in
     let es = map (open_leaf meaning) (heap_items st.held.heap) in
-    let passes = leaf_passes S constants width budget st.arena st.inner st.lower es rest (open_leaf meaning leaf)
+    let passes = leaf_passes S constants width budget st.arena st.inner st.lower es rest
+    (open_leaf meaning leaf)
     c.requires.early in
     elim c.else-exceeds.branch [
       | else-exceeds-via-then-exceeds+else-not-is_wide w ↦

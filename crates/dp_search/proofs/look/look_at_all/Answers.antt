@@ -29,6 +29,7 @@ loop-leaf-preserved g c =
           (c.loop-leaf.invariant.2 budget first) in
           c.in_ok-look_at.ensures.runs budget (map (open_leaf meaning) left) before),
       c.in_ok-look_at.ensures.kept,
-      All-tail P c.in-Some.leaf left (subst (λ (ls : List (HeldLeaf _)). All P ls) taken c.loop-leaf.invariant.4),
+      All-tail P c.in-Some.leaf left (subst (λ (ls : List (HeldLeaf _)). All P ls)
+          taken c.loop-leaf.invariant.4),
       c.in_ok-look_at.ensures.inner ∙ c.loop-leaf.invariant.5,
     )

@@ -15,7 +15,8 @@ pub expand-requires-clause-early : goal.expand-requires-clause-early
 expand-requires-clause-early g c =
     let meaning = g.X.Planner.meaning c.args.planner.now in
     let st = c.args.state.now in
-    (top_is_leaf (g.X.Planner.space c.args.planner.now) _ _ _ st.arena st.lower st.inner (held_leaves meaning st)
+    (top_is_leaf (g.X.Planner.space c.args.planner.now) _ _ _ st.arena st.lower st.inner
+    (held_leaves meaning st)
     (open_leaf meaning c.args.top) c.requires.runs).3
 
 pub expand-requires-clause-narrow : goal.expand-requires-clause-narrow
@@ -40,7 +41,8 @@ pub grow-requires-clause-node : goal.grow-requires-clause-node
 grow-requires-clause-node g c =
     let meaning = g.X.Planner.meaning c.args.planner.now in
     let st = c.args.state.now in
-    (top_is_leaf (g.X.Planner.space c.args.planner.now) _ _ _ st.arena st.lower st.inner (held_leaves meaning st)
+    (top_is_leaf (g.X.Planner.space c.args.planner.now) _ _ _ st.arena st.lower st.inner
+    (held_leaves meaning st)
     (open_leaf meaning c.args.top) c.requires.runs).0
 
 pub grow-requires-clause-is_leaf : goal.grow-requires-clause-is_leaf
@@ -48,7 +50,8 @@ grow-requires-clause-is_leaf g c =
     let meaning = g.X.Planner.meaning c.args.planner.now in
     let st = c.args.state.now in
     is_leaf_of (kind_at st.arena.nodes c.args.top.node) c.args.top.bound
-    (top_is_leaf (g.X.Planner.space c.args.planner.now) _ _ _ st.arena st.lower st.inner (held_leaves meaning st)
+    (top_is_leaf (g.X.Planner.space c.args.planner.now) _ _ _ st.arena st.lower st.inner
+    (held_leaves meaning st)
     (open_leaf meaning c.args.top) c.requires.runs).1
 
 pub grow-requires-clause-shallow : goal.grow-requires-clause-shallow

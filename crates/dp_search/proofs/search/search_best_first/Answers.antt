@@ -49,5 +49,6 @@ returns-clause-searched g c =
     ∙ c.copied-lower.ensures in
     let tree = bound_tree c.in_ok-finish.field-0 in
     subst (λ (z : ℤ). IsSearched S c.args.budget constants z st.inner tree) (sym same)
-    (searched_of S constants width c.args.budget st.arena st.inner st.lower tree c.in_ok-grow_all.ensures.finished
+    (searched_of S constants width c.args.budget st.arena st.inner st.lower tree
+    c.in_ok-grow_all.ensures.finished
     c.in_ok-finish.ensures.tree c.in_ok-finish.ensures.counted)

@@ -19,4 +19,5 @@ returns-else-exceeds-clause-stop g c =
     let under : top.bound ≤ℤ c.args.state.now.lower = c.if-exceeds.ensures.not refl in
     let P = λ (e : HeldLeaf _). e.bound ≤ℤ c.args.state.now.lower in
     inr (All-permutation P (top ∷ new) old (IsPermutation-sym old (top ∷ new) c.in-Some.ensures.moved)
-    (All-cons P top new under (all_below top.bound c.args.state.now.lower new under c.in-Some.ensures.greatest)))
+    (All-cons P top new under (all_below top.bound c.args.state.now.lower new under
+    c.in-Some.ensures.greatest)))
