@@ -18,3 +18,4 @@ pub mod AgentTrees
 pub mod PolicySays
 pub mod WrittenTrees
 mod WorkedTexts
+pub mod ConstantTrees

@@ -5,8 +5,9 @@ use Rattle.std.specs.List.{All}
 use Rattle.std.proofs.lemmas.List.Elements.{All-nil, All-cons, All-head, All-tail}
 use Rattle.dp_spec.specs.PolicyTree.{PolicyTree, node, no_trees, root_action, subtree, subtrees, nth_tree, IsPolicyTree, ArePolicyTrees}
 use Rattle.dp_policy.specs.declared.tree.PTree.{PTree}
-use Rattle.dp_policy.specs.declared.tree.PTree.TheViews.{out-PTree}
-use Rattle.dp_policy.specs.declared.tree.PTree.TheFolds.{fold_out-PTree}
+use Rattle.dp_policy.specs.declared.tree.PTree.TheOpen.{PTree-F}
+use Rattle.dp_policy.specs.declared.tree.PTree.TheViews.{out-PTree, roll-PTree}
+use Rattle.dp_policy.specs.declared.tree.PTree.TheFolds.{fold-roll-PTree, fold_out-PTree}
 use Rattle.dp_policy.specs.TreeValue.{policy_tree, policy_tree_node, policy_trees}
 use Rattle.dp_policy.specs.Trees.{tree_count}
 
@@ -92,3 +93,8 @@ pub more_steps : (b n r : ℕ) (t : PTree) → 0 < r → r ≢ 1 → IsPolicyTre
 more_steps b n zero t p ne = absurd (omega arith)
 more_steps b n (suc zero) t p ne = absurd (ne refl)
 more_steps b n (suc (suc r)) t p ne = let e : suc (suc r) - 1 ≡ suc r = omega arith in rw e (is_more b n r t)
+
+-- of a tree that is made of its fields
+pub made_is : (t : PTree-F PTree) → policy_tree (roll-PTree t) ≡ node t.action (policy_trees (map policy_tree t.kids.items))
+unfolding policy_tree
+made_is t = fold-roll-PTree PolicyTree policy_tree_node t

@@ -14,7 +14,8 @@ pub record HorizonTrees : Type 0 where
 -- they are stored as the pair of the two
 abbrev pub trees_code : Coded HorizonTrees
 trees_code =
-    code_by (ℕ × List PTree) (coded× coded_ℕ (coded_list rows.the_row.coded)) (λ p. (p.horizon, p.trees)) (λ p. record { horizon = p.0; trees = p.1 }) (λ _. refl)
+    code_by (ℕ × List PTree) (coded× coded_ℕ (coded_list rows.the_row.coded)) (λ p. (p.horizon, p.trees))
+    (λ p. record { horizon = p.0; trees = p.1 }) (λ _. refl)
 
 -- the joint policy that they are: for each agent the policy tree that its tree holds
 abbrev pub joint_policy : HorizonTrees → List PolicyTree
@@ -33,7 +34,8 @@ tree_of qs i = get_or qs i (node 0 no_trees)
 abbrev pub observations_of : List PolicyTree → ℕ → ℕ
 observations_of qs i = tree_count (subtrees (tree_of qs i))
 
--- From 1 to 24 steps, at most 6 agents, and every node of an agent's tree goes on after as many observations as its root.
+-- From 1 to 24 steps, at most 6 agents, and every node of an agent's tree goes on after as many observations as its
+-- root does.
 pub record AreKeptTrees (h : ℕ) (qs : List PolicyTree) : Type 0 where
   pub some_step : 0 < h
   pub horizon : h ≤ 24

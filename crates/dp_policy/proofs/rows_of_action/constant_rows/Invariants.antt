@@ -1,7 +1,7 @@
 use Rattle.std.proofs.Common.{◌≡◌, ◌++◌, drop, map}
 use Rattle.dp_spec.specs.ConstantRows.{constant_rows, constant_rows_of}
 use Rattle.dp_spec.specs.JointNumbers.{parts_of}
-use Rattle.dp_policy.proofs.constant.constant_rows.Given as goal
+use Rattle.dp_policy.proofs.rows_of_action.constant_rows.Given as goal
 
 abbrev pub invariant-loop-agent : goal.invariant-loop-agent
 invariant-loop-agent l =

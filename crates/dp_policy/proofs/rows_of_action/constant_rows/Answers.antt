@@ -7,7 +7,7 @@ use Rattle.dp_spec.proofs.JointNumberLaws.{length-parts_of}
 use Rattle.dp_laws.proofs.ConstantRows.{constant_rows_is}
 use Rattle.dp_policy.proofs.ConstantSteps.{constant_agent_step, constant_end, constant_is}
 use Rattle.dp_policy.proofs.JoinedRows.{kept_rows}
-use Rattle.dp_policy.proofs.constant.constant_rows.Goals as goal
+use Rattle.dp_policy.proofs.rows_of_action.constant_rows.Goals as goal
 
 pub of-requires : goal.of-requires
 of-requires c =
