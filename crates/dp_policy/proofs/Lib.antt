@@ -5,4 +5,17 @@ pub mod PlainStages
 pub mod ReachedRows
 pub mod TreeValues
 pub mod JoinedTrees
+pub mod TextParts
+pub mod AgentParts
+pub mod PolicyParts
+pub mod PolicyAnswers
+pub mod WrittenBytes
+pub mod WrittenPolicies
+pub mod ReadBytes
+pub mod ReadRows
+pub mod TreeRows
+pub mod AgentTrees
+pub mod PolicySays
+pub mod WrittenTrees
+mod WorkedTexts
 pub mod ConstantTrees

@@ -88,4 +88,11 @@ impl Policy {
         }
         here.root_action()
     }
+
+    /// What holds of every joint policy.
+    pub fn invariant(&self)
+        ensures { AreKeptTrees self.now.horizon (joint_policy self.now) }
+    {
+        let _ = &self.horizon;
+    }
 }
