@@ -6,3 +6,4 @@ pub mod ReachedRows
 pub mod TreeValues
 pub mod JoinedTrees
 pub mod ConstantTrees
+pub mod RowsOfTrees

@@ -3,7 +3,8 @@
 
 mod joined_rows;
 mod joined_trees;
-mod plain;
+mod plain_rows;
+mod plainness;
 mod policy;
 mod row;
 mod rows_of_action;
@@ -13,6 +14,7 @@ mod trees_of_action;
 
 pub use joined_rows::join_rows;
 pub use joined_trees::join;
+pub use plain_rows::plain;
 pub use policy::Policy;
 pub use row::Row;
 pub use rows_of_action::constant_rows;
