@@ -78,15 +78,19 @@ as_root b n (suc (suc r)) (node a ks) is =
     let e = counted_trees b n (suc r) n ks is.1 in
     subst (λ (k : ℕ). IsPolicyTree b k (suc (suc r)) (node a ks)) (sym e) is
 
+-- an agent has few actions
+pub few_actions : (m : Model) → IsModel m → (i : ℕ) → get_or m.actions i 0 ≤ 256
+unfolding joint_actions
+few_actions m is i = size_most m.actions i is.sizes.some_action is.sizes.joint_actions_limit
+
 -- what is kept of a joint policy of a model
 pub kept_trees : (m : Model) → IsModel m → (h : ℕ) → 0 < h → h ≤ 24 → (qs : List PolicyTree) → IsPolicyOf m h qs → AreKeptTrees h qs
-unfolding joint_actions
 kept_trees m is h some limit qs policy = record {
   some_step = some;
   horizon = limit;
   agents = let e = trees_alike policy in let few = is.sizes.agents_limit in omega arith;
   whole = λ i lt.
-      let few = size_most m.actions i is.sizes.some_action is.sizes.joint_actions_limit in
+      let few = few_actions m is i in
       let one = tree_of_agent policy i lt in
       as_root (2 ^ 32) (get_or m.observations i 0) h (tree_of qs i)
       (more_actions (get_or m.actions i 0) (2 ^ 32) (get_or m.observations i 0) h (tree_of qs i) (omega arith) one);

@@ -19,3 +19,4 @@ pub mod PolicySays
 pub mod WrittenTrees
 mod WorkedTexts
 pub mod ConstantTrees
+pub mod RowsOfTrees

@@ -14,7 +14,7 @@ heads : {h n : ℕ} {ns : List ℕ} {stages : AgentRows} {p : SharedPolicy} → 
     → ArePlainRows n h stages × ArePlain h ns p
 heads (and_agent one others) = (one, others)
 
-plain_of_agent : {h : ℕ} {ns : List ℕ} {p : SharedPolicy} → ArePlain h ns p → (i : ℕ) → i < length p
+pub plain_of_agent : {h : ℕ} {ns : List ℕ} {p : SharedPolicy} → ArePlain h ns p → (i : ℕ) → i < length p
     → ArePlainRows (get_or ns i 0) h (get_or p i [])
 plain_of_agent no_agents i lt = absurd (omega arith)
 plain_of_agent (and_agent one others) zero lt = one

@@ -50,7 +50,7 @@ fn agent_rows(
 }
 
 // After how many observations a row of a stage goes on.
-fn nexts_at(stage: u32, horizon: u32, observations: u32) -> u32
+pub(crate) fn nexts_at(stage: u32, horizon: u32, observations: u32) -> u32
     requires { stage < horizon }
     ensures { result ≡ cond (nat_lt (suc stage) horizon) observations 0 }
 {
