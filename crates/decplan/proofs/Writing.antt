@@ -6,12 +6,14 @@ use Rattle.std.specs.Io.KnownBytes.{Appends}
 use Rattle.decplan.specs.Sink.{WritesAllBut}
 
 -- one more piece of the rest is written
-pub writes_more : (old mid new : Option (List ℕ)) (bytes rest : List ℕ) (count : ℕ) → WritesAllBut old mid bytes rest
+pub writes_more : (old mid new : Option (List ℕ)) (bytes rest : List ℕ) (count : ℕ)
+    → WritesAllBut old mid bytes rest
     → Appends mid new (take count rest)
     → WritesAllBut old new bytes (take (length rest - count) (drop count rest))
 writes_more old mid new bytes rest count before more =
     let split : bytes ≡ (before.front ++ take count rest) ++ drop count rest =
-    before.parts ∙ ap (λ xs. before.front ++ xs) (sym (take-append-drop count rest)) ∙ sym (append_assoc before.front (take count rest) (drop count rest)) in
+    before.parts ∙ ap (λ xs. before.front ++ xs) (sym (take-append-drop count rest))
+    ∙ sym (append_assoc before.front (take count rest) (drop count rest)) in
     record {
       front = before.front ++ take count rest;
       parts = split ∙ ap (λ xs. (before.front ++ take count rest) ++ xs) (sym (take_rest rest count));

@@ -5,7 +5,13 @@ use Rattle.dp_io.specs.Sink.{SinkView}
 
 -- a sink of so many puts, offered bytes and faults, and of these texts, which does not tell its output
 abbrev pub untold : ℕ → ℕ → ℕ → List (List ℕ) → SinkView
-untold puts offered faults texts = record { puts = puts; offered = offered; faults = faults; texts = texts; told = None }
+untold puts offered faults texts = record {
+  puts = puts;
+  offered = offered;
+  faults = faults;
+  texts = texts;
+  told = None;
+}
 
 -- all the bytes but the rest were written
 pub record WritesAllBut (old new : Option (List ℕ)) (bytes rest : List ℕ) : Type 0 where

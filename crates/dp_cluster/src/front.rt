@@ -215,9 +215,9 @@ impl Front {
         })
     }
 
-    // How many agents there are.
+    /// How many agents there are.
     #[inline]
-    pub(crate) fn agents(&self) -> u32
+    pub fn agents(&self) -> u32
         ensures { result ≡ length self.now.front.agents }
     {
         let parts: &[Rc<AgentPart>] = &self.agents;
@@ -243,9 +243,9 @@ impl Front {
         self.weights.as_ref().as_slice()
     }
 
-    // How many joint classes there are.
+    /// How many joint classes there are.
     #[inline]
-    pub(crate) fn joint_classes(&self) -> usize
+    pub fn joint_classes(&self) -> usize
         requires stage { self.now.front.stage < self.now.horizon }
         requires some { 0 < self.now.states }
         ensures is { result ≡ product (class_counts self.now.front.agents) }
@@ -255,9 +255,9 @@ impl Front {
         self.weights().len() / self.states() as usize
     }
 
-    // The weights of a joint class.
+    /// The weights of a joint class, one for each state.
     #[inline]
-    pub(crate) fn class_weights(&self, class: usize) -> &[Span]
+    pub fn class_weights(&self, class: usize) -> &[Span]
         requires stage { self.now.front.stage < self.now.horizon }
         requires class { class < product (class_counts self.now.front.agents) }
         ensures one_each { length result.now ≡ self.now.states }
@@ -294,33 +294,33 @@ impl Front {
         }
     }
 
-    // How many states there are.
+    /// How many states there are.
     #[inline]
-    pub(crate) fn states(&self) -> u32
+    pub fn states(&self) -> u32
         ensures { result ≡ self.now.states }
     {
         self.states
     }
 
-    // How many steps a policy has.
+    /// How many steps a policy has.
     #[inline]
-    pub(crate) fn horizon(&self) -> u32
+    pub fn horizon(&self) -> u32
         ensures { result ≡ self.now.horizon }
     {
         self.horizon
     }
 
-    // Whether the mode is exact.
+    /// Whether the mode is exact.
     #[inline]
-    pub(crate) fn is_exact(&self) -> bool
+    pub fn is_exact(&self) -> bool
         ensures { result ≡ self.now.is_exact }
     {
         self.exact
     }
 
-    // What holds of every front. It does nothing.
+    /// What holds of every front. It does nothing.
     #[inline]
-    pub(crate) fn invariant(&self)
+    pub fn invariant(&self)
         ensures { IsStored self.now }
     {
         let _ = &self.stage;

@@ -56,9 +56,11 @@ class_step n f x p cs h g =
     let rest : (x * n + p) % n ≡ p = mod-mul-add x n p g in
     new_class n f (x * n + p) cs (next_history_below x n f p h g) ∙ (rw (first, rest))
 
-pub classes_advanced : {f : ℕ} {bs ns : List ℕ} {ds : List AgentFront} → AreAgentFronts f bs ns ds → (xs ps : List ℕ)
+pub classes_advanced : {f : ℕ} {bs ns : List ℕ} {ds : List AgentFront} → AreAgentFronts f bs ns ds
+    → (xs ps : List ℕ)
     → Within ns f xs → AreBelow ns ps →
-    own_classes (advanced_agents ns f ds) (next_own_histories ns xs ps) ≡ next_own_histories ns (own_classes ds xs) ps
+    own_classes (advanced_agents ns f ds) (next_own_histories ns xs ps)
+    ≡ next_own_histories ns (own_classes ds xs) ps
 unfolding advanced_agent
 classes_advanced no_agents xs ps h g = refl
 classes_advanced (and_agent k ks) [] ps h g = absurd h
@@ -68,13 +70,15 @@ classes_advanced {f} (and_agent {n = n} {d = d} k ks) (x ∷ xs) (p ∷ ps) h g 
     let rest = classes_advanced ks xs ps h.1 g.1 in
     λ j. here j ∷ rest j
 
-pub fixed_before : {f : ℕ} {bs ns : List ℕ} {ds : List AgentFront} → AreAgentFronts f bs ns ds → (t : ℕ) (xs : List ℕ)
+pub fixed_before : {f : ℕ} {bs ns : List ℕ} {ds : List AgentFront} → AreAgentFronts f bs ns ds
+    → (t : ℕ) (xs : List ℕ)
     → t < f → fixed_actions (advanced_agents ns f ds) t xs ≡ fixed_actions ds t xs
 unfolding advanced_agent
 fixed_before no_agents t xs p = refl
 fixed_before (and_agent k ks) t [] p = refl
 fixed_before {f} (and_agent {n = n} {d = d} k ks) t (x ∷ xs) p =
-    let acts = map (λ x. unwrap_or (get_or d.chosen (get_or d.class_of x 0) None) 0) (range_with_len 0 (n ^ f)) in
+    let acts = map (λ x. unwrap_or (get_or d.chosen (get_or d.class_of x 0) None) 0)
+    (range_with_len 0 (n ^ f)) in
     let here = get_or_append_left d.fixed (acts ∷ []) [] t (omega (arith, k.of_stage)) in
     let rest = fixed_before ks t xs p in
     λ j. get_or (here j) x 0 ∷ rest j
@@ -87,7 +91,8 @@ fixed_at (and_agent k ks) [] h = absurd h
 fixed_at {f} (and_agent {n = n} {d = d} k ks) (x ∷ xs) h =
     let act : ℕ → ℕ = λ x. unwrap_or (get_or d.chosen (get_or d.class_of x 0) None) 0 in
     let acts = map act (range_with_len 0 (n ^ f)) in
-    let here = ap (λ z. get_or z x 0) (get_or_push d.fixed acts [] f k.of_stage) ∙ get_or-map-range_with_len act 0 (n ^ f) x x 0 h.0 (omega arith) in
+    let here = ap (λ z. get_or z x 0) (get_or_push d.fixed acts [] f k.of_stage)
+    ∙ get_or-map-range_with_len act 0 (n ^ f) x x 0 h.0 (omega arith) in
     let rest = fixed_at ks xs h.1 in
     λ j. here j ∷ rest j
 
@@ -103,7 +108,8 @@ both_tests u v p p' q q' x y apart together same =
       ]
     ]
   where
-    equal : (u ≡ v) × (p ≡ p') × (q ≡ q') × (x ≡ y) → cond (eqb u v) x 0 ≡ cond (eqb q q') (cond (eqb p p') y 0) 0
+    equal : (u ≡ v) × (p ≡ p') × (q ≡ q') × (x ≡ y) → cond (eqb u v) x 0
+        ≡ cond (eqb q q') (cond (eqb p p') y 0) 0
     equal e = grind (arith, nat_tests)
 
     first_differs : (u ≢ v) × (p ≢ p') → cond (eqb u v) x 0 ≡ cond (eqb q q') (cond (eqb p p') y 0) 0
@@ -120,14 +126,16 @@ module _ (m : Model) (h : ℕ) (F : Front) (front : IsFront m h F) where
   pub class_in_range : (H : List ℕ) → IsJointHistory (joint_observations m) F.stage H
       → joint_class m F H < product (class_counts F.agents)
   unfolding joint_class joint_observations
-  class_in_range H p = joint_number_below _ _ (classes_below front.agents _ (own_histories_within m.observations F.stage H p))
+  class_in_range H p = joint_number_below _ _ (classes_below front.agents _
+      (own_histories_within m.observations F.stage H p))
 
   pub action_before : (t : ℕ) (H : List ℕ) → t < F.stage → IsJointHistory (joint_observations m) t H
       → fixed_joint_action m F H ≡ fixed_joint_action m G H
   unfolding fixed_joint_action
   action_before t H lt p =
       let lt' : length H < F.stage = subst (λ (n : ℕ). n < F.stage) (sym (history_length _ t H p)) lt in
-      ap (joint_number m.actions) (sym (fixed_before front.agents (length H) (own_histories m.observations H) lt'))
+      ap (joint_number m.actions) (sym (fixed_before front.agents (length H) (own_histories m.observations H)
+      lt'))
 
   -- at the stage itself the chosen one is done
   pub action_at : (H : List ℕ) → IsJointHistory (joint_observations m) F.stage H
@@ -137,7 +145,8 @@ module _ (m : Model) (h : ℕ) (F : Front) (front : IsFront m h F) where
       let xs = own_histories m.observations H in
       let w = own_histories_within m.observations F.stage H p in
       ap (λ (t : ℕ). joint_number m.actions (fixed_actions G.agents t xs)) (history_length _ F.stage H p)
-      ∙ ap (joint_number m.actions) (fixed_at front.agents xs w ∙ ap (actions_for F.agents) (sym (parts_of-joint_number _ _ (classes_below front.agents xs w))))
+      ∙ ap (joint_number m.actions) (fixed_at front.agents xs w
+      ∙ ap (actions_for F.agents) (sym (parts_of-joint_number _ _ (classes_below front.agents xs w))))
 
   pub weight_same_to : (t : ℕ) (H : List ℕ) → t < suc F.stage → IsJointHistory (joint_observations m) t H
       → history_weight m (fixed_joint_action m F) H ≡ history_weight m (fixed_joint_action m G) H
@@ -159,14 +168,19 @@ module _ (m : Model) (h : ℕ) (F : Front) (front : IsFront m h F) where
   counts_are_pairs = counts_advanced front.agents
 
   -- a joint class of the advanced front is that of a pair
-  pub class_is_pair : (o : ℕ) (H : List ℕ) → o < joint_observations m → IsJointHistory (joint_observations m) F.stage H →
+  pub class_is_pair : (o : ℕ) (H : List ℕ) → o < joint_observations m
+      → IsJointHistory (joint_observations m) F.stage H →
       joint_class m G (o ∷ H) ≡ pair_number (class_counts F.agents) m.observations (joint_class m F H) o
   unfolding joint_class joint_observations
   class_is_pair o H q p =
       let w = own_histories_within m.observations F.stage H p in
-      let classes = classes_advanced front.agents (own_histories m.observations H) (parts_of m.observations o) w (parts_below m.observations o q) in
-      let parts = parts_of-joint_number (class_counts F.agents) (own_classes F.agents (own_histories m.observations H)) (classes_below front.agents _ w) in
-      (λ j. joint_number (counts_are_pairs j) (classes j)) ∙ ap (λ z. joint_number (pair_counts (class_counts F.agents) m.observations) (next_own_histories m.observations z (parts_of m.observations o))) (sym parts)
+      let classes = classes_advanced front.agents (own_histories m.observations H) (parts_of m.observations o) w
+      (parts_below m.observations o q) in
+      let parts = parts_of-joint_number (class_counts F.agents)
+      (own_classes F.agents (own_histories m.observations H)) (classes_below front.agents _ w) in
+      (λ j. joint_number (counts_are_pairs j) (classes j)) ∙ ap
+      (λ z. joint_number (pair_counts (class_counts F.agents) m.observations)
+      (next_own_histories m.observations z (parts_of m.observations o))) (sym parts)
 
   pub in_product : (o : ℕ) → o < joint_observations m → o < product m.observations
   unfolding joint_observations
@@ -174,7 +188,8 @@ module _ (m : Model) (h : ℕ) (F : Front) (front : IsFront m h F) where
 
   -- a pair's weight is that of its class after its observation
   pub pair_weight : (C o s : ℕ) → C < product (class_counts F.agents) → o < joint_observations m →
-      class_weight m G (pair_number (class_counts F.agents) m.observations C o) s ≡ weights_after m (class_weight m F C) (chosen_joint_action m F C) o s
+      class_weight m G (pair_number (class_counts F.agents) m.observations C o) s
+      ≡ weights_after m (class_weight m F C) (chosen_joint_action m F C) o s
   unfolding class_weight
   pair_weight C o s hC ho =
       let O = joint_observations m in
@@ -184,10 +199,14 @@ module _ (m : Model) (h : ℕ) (F : Front) (front : IsFront m h F) where
       (λ H p.
       nat_sum_ext O _ (λ u. cond (eqb u o) (cond (eqb (joint_class m F H) C) (weights_after m (W H) a u s) 0) 0)
       (λ u q.
-      ap (λ (z : ℕ). cond (eqb z (pair_number (class_counts F.agents) m.observations C o)) (history_weight m (fixed_joint_action m G) (u ∷ H) s) 0) (class_is_pair u H q p)
+      ap (λ (z : ℕ). cond (eqb z (pair_number (class_counts F.agents) m.observations C o))
+      (history_weight m (fixed_joint_action m G) (u ∷ H) s) 0) (class_is_pair u H q p)
       ∙ both_tests _ _ (joint_class m F H) C u o _ _
-      (λ e. pair_injective (class_counts F.agents) m.observations _ _ _ _ (as_many_agents front.agents) (class_in_range H p) (in_product u q) hC (in_product o ho) e)
+      (λ e. pair_injective (class_counts F.agents) m.observations _ _ _ _ (as_many_agents front.agents)
+      (class_in_range H p) (in_product u q) hC (in_product o ho) e)
       (λ e f j. pair_number (class_counts F.agents) m.observations (e j) (f j))
-      (λ e. let weights = sym (weight_same H p) in let action = action_at H p ∙ ap (chosen_joint_action m F) e in λ j. weights_after m (weights j) (action j) u s))
+      (λ e. let weights = sym (weight_same H p) in let action = action_at H p
+      ∙ ap (chosen_joint_action m F) e in
+      λ j. weights_after m (weights j) (action j) u s))
       ∙ nat_sum_one O o (λ u. cond (eqb (joint_class m F H) C) (weights_after m (W H) a u s) 0) ho)
       ∙ sym (weights_after_histories m O F.stage a o s (λ H. eqb (joint_class m F H) C) W)

@@ -65,23 +65,32 @@ module _ (A : Arithmetic) (m : Model) (h : ℕ) (F : Front) (front : IsFront m h
   weights_same H p = weights_same_to F.stage H (omega arith) p
 
   -- a joint class that is a pair has the weights of the joint class after the joint observation
-  pub pair_weight_in : StepsByClass A m F → (C o s : ℕ) → C < product (class_counts F.agents) → o < joint_observations m →
+  pub pair_weight_in : StepsByClass A m F → (C o s : ℕ) → C < product (class_counts F.agents)
+      → o < joint_observations m →
       class_weight_in A m G (pair_number (class_counts F.agents) m.observations C o) s
       ≡ weights_after_in A m (class_weight_in A m F C) (chosen_joint_action m F C) o s
   unfolding class_weight_in
   pair_weight_in steps C o s hC ho =
       let O = joint_observations m in
       let a = chosen_joint_action m F C in
-      span_history_sum_ext O F.stage _ (λ H. cond (eqb (joint_class m F H) C) (weights_after_in A m (W H) a o s) (point (pos 0)))
+      span_history_sum_ext O F.stage _ (λ H. cond (eqb (joint_class m F H) C) (weights_after_in A m (W H) a o s)
+      (point (pos 0)))
       (λ H p.
-      span_sum_ext O _ (λ u. cond (eqb u o) (cond (eqb (joint_class m F H) C) (weights_after_in A m (W H) a u s) (point (pos 0))) (point (pos 0)))
+      span_sum_ext O _ (λ u. cond (eqb u o) (cond (eqb (joint_class m F H) C) (weights_after_in A m (W H) a u s)
+      (point (pos 0))) (point (pos 0)))
       (λ u q.
-      ap (λ (z : ℕ). cond (eqb z (pair_number (class_counts F.agents) m.observations C o)) (history_weight_in A m (fixed_joint_action m G) (u ∷ H) s) (point (pos 0))) (class_is_pair m h F front u H q p)
+      ap (λ (z : ℕ). cond (eqb z (pair_number (class_counts F.agents) m.observations C o))
+      (history_weight_in A m (fixed_joint_action m G) (u ∷ H) s) (point (pos 0)))
+      (class_is_pair m h F front u H q p)
       ∙ both_where _ _ (joint_class m F H) C u o _ _
-      (λ e. pair_injective (class_counts F.agents) m.observations _ _ _ _ (as_many_agents front.agents) (class_in_range m h F front H p) (in_product m h F front u q) hC (in_product m h F front o ho) e)
+      (λ e. pair_injective (class_counts F.agents) m.observations _ _ _ _ (as_many_agents front.agents)
+      (class_in_range m h F front H p) (in_product m h F front u q) hC (in_product m h F front o ho) e)
       (λ e f j. pair_number (class_counts F.agents) m.observations (e j) (f j))
-      (λ e. let weights = sym (weights_same H p) in let action = action_at m h F front H p ∙ ap (chosen_joint_action m F) e in λ j. weights_after_in A m (weights j) (action j) u s))
-      ∙ span_sum_only O o (λ u. cond (eqb u o) (cond (eqb (joint_class m F H) C) (weights_after_in A m (W H) a u s) (point (pos 0))) (point (pos 0))) ho (λ u q ne. where_other u o _ _ ne)
+      (λ e. let weights = sym (weights_same H p) in let action = action_at m h F front H p
+      ∙ ap (chosen_joint_action m F) e in λ j. weights_after_in A m (weights j) (action j) u s))
+      ∙ span_sum_only O o (λ u. cond (eqb u o) (cond (eqb (joint_class m F H) C)
+      (weights_after_in A m (W H) a u s)
+      (point (pos 0))) (point (pos 0))) ho (λ u q ne. where_other u o _ _ ne)
       ∙ where_same o _ _)
       ∙ sym (steps.weights C a o s hC)
 
@@ -92,30 +101,38 @@ module _ (A : Arithmetic) (m : Model) (h : ℕ) (F : Front) (front : IsFront m h
       let before = earned_same k t (omega arith) in
       let now = span_history_sum_ext (joint_observations m) t _ _ (λ H p.
       let weights = sym (weights_same_to t H (omega arith) p) in
-      let action = sym (action_before m h F front t H (omega arith) p) in λ j. weighted_reward_in A m (k - suc t) (weights j) (action j)) in
+      let action = sym (action_before m h F front t H (omega arith) p) in
+      λ j. weighted_reward_in A m (k - suc t) (weights j) (action j)) in
       λ j. span_add (before j) (now j)
 
   -- what is earned by the next stage: what was earned before, and the rewards of the joint classes
   pub advanced_earned_in : StepsByClass A m F → (k r : ℕ) → F.stage + suc r ≡ k →
       earned_reward_in A m (fixed_joint_action m G) k (suc F.stage)
       ≡ span_add (earned_reward_in A m (fixed_joint_action m F) k F.stage)
-      (span_sum (product (class_counts F.agents)) (λ C. weighted_reward_in A m r (class_weight_in A m F C) (chosen_joint_action m F C)))
+      (span_sum (product (class_counts F.agents)) (λ C. weighted_reward_in A m r (class_weight_in A m F C)
+      (chosen_joint_action m F C)))
   advanced_earned_in steps k r e =
       let O = joint_observations m in
       let P = product (class_counts F.agents) in
       let left : k - suc F.stage ≡ r = omega arith in
       let before = earned_same k F.stage (omega arith) in
       let now =
-      span_history_sum_ext O F.stage (λ H. weighted_reward_in A m (k - suc F.stage) (history_weight_in A m (fixed_joint_action m G) H) (fixed_joint_action m G H)) (λ H. weighted_reward_in A m r (W H) (chosen_joint_action m F (joint_class m F H)))
-      (λ H p. let weights = sym (weights_same H p) in let action = action_at m h F front H p in λ j. weighted_reward_in A m (left j) (weights j) (action j))
-      ∙ span_history_sum_group O F.stage P (λ H. weighted_reward_in A m r (W H) (chosen_joint_action m F (joint_class m F H))) (joint_class m F) (class_in_range m h F front)
+      span_history_sum_ext O F.stage (λ H. weighted_reward_in A m (k - suc F.stage)
+      (history_weight_in A m (fixed_joint_action m G) H) (fixed_joint_action m G H))
+      (λ H. weighted_reward_in A m r (W H) (chosen_joint_action m F (joint_class m F H)))
+      (λ H p. let weights = sym (weights_same H p) in let action = action_at m h F front H p in
+      λ j. weighted_reward_in A m (left j) (weights j) (action j))
+      ∙ span_history_sum_group O F.stage P (λ H. weighted_reward_in A m r (W H)
+      (chosen_joint_action m F (joint_class m F H))) (joint_class m F) (class_in_range m h F front)
       ∙ span_sum_ext P _ _ (λ C hC.
-      span_history_sum_ext O F.stage _ (λ H. cond (eqb (joint_class m F H) C) (weighted_reward_in A m r (W H) (chosen_joint_action m F C)) (point (pos 0)))
+      span_history_sum_ext O F.stage _ (λ H. cond (eqb (joint_class m F H) C)
+      (weighted_reward_in A m r (W H) (chosen_joint_action m F C)) (point (pos 0)))
       (λ H p. of_class (joint_class m F H) C (λ D. weighted_reward_in A m r (W H) (chosen_joint_action m F D)))
       ∙ sym (steps.rewards C (chosen_joint_action m F C) r hC)) in
       λ j. span_add (before j) (now j)
     where
-      of_class : (D C : ℕ) (v : ℕ → Span) → cond (eqb D C) (v D) (point (pos 0)) ≡ cond (eqb D C) (v C) (point (pos 0))
+      of_class : (D C : ℕ) (v : ℕ → Span) → cond (eqb D C) (v D) (point (pos 0))
+          ≡ cond (eqb D C) (v C) (point (pos 0))
       of_class D C v = elim (cases_eq D C) [
         | inl e ↦ ap (λ z. cond (eqb D C) (v z) (point (pos 0))) e
         | inr ne ↦ where_other D C (v D) _ ne ∙ sym (where_other D C (v C) _ ne)

@@ -36,8 +36,10 @@ chosen_below : {f : ℕ} {bs ns : List ℕ} {ds : List AgentFront} → AreAgentF
     → (cs : List ℕ) → AreBelow (class_counts ds) cs → AreBelow bs (actions_for ds cs)
 chosen_below no_agents p cs h = tt
 chosen_below (and_agent k ks) p [] h = absurd h
-chosen_below (and_agent {b = b} {d = d} k ks) p (c ∷ cs) h =
-    (own_below b (get_or d.chosen c None) (positive_left b _ 0 p) (λ a e. k.chosen_below c a h.0 e), chosen_below ks (positive_right b _ 0 p) cs h.1)
+chosen_below (and_agent {b = b} {d = d} k ks) p (c ∷ cs) h = (
+  own_below b (get_or d.chosen c None) (positive_left b _ 0 p) (λ a e. k.chosen_below c a h.0 e),
+  chosen_below ks (positive_right b _ 0 p) cs h.1,
+)
 
 -- it agrees
 pub chosen_action_agrees : (m : Model) → IsModel m → (h : ℕ) (F : Front) → IsFront m h F → (C : ℕ)
@@ -47,8 +49,10 @@ chosen_action_agrees m ok h F front C p =
     let cs = parts_of (class_counts F.agents) C in
     let inside = parts_below (class_counts F.agents) C p in
     let actions_in = chosen_below front.agents ok.sizes.some_action cs inside in
-    IsIn-filter _ _ (numbers_below (joint_actions m)) (IsIn-below (joint_actions m) _ (joint_number_below m.actions _ actions_in))
-    (ap (all_agree F.agents cs) (parts_of-joint_number m.actions _ actions_in) ∙ chosen_agree F.agents cs inside)
+    IsIn-filter _ _ (numbers_below (joint_actions m)) (IsIn-below (joint_actions m) _
+    (joint_number_below m.actions _ actions_in))
+    (ap (all_agree F.agents cs) (parts_of-joint_number m.actions _ actions_in)
+    ∙ chosen_agree F.agents cs inside)
 
 -- ---- after a choice
 agrees_without : (os : List (Option ℕ)) (c a e x : ℕ) → get_or os c None ≡ None
@@ -66,5 +70,7 @@ agree_without zero c a (d ∷ ds) [] xs free h = h
 agree_without (suc i) c a (d ∷ ds) [] xs free h = h
 agree_without zero c a (d ∷ ds) (e ∷ cs) [] free h = h
 agree_without (suc i) c a (d ∷ ds) (e ∷ cs) [] free h = h
-agree_without zero c a (d ∷ ds) (e ∷ cs) (x ∷ xs) free h = let both = and_parts _ _ h in both_true (agrees_without d.chosen c a e x free.1 both.0) both.1
-agree_without (suc i) c a (d ∷ ds) (e ∷ cs) (x ∷ xs) free h = let both = and_parts _ _ h in both_true both.0 (agree_without i c a ds cs xs free both.1)
+agree_without zero c a (d ∷ ds) (e ∷ cs) (x ∷ xs) free h = let both = and_parts _ _ h in
+    both_true (agrees_without d.chosen c a e x free.1 both.0) both.1
+agree_without (suc i) c a (d ∷ ds) (e ∷ cs) (x ∷ xs) free h = let both = and_parts _ _ h in
+    both_true both.0 (agree_without i c a ds cs xs free both.1)

@@ -13,12 +13,14 @@ pub record IsGrown (ns ns' : List ArenaNode) (k : ℕ) (s : Step) (xs : List ℤ
   pub longer : length ns' ≡ length ns + length xs
   pub here : get_or ns' k no_node ≡ record { above = above_at ns k; kind = Inner s (length ns) (length xs) }
   pub same : (j : ℕ) → j < length ns → j ≢ k → get_or ns' j no_node ≡ get_or ns j no_node
-  pub children : (j : ℕ) → j < length xs → get_or ns' (length ns + j) no_node ≡ record { above = suc (above_at ns k); kind = Leaf (get_or xs j (pos 0)) }
+  pub children : (j : ℕ) → j < length xs → get_or ns' (length ns + j) no_node
+      ≡ record { above = suc (above_at ns k); kind = Leaf (get_or xs j (pos 0)) }
 
 abbrev child_node : ℕ → ℤ → ArenaNode
 child_node d x = record { above = d; kind = Leaf x }
 
-pub grown_is : (ns : List ArenaNode) (k : ℕ) (s : Step) (xs : List ℤ) → k < length ns → IsGrown ns (grown ns k s xs) k s xs
+pub grown_is : (ns : List ArenaNode) (k : ℕ) (s : Step) (xs : List ℤ) → k < length ns
+    → IsGrown ns (grown ns k s xs) k s xs
 unfolding grown
 grown_is ns k s xs lt =
     let d = suc (above_at ns k) in
@@ -28,7 +30,8 @@ grown_is ns k s xs lt =
     record {
       longer = length-append (set ns k x) ls ∙ (omega (arith, same_length, length-map xs (child_node d)));
       here = get_or-append (set ns k x) ls no_node k (omega arith) ∙ get_or-set_same ns k x no_node lt;
-      same = λ j below ne. get_or-append (set ns k x) ls no_node j (omega arith) ∙ get_or-set_other ns k j x no_node ne;
+      same = λ j below ne. get_or-append (set ns k x) ls no_node j (omega arith)
+          ∙ get_or-set_other ns k j x no_node ne;
       children = λ j below.
           ap (λ n. get_or (set ns k x ++ ls) (n + j) no_node) (sym same_length)
           ∙ get_or-append-add (set ns k x) ls j no_node
@@ -41,11 +44,18 @@ no_steps d [] = refl
 no_steps d (x ∷ xs) = no_steps d xs
 
 -- a step more
-pub grown_inner_nodes : (ns : List ArenaNode) (k : ℕ) (s : Step) (xs : List ℤ) (x : ℤ) → k < length ns → kind_at ns k ≡ Leaf x
+pub grown_inner_nodes : (ns : List ArenaNode) (k : ℕ) (s : Step) (xs : List ℤ) (x : ℤ) → k < length ns
+    → kind_at ns k ≡ Leaf x
     → inner_nodes (grown ns k s xs) ≡ suc (inner_nodes ns)
 unfolding grown
 grown_inner_nodes ns k s xs x lt leaf =
     let f : ArenaNode → ℕ = λ n. step_count n.kind in
     let y : ArenaNode = record { above = above_at ns k; kind = Inner s (length ns) (length xs) } in
     let e : step_count (kind_at ns k) ≡ 0 = ap step_count leaf in
-    omega (arith, sum_by-append f (set ns k y) (leaves_at (suc (above_at ns k)) xs), no_steps (suc (above_at ns k)) xs, sum_by-set f ns k y no_node lt, e)
+    omega (
+      arith,
+      sum_by-append f (set ns k y) (leaves_at (suc (above_at ns k)) xs),
+      no_steps (suc (above_at ns k)) xs,
+      sum_by-set f ns k y no_node lt,
+      e,
+    )

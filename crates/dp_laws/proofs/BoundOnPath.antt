@@ -11,19 +11,26 @@ use Rattle.dp_spec.specs.Steps.{IsUnassigned, advanced_if, chosen_front, front_a
 use Rattle.dp_spec.specs.WellFormed.{IsFront}
 
 advanced_if_bound_le : (m : Model) → IsModel m → (h r left look : ℕ) (F : Front) → IsFront m h F → F.stage < h
-    → 0 < look → (t : Bool) → is_complete F.agents ≡ t → F.stage + r ≡ h → (advanced_if m F t).stage + left ≡ h →
+    → 0 < look → (t : Bool) → is_complete F.agents ≡ t → F.stage + r ≡ h
+    → (advanced_if m F t).stage + left ≡ h →
     bound_of m left (advanced_if m F t) look ≤ℤ bound_of m r F look
 advanced_if_bound_le m ok h r left look F front lt some true all here next =
     let e : suc left ≡ r = omega arith in
-    subst (λ (n : ℕ). bound_of m left (advanced_if m F true) look ≤ℤ bound_of m n F look) e (advanced_bound_le m ok h left look F front lt all some)
-advanced_if_bound_le m ok h r left look F front lt some false unchosen here next = let e : left ≡ r = omega arith in zle_of _ _ (rw e)
+    subst (λ (n : ℕ). bound_of m left (advanced_if m F true) look ≤ℤ bound_of m n F look) e
+    (advanced_bound_le m ok h left look F front lt all some)
+advanced_if_bound_le m ok h r left look F front lt some false unchosen here next = let e : left
+    ≡ r = omega arith in zle_of _ _ (rw e)
 
 -- a bound does not grow by a choice and the advance that may follow
-pub after_choice_bound_le : (m : Model) → IsModel m → (h r left look : ℕ) (F : Front) (i c a : ℕ) → IsFront m h F
+pub after_choice_bound_le : (m : Model) → IsModel m → (h r left look : ℕ) (F : Front) (i c a : ℕ)
+    → IsFront m h F
     → F.stage < h → IsUnassigned i c F.agents → a < get_or m.actions i 0 → 0 < look →
-    F.stage + r ≡ h → (front_after_choice m F i c a).stage + left ≡ h → bound_of m left (front_after_choice m F i c a) look ≤ℤ bound_of m r F look
+    F.stage + r ≡ h → (front_after_choice m F i c a).stage + left ≡ h
+    → bound_of m left (front_after_choice m F i c a) look ≤ℤ bound_of m r F look
 unfolding front_after_choice
 after_choice_bound_le m ok h r left look F i c a front lt free p some here next =
     zle_trans _ _ _
-    (advanced_if_bound_le m ok h r left look (chosen_front F i c a) (chosen_is_front m h F i c a front lt free p) lt some (is_complete (with_choice i c a F.agents)) refl here next)
+    (advanced_if_bound_le m ok h r left look (chosen_front F i c a)
+    (chosen_is_front m h F i c a front lt free p)
+    lt some (is_complete (with_choice i c a F.agents)) refl here next)
     (chosen_bound_le m ok h r look F i c a front lt free p)

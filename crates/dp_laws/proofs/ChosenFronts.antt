@@ -16,7 +16,8 @@ fixed_chosen i c a [] t xs = refl
 fixed_chosen zero c a (d ∷ ds) t [] = refl
 fixed_chosen (suc i) c a (d ∷ ds) t [] = refl
 fixed_chosen zero c a (d ∷ ds) t (x ∷ xs) = refl
-fixed_chosen (suc i) c a (d ∷ ds) t (x ∷ xs) = ap (λ z. get_or (get_or d.fixed t []) x 0 ∷ z) (fixed_chosen i c a ds t xs)
+fixed_chosen (suc i) c a (d ∷ ds) t (x ∷ xs) = ap (λ z. get_or (get_or d.fixed t []) x 0 ∷ z)
+    (fixed_chosen i c a ds t xs)
 
 -- there are as many classes as before
 pub counts_chosen : (i c a : ℕ) (ds : List AgentFront) → class_counts (with_choice i c a ds) ≡ class_counts ds
@@ -39,12 +40,14 @@ module _ (m : Model) (F : Front) (i c a : ℕ) where
 
   pub actions_chosen : fixed_joint_action m G ≡ fixed_joint_action m F
   unfolding fixed_joint_action
-  actions_chosen = λ k H. joint_number m.actions (fixed_chosen i c a F.agents (length H) (own_histories m.observations H) k)
+  actions_chosen = λ k H. joint_number m.actions (fixed_chosen i c a F.agents (length H)
+      (own_histories m.observations H) k)
 
   -- the joint classes stay
   pub joint_class_chosen : joint_class m G ≡ joint_class m F
   unfolding joint_class
-  joint_class_chosen = λ k H. joint_number (counts_chosen i c a F.agents k) (classes_chosen i c a F.agents (own_histories m.observations H) k)
+  joint_class_chosen = λ k H. joint_number (counts_chosen i c a F.agents k)
+      (classes_chosen i c a F.agents (own_histories m.observations H) k)
 
   class_of_agent_chosen : (j : ℕ) → class_of_agent m G j ≡ class_of_agent m F j
   unfolding class_of_agent
@@ -52,19 +55,25 @@ module _ (m : Model) (F : Front) (i c a : ℕ) where
 
   class_of_others_chosen : (j : ℕ) → class_of_others m G j ≡ class_of_others m F j
   unfolding class_of_others
-  class_of_others_chosen j = λ k H. joint_number (without j (counts_chosen i c a F.agents k)) (without j (classes_chosen i c a F.agents (own_histories m.observations H) k))
+  class_of_others_chosen j = λ k H. joint_number (without j (counts_chosen i c a F.agents k))
+      (without j (classes_chosen i c a F.agents (own_histories m.observations H) k))
 
   pub weight_chosen : class_weight m G ≡ class_weight m F
   unfolding class_weight
-  weight_chosen = λ k C s. nat_history_sum (joint_observations m) F.stage (λ H. cond (eqb (joint_class_chosen k H) C) (history_weight m (actions_chosen k) H s) 0)
+  weight_chosen = λ k C s. nat_history_sum (joint_observations m) F.stage
+      (λ H. cond (eqb (joint_class_chosen k H) C) (history_weight m (actions_chosen k) H s) 0)
 
   place_chosen : (j y x s : ℕ) → place_weight m G j y x s ≡ place_weight m F j y x s
   unfolding place_weight
-  place_chosen j y x s = λ k. nat_history_sum (joint_observations m) F.stage (λ H. cond (eqb (class_of_others_chosen j k H) x) (cond (eqb (class_of_agent_chosen j k H) y) (history_weight m (actions_chosen k) H s) 0) 0)
+  place_chosen j y x s = λ k. nat_history_sum (joint_observations m) F.stage
+      (λ H. cond (eqb (class_of_others_chosen j k H) x) (cond (eqb (class_of_agent_chosen j k H) y)
+      (history_weight m (actions_chosen k) H s) 0) 0)
 
   total_chosen : (j y : ℕ) → class_total m G j y ≡ class_total m F j y
   unfolding class_total
-  total_chosen j y = λ k. nat_history_sum (joint_observations m) F.stage (λ H. cond (eqb (class_of_agent_chosen j k H) y) (nat_sum m.states (λ s. history_weight m (actions_chosen k) H s)) 0)
+  total_chosen j y = λ k. nat_history_sum (joint_observations m) F.stage
+      (λ H. cond (eqb (class_of_agent_chosen j k H) y) (nat_sum m.states
+      (λ s. history_weight m (actions_chosen k) H s)) 0)
 
   -- choosing changes no weight and nothing that is earned
   pub chosen_weighs_alike : WeighAlike m G F
@@ -77,9 +86,12 @@ module _ (m : Model) (F : Front) (i c a : ℕ) where
   }
 
   -- equivalence does not depend on choices
-  pub chosen_equivalence : (j first second : ℕ) → AreEquivalent m G j first second ↔ AreEquivalent m F j first second
+  pub chosen_equivalence : (j first second : ℕ) → AreEquivalent m G j first second ↔ AreEquivalent m F j
+      first second
   chosen_equivalence j first second =
-      let counts : product (without j (class_counts G.agents)) ≡ product (without j (class_counts F.agents)) = ap (λ z. product (without j z)) (counts_chosen i c a F.agents) in (
+      let counts : product (without j (class_counts G.agents))
+      ≡ product (without j (class_counts F.agents)) = ap (λ z. product (without j z))
+      (counts_chosen i c a F.agents) in (
         λ e. record {
           same = λ x s p q.
               let h = e.same x s (subst (λ (n : ℕ). x < n) (sym counts) p) q in

@@ -21,9 +21,11 @@ replaced_same : (class : ℕ → ℕ) (n k x : ℕ) → class x ≡ k → replac
 replaced_same class n k x e = let same : eqb (class x) k ≡ true = grind (arith, nat_tests) in rw same
 
 -- k classes, each with a member below n, are at most n
-pub classes-le-members : (n k : ℕ) (class : ℕ → ℕ) → ((c : ℕ) → c < k → (x : ℕ) × (x < n) × (class x ≡ c)) → k ≤ n
+pub classes-le-members : (n k : ℕ) (class : ℕ → ℕ) → ((c : ℕ) → c < k → (x : ℕ) × (x < n) × (class x ≡ c))
+    → k ≤ n
 classes-le-members n zero class member = omega arith
-classes-le-members zero (suc k) class member = let some = member 0 (omega arith) in absurd (omega (arith, some.1))
+classes-le-members zero (suc k) class member = let some = member 0 (omega arith) in
+    absurd (omega (arith, some.1))
 classes-le-members (suc n) (suc k) class member =
     let rest : k ≤ n = classes-le-members n k (replaced_class class n k) (λ c p.
     let some = member c (omega arith) in
@@ -41,12 +43,15 @@ classes-le-members (suc n) (suc k) class member =
 
 -- an agent has at most one class for each own history of the stage
 pub classes_within_histories : (b n f : ℕ) (d : AgentFront) → IsAgentFront b n f d → length d.chosen ≤ n ^ f
-classes_within_histories b n f d front = classes-le-members (n ^ f) (length d.chosen) (λ x. get_or d.class_of x 0) front.member
+classes_within_histories b n f d front = classes-le-members (n ^ f) (length d.chosen)
+    (λ x. get_or d.class_of x 0)
+    front.member
 
 joint_classes-le : {f : ℕ} {bs ns : List ℕ} {ds : List AgentFront} → AreAgentFronts f bs ns ds
     → product (class_counts ds) ≤ product ns ^ f
 joint_classes-le {f} no_agents = one-le-pow f 1 (omega arith)
-joint_classes-le {f} (and_agent {b = b} {n = n} {ns = ns} {d = d} front fronts) = rw (mul-pow n (product ns) f) (mul-le-mul (classes_within_histories b n f d front) (joint_classes-le fronts))
+joint_classes-le {f} (and_agent {b = b} {n = n} {ns = ns} {d = d} front fronts) = rw (mul-pow n (product ns) f)
+    (mul-le-mul (classes_within_histories b n f d front) (joint_classes-le fronts))
 
 -- there is at most one joint class for each joint history of the stage
 pub joint_classes_within_histories : (m : Model) (h : ℕ) (F : Front) → IsFront m h F

@@ -36,7 +36,8 @@ module _ (m : Model) (is : IsModel m) (F : Front) where
   weights_of_class : (C a o t : ℕ) → weights_after_in A m (class_weight_in A m F C) a o t
       ≡ point (pos (weights_after m (class_weight m F C) a o t))
   weights_of_class C a o t =
-      (exact_quantities m is).next_weights (m.scales.start * step_scale m ^ F.stage) (class_weight m F C) (class_weight_in A m F C) a o t
+      (exact_quantities m is).next_weights (m.scales.start * step_scale m ^ F.stage) (class_weight m F C)
+      (class_weight_in A m F C) a o t
       (λ s p. (exact_quantities m is).class_weights F C s)
 
   weights_of_history : (H : List ℕ) (a o t : ℕ) → IsJointHistory (joint_observations m) F.stage H
@@ -48,7 +49,8 @@ module _ (m : Model) (is : IsModel m) (F : Front) where
   rewards_of_class : (C a r : ℕ) → weighted_reward_in A m r (class_weight_in A m F C) a
       ≡ point (weighted_reward m r (class_weight m F C) a)
   rewards_of_class C a r =
-      (exact_quantities m is).rewards (m.scales.start * step_scale m ^ F.stage) r (class_weight m F C) (class_weight_in A m F C) a
+      (exact_quantities m is).rewards (m.scales.start * step_scale m ^ F.stage) r (class_weight m F C)
+      (class_weight_in A m F C) a
       (λ s p. (exact_quantities m is).class_weights F C s)
 
   rewards_of_history : (H : List ℕ) (a r : ℕ) → IsJointHistory (joint_observations m) F.stage H
@@ -63,28 +65,35 @@ module _ (m : Model) (is : IsModel m) (F : Front) where
   class_weights_are C = refl
 
   exact_weights : (C a o t : ℕ) → weights_after_in A m (class_weight_in A m F C) a o t
-      ≡ span_history_sum (joint_observations m) F.stage (λ H. cond (eqb (joint_class m F H) C) (weights_after_in A m (WA H) a o t) (point (pos 0)))
+      ≡ span_history_sum (joint_observations m) F.stage (λ H. cond (eqb (joint_class m F H) C)
+      (weights_after_in A m (WA H) a o t) (point (pos 0)))
   exact_weights C a o t =
       let O = joint_observations m in
       weights_of_class C a o t
       ∙ ap (λ (w : ℕ → ℕ). point (pos (weights_after m w a o t))) (class_weights_are C)
-      ∙ ap (λ (x : ℕ). point (pos x)) (weights_after_histories m O F.stage a o t (λ H. eqb (joint_class m F H) C) W)
-      ∙ sym (nat_history_points O F.stage (λ H. cond (eqb (joint_class m F H) C) (weights_after m (W H) a o t) 0))
+      ∙ ap (λ (x : ℕ). point (pos x)) (weights_after_histories m O F.stage a o t
+      (λ H. eqb (joint_class m F H) C) W)
+      ∙ sym (nat_history_points O F.stage (λ H. cond (eqb (joint_class m F H) C)
+      (weights_after m (W H) a o t) 0))
       ∙ span_history_sum_ext O F.stage _ _ (λ H p.
       sym (point_where (eqb (joint_class m F H) C) (weights_after m (W H) a o t))
-      ∙ ap (λ (x : Span). cond (eqb (joint_class m F H) C) x (point (pos 0))) (sym (weights_of_history H a o t p)))
+      ∙ ap (λ (x : Span). cond (eqb (joint_class m F H) C) x (point (pos 0)))
+      (sym (weights_of_history H a o t p)))
 
   exact_rewards : (C a r : ℕ) → weighted_reward_in A m r (class_weight_in A m F C) a
-      ≡ span_history_sum (joint_observations m) F.stage (λ H. cond (eqb (joint_class m F H) C) (weighted_reward_in A m r (WA H) a) (point (pos 0)))
+      ≡ span_history_sum (joint_observations m) F.stage (λ H. cond (eqb (joint_class m F H) C)
+      (weighted_reward_in A m r (WA H) a) (point (pos 0)))
   exact_rewards C a r =
       let O = joint_observations m in
       rewards_of_class C a r
       ∙ ap (λ (w : ℕ → ℕ). point (weighted_reward m r w a)) (class_weights_are C)
       ∙ ap (λ (x : ℤ). point x) (sym (reward_of_histories m r O F.stage a (λ H. eqb (joint_class m F H) C) W))
-      ∙ sym (history_points O F.stage (λ H. cond (eqb (joint_class m F H) C) (weighted_reward m r (W H) a) (pos 0)))
+      ∙ sym (history_points O F.stage (λ H. cond (eqb (joint_class m F H) C) (weighted_reward m r (W H) a)
+      (pos 0)))
       ∙ span_history_sum_ext O F.stage _ _ (λ H p.
       sym (int_point_where (eqb (joint_class m F H) C) (weighted_reward m r (W H) a))
-      ∙ ap (λ (x : Span). cond (eqb (joint_class m F H) C) x (point (pos 0))) (sym (rewards_of_history H a r p)))
+      ∙ ap (λ (x : Span). cond (eqb (joint_class m F H) C) x (point (pos 0)))
+      (sym (rewards_of_history H a r p)))
 
   exact_steps : StepsByClass (exact m.scales) m F
   exact_steps = record {

@@ -16,4 +16,5 @@ some_at (Some a ∷ os) (suc c) e h = some_at os c e (omega arith)
 pub new_class : (n f x : ℕ) (cs : List ℕ) → x < n ^ suc f
     → get_or (map (λ x. get_or cs (x / n) 0 * n + x % n) (range_with_len 0 (n ^ suc f))) x 0
     ≡ get_or cs (x / n) 0 * n + x % n
-new_class n f x cs h = get_or-map-range_with_len (λ x. get_or cs (x / n) 0 * n + x % n) 0 (n ^ suc f) x x 0 h (omega arith)
+new_class n f x cs h = get_or-map-range_with_len (λ x. get_or cs (x / n) 0 * n + x % n) 0 (n ^ suc f) x x 0 h
+    (omega arith)

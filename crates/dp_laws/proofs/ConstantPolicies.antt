@@ -1,4 +1,5 @@
--- constant policies are joint policies of the model, and the root's bound at horizon 1 is the greatest of their values
+-- constant policies are joint policies of the model, and the root's bound at horizon 1 is the greatest of their
+-- values
 use Rattle.std.proofs.Common.{◌≡◌, ℕ, zero, suc, ◌<◌, true, ℤ, pos, ◌+ℤ◌, List, [], ◌∷◌, map, length, get_or, Option, None, refl, sym, ap, ◌∙◌, arith}
 use Rattle.std.proofs.lemmas.Int.{ints}
 use Rattle.dp_base.proofs.Sums.{int_sum_zero}
@@ -18,14 +19,19 @@ use Rattle.dp_spec.proofs.JointNumberLaws.{AreBelow, joint_number-parts_of, part
 use Rattle.dp_base.proofs.GreatestValues.{greatest_ext}
 use Rattle.dp_base.proofs.Members.{below-IsIn, filter_all}
 
-repeated_fits : (b n r c : ℕ) (q : PolicyTree) → IsPolicyTree b n r q → ArePolicyTrees b n r c (repeated_tree c q)
+repeated_fits : (b n r c : ℕ) (q : PolicyTree) → IsPolicyTree b n r q
+    → ArePolicyTrees b n r c (repeated_tree c q)
 repeated_fits b n r zero q h = tt
 repeated_fits b n r (suc c) q h = (h, repeated_fits b n r c q h)
 
 constant_tree_fits : (b n r a : ℕ) → a < b → IsPolicyTree b n r (constant_tree n r a)
 constant_tree_fits b n zero a h = tt
 constant_tree_fits b n (suc zero) a h = (h, refl)
-constant_tree_fits b n (suc (suc r)) a h = (h, repeated_fits b n (suc r) n (constant_tree n (suc r) a) (constant_tree_fits b n (suc r) a h))
+constant_tree_fits b n (suc (suc r)) a h = (
+  h,
+  repeated_fits b n (suc r) n (constant_tree n (suc r) a)
+      (constant_tree_fits b n (suc r) a h),
+)
 
 constant_trees_fit : (r : ℕ) (bs ns as' : List ℕ) → length ns ≡ length bs → AreBelow bs as'
     → IsJointPolicy r bs ns (constant_trees ns r as')
@@ -33,13 +39,15 @@ constant_trees_fit r [] [] as' e h = no_agents
 constant_trees_fit r [] (n ∷ ns) as' e h = absurd (omega arith)
 constant_trees_fit r (b ∷ bs) [] as' e h = absurd (omega arith)
 constant_trees_fit r (b ∷ bs) (n ∷ ns) [] e h = absurd h
-constant_trees_fit r (b ∷ bs) (n ∷ ns) (a ∷ as') e h = and_agent (constant_tree_fits b n r a h.0) (constant_trees_fit r bs ns as' (omega arith) h.1)
+constant_trees_fit r (b ∷ bs) (n ∷ ns) (a ∷ as') e h = and_agent (constant_tree_fits b n r a h.0)
+    (constant_trees_fit r bs ns as' (omega arith) h.1)
 
 -- a constant policy is a joint policy of the model
 pub constant_policy_fits : (m : Model) → IsModel m → (h a : ℕ) → a < joint_actions m
     → IsPolicyOf m h (constant_policy m h a)
 unfolding constant_policy joint_actions
-constant_policy_fits m ok h a p = constant_trees_fit h m.actions m.observations (parts_of m.actions a) ok.sizes.alike (parts_below m.actions a p)
+constant_policy_fits m ok h a p = constant_trees_fit h m.actions m.observations (parts_of m.actions a)
+    ok.sizes.alike (parts_below m.actions a p)
 
 root_of_constant : (n r a : ℕ) → root_action (constant_tree n r a) ≡ a
 root_of_constant n zero a = refl
@@ -54,7 +62,8 @@ roots_of_constant r [] (n ∷ ns) as' e h = absurd (omega arith)
 roots_of_constant r (b ∷ bs) [] as' e h = absurd (omega arith)
 roots_of_constant r (b ∷ bs) (n ∷ ns) [] e h = absurd h
 roots_of_constant r (b ∷ bs) (n ∷ ns) (a ∷ as') e h =
-    let rest : map root_action (constant_trees ns r as') ≡ as' = roots_of_constant r bs ns as' (omega arith) h.1 in
+    let rest : map root_action (constant_trees ns r as') ≡ as' = roots_of_constant r bs ns as' (omega arith)
+    h.1 in
     rw (root_of_constant n r a, rest)
 
 -- it begins with its joint action
@@ -62,7 +71,9 @@ pub constant_policy_begins : (m : Model) → IsModel m → (h a : ℕ) → a < j
     → joint_root_action m (constant_policy m h a) ≡ a
 unfolding constant_policy joint_actions joint_root_action
 constant_policy_begins m ok h a p =
-    ap (joint_number m.actions) (roots_of_constant h m.actions m.observations (parts_of m.actions a) ok.sizes.alike (parts_below m.actions a p)) ∙ joint_number-parts_of m.actions a p
+    ap (joint_number m.actions) (roots_of_constant h m.actions m.observations (parts_of m.actions a)
+    ok.sizes.alike
+    (parts_below m.actions a p)) ∙ joint_number-parts_of m.actions a p
 
 none_more : (n : ℕ) (x : ℤ) → x +ℤ int_sum n (λ o. pos 0) ≡ x
 none_more n x = let e = int_sum_zero n in omega (arith, ints)
@@ -86,7 +97,8 @@ root_counts [] = refl
 root_counts (b ∷ bs) = let e = root_counts bs in omega arith
 
 root_class : (bs ns : List ℕ)
-    → joint_number (class_counts (map (λ n. root_agent) bs)) (own_classes (map (λ n. root_agent) bs) (map (λ n. 0) ns))
+    → joint_number (class_counts (map (λ n. root_agent) bs))
+    (own_classes (map (λ n. root_agent) bs) (map (λ n. 0) ns))
     ≡ 0
 root_class [] ns = refl
 root_class (b ∷ bs) [] = refl
@@ -104,7 +116,8 @@ agrees_with_none : (o : Option ℕ) (a : ℕ) → o ≡ None → agrees o a ≡ 
 agrees_with_none o a e = rw e
 
 root_agrees : (bs : List ℕ) (C a : ℕ)
-    → all_agree (map (λ n. root_agent) bs) (parts_of (class_counts (map (λ n. root_agent) bs)) C) (parts_of bs a)
+    → all_agree (map (λ n. root_agent) bs) (parts_of (class_counts (map (λ n. root_agent) bs)) C)
+    (parts_of bs a)
     ≡ true
 root_agrees [] C a = refl
 root_agrees (b ∷ bs) C a = rw (agrees_with_none _ _ (no_choice _), root_agrees bs)

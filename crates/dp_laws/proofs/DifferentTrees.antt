@@ -26,7 +26,8 @@ mutual
 mutual
   -- .. and a tree passes it with itself
   pub same_tree_itself : (q : PolicyTree) → same_tree q q ≡ true
-  same_tree_itself (node a ks) = let first : eqb a a ≡ true = grind (arith, nat_tests) in rw (first, same_trees_itself ks) refl
+  same_tree_itself (node a ks) = let first : eqb a a ≡ true = grind (arith, nat_tests) in
+      rw (first, same_trees_itself ks) refl
 
   same_trees_itself : (ks : PolicyTrees) → same_trees ks ks ≡ true
   same_trees_itself no_trees = refl
@@ -53,12 +54,15 @@ keeps_among test q k ks false among = among
 among_filter : (test : PolicyTree → Bool) (q : PolicyTree) (ks : List PolicyTree) → IsAmong q ks → test q ≡ true
     → IsAmong q (filter test ks)
 among_filter test q [] among e = absurd among
-among_filter test q (k ∷ ks) (inl same) e = let pass : test k ≡ true = ap test (sym same) ∙ e in rw pass (inl same)
-among_filter test q (k ∷ ks) (inr among) e = keeps_among test q k (filter test ks) (test k) (among_filter test q ks among e)
+among_filter test q (k ∷ ks) (inl same) e = let pass : test k ≡ true = ap test (sym same) ∙ e in
+    rw pass (inl same)
+among_filter test q (k ∷ ks) (inr among) e = keeps_among test q k (filter test ks) (test k)
+    (among_filter test q ks among e)
 
 -- and what it keeps passes, and is of the list
 kept_passes : (test : PolicyTree → Bool) (q k : PolicyTree) (ks : List PolicyTree) (t : Bool) → test k ≡ t
-    → (IsAmong q (filter test ks) → IsAmong q ks × (test q ≡ true)) → IsAmong q (cond t (k ∷ filter test ks) (filter test ks))
+    → (IsAmong q (filter test ks) → IsAmong q ks × (test q ≡ true))
+    → IsAmong q (cond t (k ∷ filter test ks) (filter test ks))
     → IsAmong q (k ∷ ks) × (test q ≡ true)
 kept_passes test q k ks true e rest (inl same) = (inl same, ap test same ∙ e)
 kept_passes test q k ks true e rest (inr among) = let more = rest among in (inr more.0, more.1)
@@ -76,14 +80,16 @@ among_different q (k ∷ ks) (inl same) = inl same
 among_different q (k ∷ ks) (inr among) =
     elim (cases_of (same_tree k q)) [
       | inl e ↦ inl (sym (same_tree_equal k q e))
-      | inr e ↦ inr (among_filter (λ (other : PolicyTree). not (same_tree k other)) q (different_trees ks) (among_different q ks among) (rw e refl))
+      | inr e ↦ inr (among_filter (λ (other : PolicyTree). not (same_tree k other)) q (different_trees ks)
+          (among_different q ks among) (rw e refl))
     ]
 
 -- .. and these are of the list
 pub different_among : (q : PolicyTree) (ks : List PolicyTree) → IsAmong q (different_trees ks) → IsAmong q ks
 different_among q [] among = absurd among
 different_among q (k ∷ ks) (inl same) = inl same
-different_among q (k ∷ ks) (inr among) = inr (different_among q ks (filter_among (λ (other : PolicyTree). not (same_tree k other)) q (different_trees ks) among).0)
+different_among q (k ∷ ks) (inr among) = inr (different_among q ks
+    (filter_among (λ (other : PolicyTree). not (same_tree k other)) q (different_trees ks) among).0)
 
 -- a list with a tree has a different tree
 pub some_different : (q : PolicyTree) (ks : List PolicyTree) → IsAmong q ks → 0 < length (different_trees ks)
@@ -96,7 +102,8 @@ some_different q (k ∷ ks) among = omega arith
 pub place_among : (q d : PolicyTree) (ks : List PolicyTree) → IsAmong q ks
     → (place_of_tree q ks < length ks) × (get_or ks (place_of_tree q ks) d ≡ q)
 place_among q d [] among = absurd among
-place_among q d (k ∷ ks) (inl same) = let yes : same_tree q k ≡ true = ap (same_tree q) (sym same) ∙ same_tree_itself q in rw yes (omega arith, sym same)
+place_among q d (k ∷ ks) (inl same) = let yes : same_tree q k ≡ true = ap (same_tree q) (sym same)
+    ∙ same_tree_itself q in rw yes (omega arith, sym same)
 place_among q d (k ∷ ks) (inr among) =
     elim (cases_of (same_tree q k)) [
       | inl e ↦ rw e (omega arith, sym (same_tree_equal q k e))
@@ -115,14 +122,17 @@ AreDifferent [] = Unit {0}
 AreDifferent (k ∷ ks) = ((q : PolicyTree) → IsAmong q ks → same_tree k q ≡ false) × AreDifferent ks
 
 keeps_different : (test : PolicyTree → Bool) (k : PolicyTree) (ks : List PolicyTree) (t : Bool)
-    → ((q : PolicyTree) → IsAmong q ks → same_tree k q ≡ false) → AreDifferent ks → AreDifferent (cond t (k ∷ ks) ks)
+    → ((q : PolicyTree) → IsAmong q ks → same_tree k q ≡ false) → AreDifferent ks
+    → AreDifferent (cond t (k ∷ ks) ks)
 keeps_different test k ks true apart rest = (apart, rest)
 keeps_different test k ks false apart rest = rest
 
-filter_different : (test : PolicyTree → Bool) (ks : List PolicyTree) → AreDifferent ks → AreDifferent (filter test ks)
+filter_different : (test : PolicyTree → Bool) (ks : List PolicyTree) → AreDifferent ks
+    → AreDifferent (filter test ks)
 filter_different test [] are = tt
 filter_different test (k ∷ ks) are =
-    keeps_different test k (filter test ks) (test k) (λ q among. are.0 q (filter_among test q ks among).0) (filter_different test ks are.1)
+    keeps_different test k (filter test ks) (test k) (λ q among. are.0 q (filter_among test q ks among).0)
+    (filter_different test ks are.1)
 
 not_true : (t : Bool) → not t ≡ true → t ≡ false
 not_true true e = cc
@@ -131,7 +141,8 @@ not_true false e = refl
 pub are_different : (ks : List PolicyTree) → AreDifferent (different_trees ks)
 are_different [] = tt
 are_different (k ∷ ks) = (
-  λ q among. not_true (same_tree k q) (filter_among (λ (other : PolicyTree). not (same_tree k other)) q (different_trees ks) among).1,
+  λ q among. not_true (same_tree k q) (filter_among (λ (other : PolicyTree). not (same_tree k other)) q
+      (different_trees ks) among).1,
   filter_different (λ (other : PolicyTree). not (same_tree k other)) (different_trees ks) (are_different ks),
 )
 
@@ -139,7 +150,8 @@ are_different (k ∷ ks) = (
 same_tree_apart : (k q : PolicyTree) → same_tree k q ≡ false → same_tree q k ≡ false
 same_tree_apart k q e =
     elim (cases_of (same_tree q k)) [
-      | inl e' ↦ absurd (let same = same_tree_equal q k e' in let also : same_tree k q ≡ true = ap (same_tree k) same ∙ same_tree_itself k in cc)
+      | inl e' ↦ absurd (let same = same_tree_equal q k e' in
+          let also : same_tree k q ≡ true = ap (same_tree k) same ∙ same_tree_itself k in cc)
       | inr e' ↦ e'
     ]
 

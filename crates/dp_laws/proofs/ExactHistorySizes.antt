@@ -37,16 +37,20 @@ module _ (m : Model) (is : IsModel m) where
 
   -- all weights of a time together
   pub histories_total : (act : List ℕ → ℕ) (t : ℕ) → IsActing m t act
-      → nat_history_sum (joint_observations m) t (λ H. total_size m (history_weight_in (exact m.scales) m act H))
+      → nat_history_sum (joint_observations m) t (λ H. total_size m
+      (history_weight_in (exact m.scales) m act H))
       ≤ m.scales.start * step_scale m ^ t
   histories_total act zero acts = let e = start_total in let f = scale_of_first m in omega arith
   histories_total act (suc t) acts =
       let O = joint_observations m in
       let V = λ (H : List ℕ). total_size m (history_weight_in (exact m.scales) m act H) in
-      let each = nat_history_sum_le O t (λ H. nat_sum O (λ o. total_size m (history_weight_in (exact m.scales) m act (o ∷ H)))) (λ H. V H * step_scale m)
-      (λ H p. updated_total m is (history_weight_in (exact m.scales) m act H) (act H) (acts t H (omega arith) p)) in
+      let each = nat_history_sum_le O t (λ H. nat_sum O (λ o. total_size m
+      (history_weight_in (exact m.scales) m act (o ∷ H)))) (λ H. V H * step_scale m)
+      (λ H p. updated_total m is (history_weight_in (exact m.scales) m act H) (act H)
+      (acts t H (omega arith) p)) in
       let times = nat_history_sum_times O t V (step_scale m) in
-      let rest = mul-le-mul_right (step_scale m) (histories_total act t (λ i H p h. acts i H (omega arith) h)) in
+      let rest = mul-le-mul_right (step_scale m) (histories_total act t
+      (λ i H p h. acts i H (omega arith) h)) in
       let e = scale_of_next m t in
       omega arith
 
@@ -68,10 +72,13 @@ module _ (m : Model) (is : IsModel m) where
       let c = reward_most m * step_scale m ^ suc r in
       let W = λ (H : List ℕ). history_weight_in (exact m.scales) m act H in
       let rest = earned_most act h f (omega arith) (λ i H p h. acts i H (omega arith) h) in
-      let each = nat_history_sum_le O f (λ H. reward_size (exact m.scales) m r (W H) (act H)) (λ H. total_size m (W H) * c) (λ H p. reward_total m is (W H) (act H) r (acts f H (omega arith) p)) in
+      let each = nat_history_sum_le O f (λ H. reward_size (exact m.scales) m r (W H) (act H))
+      (λ H. total_size m (W H) * c) (λ H p. reward_total m is (W H) (act H) r (acts f H (omega arith) p)) in
       let times = nat_history_sum_times O f (λ H. total_size m (W H)) c in
       let mass = mul-le-mul_right c (histories_total act f (λ i H p h. acts i H (omega arith) h)) in
-      let e = regroup m.scales.start (step_scale m ^ f) (reward_most m) (step_scale m ^ suc r) (step_scale m ^ h) (split_power f (suc r) h (omega arith)) in
+      let e = regroup m.scales.start (step_scale m ^ f) (reward_most m) (step_scale m ^ suc r)
+      (step_scale m ^ h)
+      (split_power f (suc r) h (omega arith)) in
       omega arith
 
   -- ---- fronts
@@ -79,43 +86,52 @@ module _ (m : Model) (is : IsModel m) where
   pub front_total : (F : Front) (n : ℕ) → IsActing m F.stage (fixed_joint_action m F)
       → nat_sum n (λ C. total_size m (class_weight_in (exact m.scales) m F C))
       ≤ m.scales.start * step_scale m ^ F.stage
-  front_total F n acts = let all = classes_total (exact m.scales) m F n in let most = histories_total (fixed_joint_action m F) F.stage acts in omega arith
+  front_total F n acts = let all = classes_total (exact m.scales) m F n in
+      let most = histories_total (fixed_joint_action m F) F.stage acts in omega arith
 
   -- look-ahead of a joint action, with look k
   pub action_look_most : (r k : ℕ) (ws : ℕ → Span) (a : ℕ) → a < joint_actions m
       → unsigned_abs (action_look_ahead_in (exact m.scales) m r ws a k) ≤ total_size m ws * value_most m (suc r)
-  action_look_most r k ws a pa = let parts = action_look_le (exact m.scales) m r ws a k in let most = looks_most m is r (k - 1) ws a pa in omega arith
+  action_look_most r k ws a pa = let parts = action_look_le (exact m.scales) m r ws a k in
+      let most = looks_most m is r (k - 1) ws a pa in omega arith
 
   -- a value over the steps that are left against the weights of a stage
   value_at_stage : (f r h : ℕ) → f + suc r ≡ h
       → m.scales.start * step_scale m ^ f * value_most m (suc r)
       ≡ suc r * (m.scales.start * step_scale m ^ h * reward_most m)
   unfolding value_most
-  value_at_stage f r h e = weights_times_value m.scales.start (step_scale m ^ f) (suc r) (reward_most m) (step_scale m ^ suc r) (step_scale m ^ h) (split_power f (suc r) h e)
+  value_at_stage f r h e = weights_times_value m.scales.start (step_scale m ^ f) (suc r) (reward_most m)
+      (step_scale m ^ suc r) (step_scale m ^ h) (split_power f (suc r) h e)
 
   -- the best look-aheads of all joint classes together
-  pub class_looks_most : (F : Front) (r k h : ℕ) → F.stage + suc r ≡ h → IsActing m F.stage (fixed_joint_action m F)
+  pub class_looks_most : (F : Front) (r k h : ℕ) → F.stage + suc r ≡ h
+      → IsActing m F.stage (fixed_joint_action m F)
       → class_look_size (exact m.scales) m r F k ≤ suc r * (m.scales.start * step_scale m ^ h * reward_most m)
   unfolding class_look_size
   class_looks_most F r k h e acts =
       let n = product (class_counts F.agents) in
       let V = value_most m (suc r) in
       let W = λ (C : ℕ). class_weight_in (exact m.scales) m F C in
-      let each = nat_sum_le n (λ C. unsigned_abs (greatest (λ a. action_look_ahead_in (exact m.scales) m r (W C) a k) (agreeing_actions m F C))) (λ C. total_size m (W C) * V)
-      (λ C p. greatest_abs (λ a. action_look_ahead_in (exact m.scales) m r (W C) a k) (total_size m (W C) * V) (agreeing_actions m F C) (λ a h. action_look_most r k (W C) a (agreeing_below m F C a h))) in
+      let each = nat_sum_le n (λ C. unsigned_abs (greatest (λ a. action_look_ahead_in (exact m.scales) m r (W C)
+      a k) (agreeing_actions m F C))) (λ C. total_size m (W C) * V)
+      (λ C p. greatest_abs (λ a. action_look_ahead_in (exact m.scales) m r (W C) a k) (total_size m (W C) * V)
+      (agreeing_actions m F C) (λ a h. action_look_most r k (W C) a (agreeing_below m F C a h))) in
       let times = nat_sum_times n (λ C. total_size m (W C)) V in
       let all = mul-le-mul_right V (front_total F n acts) in
       let whole = value_at_stage F.stage r h e in
       omega arith
 
   -- all next weights of a front's joint classes
-  pub advanced_most : (F : Front) (act : ℕ → ℕ) → IsActing m F.stage (fixed_joint_action m F) → IsChoosing m F act
+  pub advanced_most : (F : Front) (act : ℕ → ℕ) → IsActing m F.stage (fixed_joint_action m F)
+      → IsChoosing m F act
       → advanced_size (exact m.scales) m F act ≤ m.scales.start * step_scale m ^ suc F.stage
   unfolding advanced_size
   advanced_most F act acts chosen =
       let n = product (class_counts F.agents) in
       let W = λ (C : ℕ). class_weight_in (exact m.scales) m F C in
-      let each = nat_sum_le n (λ C. nat_sum (joint_observations m) (λ o. total_size m (weights_after_in (exact m.scales) m (W C) (act C) o))) (λ C. total_size m (W C) * step_scale m) (λ C p. updated_total m is (W C) (act C) (chosen C p)) in
+      let each = nat_sum_le n (λ C. nat_sum (joint_observations m)
+      (λ o. total_size m (weights_after_in (exact m.scales) m (W C) (act C) o)))
+      (λ C. total_size m (W C) * step_scale m) (λ C p. updated_total m is (W C) (act C) (chosen C p)) in
       let times = nat_sum_times n (λ C. total_size m (W C)) (step_scale m) in
       let all = mul-le-mul_right (step_scale m) (front_total F n acts) in
       let e = scale_of_next m F.stage in
@@ -130,8 +146,11 @@ module _ (m : Model) (is : IsModel m) where
       let n = product (class_counts F.agents) in
       let c = reward_most m * step_scale m ^ suc r in
       let W = λ (C : ℕ). class_weight_in (exact m.scales) m F C in
-      let each = nat_sum_le n (λ C. reward_size (exact m.scales) m r (W C) (act C)) (λ C. total_size m (W C) * c) (λ C p. reward_total m is (W C) (act C) r (chosen C p)) in
+      let each = nat_sum_le n (λ C. reward_size (exact m.scales) m r (W C) (act C))
+      (λ C. total_size m (W C) * c)
+      (λ C p. reward_total m is (W C) (act C) r (chosen C p)) in
       let times = nat_sum_times n (λ C. total_size m (W C)) c in
       let all = mul-le-mul_right c (front_total F n acts) in
-      let f = regroup m.scales.start (step_scale m ^ F.stage) (reward_most m) (step_scale m ^ suc r) (step_scale m ^ h) (split_power F.stage (suc r) h e) in
+      let f = regroup m.scales.start (step_scale m ^ F.stage) (reward_most m) (step_scale m ^ suc r)
+      (step_scale m ^ h) (split_power F.stage (suc r) h e) in
       omega arith

@@ -45,7 +45,8 @@ module _ (m : Model) (is : IsModel m) (h : ℕ) (some : 0 < h) (mode : true ≡ 
   value_room t r w e small =
       let le = mul-le-mul_right (r * reward_most m * step_scale m ^ r) small in
       let whole = whole_room m is h some mode r (omega arith) in
-      let f = weights_times_value m.scales.start (step_scale m ^ t) r (reward_most m) (step_scale m ^ r) (step_scale m ^ h) (split_power t r e) in omega arith
+      let f = weights_times_value m.scales.start (step_scale m ^ t) r (reward_most m) (step_scale m ^ r)
+      (step_scale m ^ h) (split_power t r e) in omega arith
 
   -- a reward of the weights of a time
   reward_room : (t r w : ℕ) → t + suc r ≡ h → w ≤ m.scales.start * step_scale m ^ t
@@ -63,7 +64,8 @@ module _ (m : Model) (is : IsModel m) (h : ℕ) (some : 0 < h) (mode : true ≡ 
   table_room r le =
       let t = h - r in
       let room = value_room t r (m.scales.start * step_scale m ^ t) (omega arith) (omega arith) in
-      let scale : 0 < m.scales.start * step_scale m ^ t = mul-pos is.scales.start (one-le-pow t (step_scale m) (step_scale_some m is)) in
+      let scale : 0 < m.scales.start * step_scale m ^ t = mul-pos is.scales.start
+      (one-le-pow t (step_scale m) (step_scale_some m is)) in
       let le = le-mul_of_pos_right (value_most m r) scale in omega arith
 
   -- what a reward is multiplied by
@@ -71,10 +73,13 @@ module _ (m : Model) (is : IsModel m) (h : ℕ) (some : 0 < h) (mode : true ≡ 
   unfolding value_most
   factor_room r lt =
       let room = table_room (suc r) lt in
-      let part = le-mul_of_pos_right (step_scale m ^ suc r) (mul-pos {m = suc r} {n = reward_most m} (omega arith) (reward_most_some m)) in
+      let part = le-mul_of_pos_right (step_scale m ^ suc r) (mul-pos {m = suc r} {n = reward_most m}
+      (omega arith)
+      (reward_most_some m)) in
       let e = reward_factor_is m r in
       let f = pow-suc (step_scale m) r in
-      let le = mul-le-mul_left (step_scale m ^ r) (discount_le m.scales.trans m.scales.obs m.scales.discount (step_scale m) is.scales.trans is.scales.obs (step_scale_is m)) in
+      let le = mul-le-mul_left (step_scale m ^ r) (discount_le m.scales.trans m.scales.obs m.scales.discount
+      (step_scale m) is.scales.trans is.scales.obs (step_scale_is m)) in
       omega arith
     where
       discount_le : (a b d k : ℕ) → 0 < a → 0 < b → a * b * d ≡ k → d ≤ k
@@ -83,9 +88,11 @@ module _ (m : Model) (is : IsModel m) (h : ℕ) (some : 0 < h) (mode : true ≡ 
   -- ---- rewards
   -- the call for a part of a reward
   may_gain : (t r : ℕ) (ws : ℕ → Span) (a s u o : ℕ) → t + suc r ≡ h → AreWeights true m t ws → IsStep m a s u o
-      → (exact_calls m.scales).Gain ((exact m.scales).chance (ws s) (trans_at m a s u) (obs_at m a u o)) (reward_at m a s u o) r
+      → (exact_calls m.scales).Gain ((exact m.scales).chance (ws s) (trans_at m a s u) (obs_at m a u o))
+      (reward_at m a s u o) r
   may_gain t r ws a s u o e are st =
-      let G = λ (u o : ℕ). size ((exact m.scales).gain ((exact m.scales).chance (ws s) (trans_at m a s u) (obs_at m a u o)) (reward_at m a s u o) r) in
+      let G = λ (u o : ℕ). size ((exact m.scales).gain ((exact m.scales).chance (ws s) (trans_at m a s u)
+      (obs_at m a u o)) (reward_at m a s u o) r) in
       let one = nat_sum_at (joint_observations m) (λ o. G u o) o st.seen in
       let all = nat_sum_at m.states (λ u. nat_sum (joint_observations m) (λ o. G u o)) u st.next in
       let most = gained_total m is (ws s) a s r st.action st.state in
@@ -97,7 +104,8 @@ module _ (m : Model) (is : IsModel m) (h : ℕ) (some : 0 < h) (mode : true ≡ 
   -- all parts of a reward
   rewards_fit : (t r : ℕ) (ws : ℕ → Span) (a : ℕ) → t + suc r ≡ h → AreWeights true m t ws → a < joint_actions m
       → reward_size (exact m.scales) m r ws a < 2 ^ 127
-  rewards_fit t r ws a e are pa = let most = reward_total m is ws a r pa in let room = reward_room t r (total_size m ws) e are.limit in omega arith
+  rewards_fit t r ws a e are pa = let most = reward_total m is ws a r pa in
+      let room = reward_room t r (total_size m ws) e are.limit in omega arith
 
   -- in exact mode rewards are allowed
   pub exact_can_reward : CanReward (exact m.scales) (exact_calls m.scales) m h
@@ -107,7 +115,8 @@ module _ (m : Model) (is : IsModel m) (h : ℕ) (some : 0 < h) (mode : true ≡ 
   -- all parts of the worth of a joint policy
   worth_fits : (t r : ℕ) (ws : ℕ → Span) (qs : List PolicyTree) → t + r ≡ h → AreWeights true m t ws
       → IsPolicyOf m r qs → worth_size (exact m.scales) m r ws qs < 2 ^ 127
-  worth_fits t r ws qs e are p = let most = worth_most m is r ws qs p in let room = value_room t r (total_size m ws) e are.limit in omega arith
+  worth_fits t r ws qs e are p = let most = worth_most m is r ws qs p in
+      let room = value_room t r (total_size m ws) e are.limit in omega arith
 
   -- in exact mode worth can be added up
   pub exact_can_evaluate : CanEvaluate (exact m.scales) m h
@@ -124,16 +133,19 @@ module _ (m : Model) (is : IsModel m) (h : ℕ) (some : 0 < h) (mode : true ≡ 
       let part = chances_step m is h some mode a s t o st in
       let grown = power_grows m is h some mode 1 some in
       let room = weight_room m is h some mode in
-      let first : step_scale m ^ 1 ≡ step_scale m = pow-suc (step_scale m) 0 ∙ ap (λ (n : ℕ). n * step_scale m) (pow-zero (step_scale m)) ∙ omega arith in
+      let first : step_scale m ^ 1 ≡ step_scale m = pow-suc (step_scale m) 0
+      ∙ ap (λ (n : ℕ). n * step_scale m) (pow-zero (step_scale m)) ∙ omega arith in
       let scale = le-mul_of_pos_right (step_scale m ^ 1) is.scales.start in
       (one_point m, omega arith)
 
   -- the call for a part of the reward now
   table_gain : (r a s t o : ℕ) → r < h → IsStep m a s t o
-      → (exact_calls m.scales).Gain ((exact m.scales).chance (exact m.scales).one (trans_at m a s t) (obs_at m a t o)) (reward_at m a s t o) r
+      → (exact_calls m.scales).Gain ((exact m.scales).chance (exact m.scales).one (trans_at m a s t)
+      (obs_at m a t o)) (reward_at m a s t o) r
   unfolding value_most
   table_gain r a s t o lt st =
-      let G = λ (t o : ℕ). size ((exact m.scales).gain ((exact m.scales).chance (exact m.scales).one (trans_at m a s t) (obs_at m a t o)) (reward_at m a s t o) r) in
+      let G = λ (t o : ℕ). size ((exact m.scales).gain ((exact m.scales).chance (exact m.scales).one
+      (trans_at m a s t) (obs_at m a t o)) (reward_at m a s t o) r) in
       let one = nat_sum_at (joint_observations m) (λ o. G t o) o st.seen in
       let all = nat_sum_at m.states (λ t. nat_sum (joint_observations m) (λ o. G t o)) t st.next in
       let most = gained_total m is (exact m.scales).one a s r st.action st.state in
@@ -147,17 +159,24 @@ module _ (m : Model) (is : IsModel m) (h : ℕ) (some : 0 < h) (mode : true ≡ 
   unfolding table_later_size
   table_carry r a s t lt pa ps pt =
       let parts = table_parts_most m is r a s pa ps (λ t pt. table_most m is r t pt) in
-      let one = nat_sum_at m.states (λ t. unsigned_abs ((exact m.scales).carry (mdp_table_in (exact m.scales) m r t) (trans_at m a s t))) t pt in
+      let one = nat_sum_at m.states (λ t. unsigned_abs ((exact m.scales).carry
+      (mdp_table_in (exact m.scales) m r t) (trans_at m a s t))) t pt in
       let room = table_room (suc r) lt in omega arith
 
   -- all parts of a value of the table
   table_fits : (r a s : ℕ) → r < h → a < joint_actions m → s < m.states
       → table_reward_size (exact m.scales) m r a s + table_later_size (exact m.scales) m r a s < 2 ^ 127
-  table_fits r a s lt pa ps = let parts = table_parts_most m is r a s pa ps (λ t pt. table_most m is r t pt) in let room = table_room (suc r) lt in omega arith
+  table_fits r a s lt pa ps = let parts = table_parts_most m is r a s pa ps (λ t pt. table_most m is r t pt) in
+      let room = table_room (suc r) lt in omega arith
 
   -- in exact mode the table can be computed
   pub exact_can_tabulate : CanTabulate (exact m.scales) (exact_calls m.scales) m h
-  exact_can_tabulate = record { chance = table_chance; gain = table_gain; carry = table_carry; add = table_fits }
+  exact_can_tabulate = record {
+    chance = table_chance;
+    gain = table_gain;
+    carry = table_carry;
+    add = table_fits;
+  }
 
   -- ---- look-ahead
   -- the call for a weight against the table
@@ -174,12 +193,14 @@ module _ (m : Model) (is : IsModel m) (h : ℕ) (some : 0 < h) (mode : true ≡ 
   -- all weights against the table
   tails_fit : (t r : ℕ) (ws : ℕ → Span) → t + r ≡ h → AreWeights true m t ws
       → weighted_table_size (exact m.scales) m r ws < 2 ^ 127
-  tails_fit t r ws e are = let most = weighted_table_most m is r ws in let room = value_room t r (total_size m ws) e are.limit in omega arith
+  tails_fit t r ws e are = let most = weighted_table_most m is r ws in
+      let room = value_room t r (total_size m ws) e are.limit in omega arith
 
   -- the reward now and the look-aheads after it
   looks_fit : (t r k : ℕ) (ws : ℕ → Span) (a : ℕ) → t + suc r ≡ h → AreWeights true m t ws → a < joint_actions m
       → reward_size (exact m.scales) m r ws a + next_look_size (exact m.scales) m r ws a k < 2 ^ 127
-  looks_fit t r k ws a e are pa = let most = looks_most m is r k ws a pa in let room = value_room t (suc r) (total_size m ws) e are.limit in omega arith
+  looks_fit t r k ws a e are pa = let most = looks_most m is r k ws a pa in
+      let room = value_room t (suc r) (total_size m ws) e are.limit in omega arith
 
   -- in exact mode look-ahead can be computed
   pub exact_can_look_ahead : CanLookAhead (exact m.scales) (exact_calls m.scales) m h
@@ -189,13 +210,16 @@ module _ (m : Model) (is : IsModel m) (h : ℕ) (some : 0 < h) (mode : true ≡ 
   -- ---- fronts
   -- all weights of a time
   weights_fit : (act : List ℕ → ℕ) (t : ℕ) → t ≤ h → IsActing m t act
-      → nat_history_sum (joint_observations m) t (λ H. total_size m (history_weight_in (exact m.scales) m act H))
+      → nat_history_sum (joint_observations m) t (λ H. total_size m
+      (history_weight_in (exact m.scales) m act H))
       < 2 ^ 127
-  weights_fit act t le acts = let most = histories_total m is act t acts in let grown = power_grows m is h some mode t le in let room = weight_room m is h some mode in omega arith
+  weights_fit act t le acts = let most = histories_total m is act t acts in
+      let grown = power_grows m is h some mode t le in let room = weight_room m is h some mode in omega arith
 
   -- what a front has earned and its best look-aheads
   looks_of_front_fit : (F : Front) (r k : ℕ) → IsFront m h F → F.stage + suc r ≡ h
-      → earned_size (exact m.scales) m (fixed_joint_action m F) h F.stage + class_look_size (exact m.scales) m r F k
+      → earned_size (exact m.scales) m (fixed_joint_action m F) h F.stage + class_look_size (exact m.scales)
+      m r F k
       ≤ 2 ^ 126
   looks_of_front_fit F r k front e =
       let acts = front_acting m h F front in
@@ -214,13 +238,16 @@ module _ (m : Model) (is : IsModel m) (h : ℕ) (some : 0 < h) (mode : true ≡ 
   class_limit F C front =
       let acts = front_acting m h F front in
       let all = front_total m is F (suc C) acts in
-      let one = nat_sum_at (suc C) (λ C. total_size m (class_weight_in (exact m.scales) m F C)) C (omega arith) in omega arith
+      let one = nat_sum_at (suc C) (λ C. total_size m (class_weight_in (exact m.scales) m F C)) C
+      (omega arith) in
+      omega arith
 
   -- they are weights of the stage
   weights_of_class : (F : Front) (C : ℕ) → IsFront m h F → F.stage < h
       → AreWeights true m F.stage (class_weight_in (exact m.scales) m F C)
   unfolding exact
-  weights_of_class F C front lt = class_weights (exact m.scales) (exact_calls m.scales) m h (exact_can_update_weights m is h some mode) F C front lt (class_limit F C front)
+  weights_of_class F C front lt = class_weights (exact m.scales) (exact_calls m.scales) m h
+      (exact_can_update_weights m is h some mode) F C front lt (class_limit F C front)
 
   -- all next weights of a front's joint classes
   advanced_fits : (F : Front) (act : ℕ → ℕ) → IsFront m h F → F.stage < h → IsChoosing m F act
@@ -231,8 +258,10 @@ module _ (m : Model) (is : IsModel m) (h : ℕ) (some : 0 < h) (mode : true ≡ 
       let room = weight_room m is h some mode in omega arith
 
   -- what a front has earned and its rewards
-  rewards_of_front_fit : (F : Front) (r : ℕ) (act : ℕ → ℕ) → IsFront m h F → F.stage + suc r ≡ h → IsChoosing m F act
-      → earned_size (exact m.scales) m (fixed_joint_action m F) h F.stage + class_reward_size (exact m.scales) m r F act
+  rewards_of_front_fit : (F : Front) (r : ℕ) (act : ℕ → ℕ) → IsFront m h F → F.stage + suc r ≡ h
+      → IsChoosing m F act
+      → earned_size (exact m.scales) m (fixed_joint_action m F) h F.stage + class_reward_size (exact m.scales)
+      m r F act
       < 2 ^ 127
   rewards_of_front_fit F r act front e chosen =
       let acts = front_acting m h F front in

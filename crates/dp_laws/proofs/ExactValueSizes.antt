@@ -39,9 +39,11 @@ one_size m = refl
 module _ (m : Model) (is : IsModel m) where
   -- a reward now and the values after it are a value over one step more
   one_step_more : (M r : ℕ)
-      → M * (reward_most m * step_scale m ^ suc r) + M * step_scale m * value_most m r ≡ M * value_most m (suc r)
+      → M * (reward_most m * step_scale m ^ suc r) + M * step_scale m * value_most m r
+      ≡ M * value_most m (suc r)
   unfolding value_most
-  one_step_more M r = one_more M (step_scale m) r (reward_most m) (step_scale m ^ r) (step_scale m ^ suc r) (pow-suc (step_scale m) r)
+  one_step_more M r = one_more M (step_scale m) r (reward_most m) (step_scale m ^ r) (step_scale m ^ suc r)
+      (pow-suc (step_scale m) r)
 
   -- ---- worth
   -- all parts of the worth of a joint policy
@@ -54,7 +56,9 @@ module _ (m : Model) (is : IsModel m) where
       let a_in = root_joint_action_below m r qs p in
       let W = λ (o : ℕ). weights_after_in (exact m.scales) m ws a o in
       let reward = reward_total m is ws a r a_in in
-      let each = nat_sum_le O (λ o. worth_size (exact m.scales) m r (W o) (trees_after m qs o)) (λ o. total_size m (W o) * value_most m r) (λ o q. worth_most r (W o) (trees_after m qs o) (trees_after_fit m r qs o q p)) in
+      let each = nat_sum_le O (λ o. worth_size (exact m.scales) m r (W o) (trees_after m qs o))
+      (λ o. total_size m (W o) * value_most m r) (λ o q. worth_most r (W o) (trees_after m qs o)
+      (trees_after_fit m r qs o q p)) in
       let times = nat_sum_times O (λ o. total_size m (W o)) (value_most m r) in
       let updated = mul-le-mul_right (value_most m r) (updated_total m is ws a a_in) in
       let both = one_step_more (total_size m ws) r in
@@ -80,10 +84,14 @@ module _ (m : Model) (is : IsModel m) where
   unfolding table_later_size
   table_later_most r a s pa ps small =
       let c = m.scales.obs * m.scales.discount in
-      let each = nat_sum_le m.states (λ t. unsigned_abs ((exact m.scales).carry (mdp_table_in (exact m.scales) m r t) (trans_at m a s t))) (λ t. value_most m r * trans_at m a s t * c)
-      (λ t pt. let e = carry_size m.scales (mdp_table_in (exact m.scales) m r t) (trans_at m a s t) in let le = carry_part (value_most m r) (trans_at m a s t) m.scales.obs m.scales.gain m.scales.discount _ (small t pt) is.scales.gain in omega arith) in
+      let each = nat_sum_le m.states (λ t. unsigned_abs ((exact m.scales).carry
+      (mdp_table_in (exact m.scales) m r t) (trans_at m a s t))) (λ t. value_most m r * trans_at m a s t * c)
+      (λ t pt. let e = carry_size m.scales (mdp_table_in (exact m.scales) m r t) (trans_at m a s t) in
+      let le = carry_part (value_most m r) (trans_at m a s t) m.scales.obs m.scales.gain m.scales.discount _
+      (small t pt) is.scales.gain in omega arith) in
       let e = nat_sum_scale m.states (value_most m r) c (trans_at m a s) in
-      let f = joined (value_most m r) m.scales.trans m.scales.obs m.scales.discount (step_scale m) (nat_sum m.states (trans_at m a s)) (is.rows.trans a s pa ps) (step_scale_is m) in
+      let f = joined (value_most m r) m.scales.trans m.scales.obs m.scales.discount (step_scale m)
+      (nat_sum m.states (trans_at m a s)) (is.rows.trans a s pa ps) (step_scale_is m) in
       omega arith
     where
       joined : (V dt do' dg k n : ℕ) → n ≡ dt → dt * do' * dg ≡ k → V * n * (do' * dg) ≡ k * V
@@ -92,18 +100,22 @@ module _ (m : Model) (is : IsModel m) where
   -- both together
   pub table_parts_most : (r a s : ℕ) → a < joint_actions m → s < m.states
       → ((t : ℕ) → t < m.states → unsigned_abs (mdp_table_in (exact m.scales) m r t) ≤ value_most m r) →
-      table_reward_size (exact m.scales) m r a s + table_later_size (exact m.scales) m r a s ≤ value_most m (suc r)
+      table_reward_size (exact m.scales) m r a s + table_later_size (exact m.scales) m r a s
+      ≤ value_most m (suc r)
   table_parts_most r a s pa ps small =
       let now = table_reward_most r a s pa ps in
       let after = table_later_most r a s pa ps small in
       let both = one_step_more 1 r in omega arith
 
   -- a value of the table
-  pub table_most : (r s : ℕ) → s < m.states → unsigned_abs (mdp_table_in (exact m.scales) m r s) ≤ value_most m r
+  pub table_most : (r s : ℕ) → s < m.states → unsigned_abs (mdp_table_in (exact m.scales) m r s)
+      ≤ value_most m r
   table_most zero s ps = omega arith
   table_most (suc r) s ps =
       greatest_abs _ (value_most m (suc r)) (numbers_below (joint_actions m))
-      (λ a h. let pa = below-IsIn (joint_actions m) a h in let parts = table_action_le (exact m.scales) m r a s in let most = table_parts_most r a s pa ps (λ t pt. table_most r t pt) in omega arith)
+      (λ a h. let pa = below-IsIn (joint_actions m) a h in let parts = table_action_le (exact m.scales)
+      m r a s in
+      let most = table_parts_most r a s pa ps (λ t pt. table_most r t pt) in omega arith)
 
   -- ---- look-ahead
   -- all weights against the table
@@ -111,26 +123,33 @@ module _ (m : Model) (is : IsModel m) where
       → weighted_table_size (exact m.scales) m r ws ≤ total_size m ws * value_most m r
   unfolding weighted_table_size
   weighted_table_most r ws =
-      let each = nat_sum_le m.states (λ s. unsigned_abs ((exact m.scales).tail (ws s) (mdp_table_in (exact m.scales) m r s))) (λ s. size (ws s) * value_most m r)
-      (λ s ps. let part = tail_size m.scales (ws s) (mdp_table_in (exact m.scales) m r s) in let le = mul-le-mul_left (size (ws s)) (table_most r s ps) in omega arith) in
+      let each = nat_sum_le m.states (λ s. unsigned_abs ((exact m.scales).tail (ws s)
+      (mdp_table_in (exact m.scales) m r s))) (λ s. size (ws s) * value_most m r)
+      (λ s ps. let part = tail_size m.scales (ws s) (mdp_table_in (exact m.scales) m r s) in
+      let le = mul-le-mul_left (size (ws s)) (table_most r s ps) in omega arith) in
       let e = nat_sum_times m.states (λ s. size (ws s)) (value_most m r) in omega arith
 
   -- their sum
   weighted_table_abs : (r : ℕ) (ws : ℕ → Span)
       → unsigned_abs (weighted_table_in (exact m.scales) m r ws) ≤ total_size m ws * value_most m r
   unfolding weighted_table_in weighted_table_size
-  weighted_table_abs r ws = let parts = int_sum_abs m.states (λ s. (exact m.scales).tail (ws s) (mdp_table_in (exact m.scales) m r s)) in let most = weighted_table_most r ws in omega arith
+  weighted_table_abs r ws = let parts = int_sum_abs m.states
+      (λ s. (exact m.scales).tail (ws s) (mdp_table_in (exact m.scales) m r s)) in
+      let most = weighted_table_most r ws in omega arith
 
   -- the reward now and the look-aheads after it, where these are small
   looks_from : (r k : ℕ) (ws : ℕ → Span) (a : ℕ) → a < joint_actions m
-      → ((ws : ℕ → Span) → unsigned_abs (look_ahead_in (exact m.scales) m r ws k) ≤ total_size m ws * value_most m r) →
-      reward_size (exact m.scales) m r ws a + next_look_size (exact m.scales) m r ws a k ≤ total_size m ws * value_most m (suc r)
+      → ((ws : ℕ → Span) → unsigned_abs (look_ahead_in (exact m.scales) m r ws k)
+      ≤ total_size m ws * value_most m r) →
+      reward_size (exact m.scales) m r ws a + next_look_size (exact m.scales) m r ws a k
+      ≤ total_size m ws * value_most m (suc r)
   unfolding next_look_size
   looks_from r k ws a pa small =
       let O = joint_observations m in
       let W = λ (o : ℕ). weights_after_in (exact m.scales) m ws a o in
       let reward = reward_total m is ws a r pa in
-      let each = nat_sum_le O (λ o. unsigned_abs (look_ahead_in (exact m.scales) m r (W o) k)) (λ o. total_size m (W o) * value_most m r) (λ o q. small (W o)) in
+      let each = nat_sum_le O (λ o. unsigned_abs (look_ahead_in (exact m.scales) m r (W o) k))
+      (λ o. total_size m (W o) * value_most m r) (λ o q. small (W o)) in
       let times = nat_sum_times O (λ o. total_size m (W o)) (value_most m r) in
       let updated = mul-le-mul_right (value_most m r) (updated_total m is ws a pa) in
       let both = one_step_more (total_size m ws) r in
@@ -138,13 +157,17 @@ module _ (m : Model) (is : IsModel m) where
 
   -- look-ahead of a joint action by its parts
   look_parts : (r k : ℕ) (ws : ℕ → Span) (a : ℕ) →
-      unsigned_abs ((weighted_reward_in (exact m.scales) m r ws a).high +ℤ int_sum (joint_observations m) (λ o. look_ahead_in (exact m.scales) m r (weights_after_in (exact m.scales) m ws a o) k)) ≤ reward_size (exact m.scales) m r ws a + next_look_size (exact m.scales) m r ws a k
+      unsigned_abs ((weighted_reward_in (exact m.scales) m r ws a).high +ℤ int_sum (joint_observations m)
+      (λ o. look_ahead_in (exact m.scales) m r (weights_after_in (exact m.scales) m ws a o) k))
+      ≤ reward_size (exact m.scales) m r ws a + next_look_size (exact m.scales) m r ws a k
   unfolding next_look_size
   look_parts r k ws a =
       let V = λ (o : ℕ). look_ahead_in (exact m.scales) m r (weights_after_in (exact m.scales) m ws a o) k in
       let now = reward_size_le (exact m.scales) m r ws a in
       let after = int_sum_abs (joint_observations m) V in
-      let both = abs_add (weighted_reward_in (exact m.scales) m r ws a).high (int_sum (joint_observations m) V) in omega arith
+      let both = abs_add (weighted_reward_in (exact m.scales) m r ws a).high
+      (int_sum (joint_observations m) V) in
+      omega arith
 
   -- look-ahead
   pub look_most : (r k : ℕ) (ws : ℕ → Span)
@@ -154,7 +177,8 @@ module _ (m : Model) (is : IsModel m) where
   look_most (suc r) (suc k) ws =
       abs_min _ (weighted_table_in (exact m.scales) m (suc r) ws) (total_size m ws * value_most m (suc r))
       (greatest_abs _ (total_size m ws * value_most m (suc r)) (numbers_below (joint_actions m))
-      (λ a h. let pa = below-IsIn (joint_actions m) a h in let parts = look_parts r k ws a in let most = looks_from r k ws a pa (λ vs. look_most r k vs) in omega arith))
+      (λ a h. let pa = below-IsIn (joint_actions m) a h in let parts = look_parts r k ws a in
+      let most = looks_from r k ws a pa (λ vs. look_most r k vs) in omega arith))
       (weighted_table_abs (suc r) ws)
 
   -- the reward now and the look-aheads after it

@@ -47,7 +47,8 @@ module _ (m : Model) (is : IsModel m) (h : ℕ) (some : 0 < h) (mode : true ≡ 
 
   -- the weight 1 at the horizon
   pub weight_room : m.scales.start * step_scale m ^ h ≤ 2 ^ 126
-  weight_room = let room = whole_room 1 some in let le = le-mul_of_pos_right (m.scales.start * step_scale m ^ h) (reward_most_some m) in omega arith
+  weight_room = let room = whole_room 1 some in let le = le-mul_of_pos_right (m.scales.start * step_scale m ^ h)
+      (reward_most_some m) in omega arith
 
   -- the weight 1 at an earlier time
   pub power_grows : (t : ℕ) → t ≤ h → m.scales.start * step_scale m ^ t ≤ m.scales.start * step_scale m ^ h
@@ -62,7 +63,8 @@ module _ (m : Model) (is : IsModel m) (h : ℕ) (some : 0 < h) (mode : true ≡ 
       let room = weight_room in omega arith
 
   -- two chances of a step by their scales
-  chances_le : (a s u o : ℕ) → IsStep m a s u o → trans_at m a s u * obs_at m a u o ≤ m.scales.trans * m.scales.obs
+  chances_le : (a s u o : ℕ) → IsStep m a s u o → trans_at m a s u * obs_at m a u o
+      ≤ m.scales.trans * m.scales.obs
   chances_le a s u o st =
       let p = nat_sum_at m.states (trans_at m a s) u st.next in
       let z = nat_sum_at (joint_observations m) (obs_at m a u) o st.seen in
@@ -72,23 +74,29 @@ module _ (m : Model) (is : IsModel m) (h : ℕ) (some : 0 < h) (mode : true ≡ 
 
   -- and by the step scale
   pub chances_step : (a s u o : ℕ) → IsStep m a s u o → trans_at m a s u * obs_at m a u o ≤ step_scale m
-  chances_step a s u o st = let le = chances_le a s u o st in let more = le-mul_of_pos_right (m.scales.trans * m.scales.obs) is.scales.discount in let e = step_scale_is m in omega arith
+  chances_step a s u o st = let le = chances_le a s u o st in
+      let more = le-mul_of_pos_right (m.scales.trans * m.scales.obs) is.scales.discount in
+      let e = step_scale_is m in omega arith
 
   -- the same with the discount
   chances_gain_step : (a s u o : ℕ) → IsStep m a s u o
       → trans_at m a s u * obs_at m a u o * m.scales.gain ≤ step_scale m
-  chances_gain_step a s u o st = let le = mul-le-mul (chances_le a s u o st) is.scales.gain in let e = step_scale_is m in omega arith
+  chances_gain_step a s u o st = let le = mul-le-mul (chances_le a s u o st) is.scales.gain in
+      let e = step_scale_is m in omega arith
 
   -- one weight is at most all of them
   weight_le : (t s : ℕ) (ws : ℕ → Span) → AreWeights true m t ws → s < m.states
       → size (ws s) ≤ m.scales.start * step_scale m ^ t
-  weight_le t s ws are ps = let one = nat_sum_at m.states (λ s. size (ws s)) s ps in let all = are.limit in omega arith
+  weight_le t s ws are ps = let one = nat_sum_at m.states (λ s. size (ws s)) s ps in let all = are.limit in
+      omega arith
 
   -- ---- updates of weights
   may_chance : (t : ℕ) (ws : ℕ → Span) (a s u o : ℕ) → t < h → AreWeights true m t ws → IsStep m a s u o
       → (exact_calls m.scales).Chance (ws s) (trans_at m a s u) (obs_at m a u o)
   may_chance t ws a s u o lt are st =
-      let room = step_room t (size (ws s)) (trans_at m a s u * obs_at m a u o) lt (weight_le t s ws are st.state) (chances_step a s u o st) in
+      let room = step_room t (size (ws s)) (trans_at m a s u * obs_at m a u o) lt
+      (weight_le t s ws are st.state)
+      (chances_step a s u o st) in
       let e = chance_size m.scales (ws s) (trans_at m a s u) (obs_at m a u o) in
       (are.points refl s st.state, omega arith)
 
@@ -97,15 +105,20 @@ module _ (m : Model) (is : IsModel m) (h : ℕ) (some : 0 < h) (mode : true ≡ 
       → (exact_calls m.scales).Later ((exact m.scales).chance (ws s) (trans_at m a s u) (obs_at m a u o))
   may_later t ws a s u o lt are st =
       let v = (exact m.scales).chance (ws s) (trans_at m a s u) (obs_at m a u o) in
-      let room = step_room t (size (ws s)) (trans_at m a s u * obs_at m a u o * m.scales.gain) lt (weight_le t s ws are st.state) (chances_gain_step a s u o st) in
-      let e = later_size m.scales v ∙ ap (λ (n : ℕ). n * m.scales.gain) (chance_size m.scales (ws s) (trans_at m a s u) (obs_at m a u o)) in
+      let room = step_room t (size (ws s)) (trans_at m a s u * obs_at m a u o * m.scales.gain) lt
+      (weight_le t s ws are st.state) (chances_gain_step a s u o st) in
+      let e = later_size m.scales v ∙ ap (λ (n : ℕ). n * m.scales.gain)
+      (chance_size m.scales (ws s) (trans_at m a s u) (obs_at m a u o)) in
       (chance_point m.scales (ws s) _ _ (are.points refl s st.state), omega arith)
 
   -- the parts of a next weight
-  may_add : (t : ℕ) (ws : ℕ → Span) (a u o : ℕ) → t < h → AreWeights true m t ws → a < joint_actions m → u < m.states
+  may_add : (t : ℕ) (ws : ℕ → Span) (a u o : ℕ) → t < h → AreWeights true m t ws → a < joint_actions m
+      → u < m.states
       → o < joint_observations m →
-      nat_sum m.states (λ s. size ((exact m.scales).later ((exact m.scales).chance (ws s) (trans_at m a s u) (obs_at m a u o)))) < 2 ^ 127
-  may_add t ws a u o lt are pa pu po = let parts = next_parts m is ws a o u pa po pu in let room = step_room t (total_size m ws) (step_scale m) lt are.limit (omega arith) in omega arith
+      nat_sum m.states (λ s. size ((exact m.scales).later ((exact m.scales).chance (ws s) (trans_at m a s u)
+      (obs_at m a u o)))) < 2 ^ 127
+  may_add t ws a u o lt are pa pu po = let parts = next_parts m is ws a o u pa po pu in
+      let room = step_room t (total_size m ws) (step_scale m) lt are.limit (omega arith) in omega arith
 
   -- the weights of the start
   started_weights : AreWeights true m 0 (λ s. (exact m.scales).start (start_at m s))
@@ -121,13 +134,15 @@ module _ (m : Model) (is : IsModel m) (h : ℕ) (some : 0 < h) (mode : true ≡ 
   next_ordered : (t : ℕ) (ws : ℕ → Span) (a o u : ℕ) → AreWeights true m t ws
       → IsOrdered (weights_after_in (exact m.scales) m ws a o u)
   unfolding weights_after_in
-  next_ordered t ws a o u are = sum_ordered m.states _ (λ s p. later_ordered m.scales _ (chance_ordered m.scales (ws s) _ _ (weight_ordered are s p)))
+  next_ordered t ws a o u are = sum_ordered m.states _ (λ s p. later_ordered m.scales _
+      (chance_ordered m.scales (ws s) _ _ (weight_ordered are s p)))
 
   -- next weights are one number each
   next_point : (t : ℕ) (ws : ℕ → Span) (a o u : ℕ) → AreWeights true m t ws
       → IsPoint (weights_after_in (exact m.scales) m ws a o u)
   unfolding weights_after_in
-  next_point t ws a o u are = sum_point m.states _ (λ s p. later_point m.scales _ (chance_point m.scales (ws s) _ _ (are.points refl s p)))
+  next_point t ws a o u are = sum_point m.states _ (λ s p. later_point m.scales _
+      (chance_point m.scales (ws s) _ _ (are.points refl s p)))
 
   -- next weights are weights of the next time
   next_weights : (t : ℕ) (ws : ℕ → Span) (a o : ℕ) → AreWeights true m t ws → a < joint_actions m
@@ -138,7 +153,8 @@ module _ (m : Model) (is : IsModel m) (h : ℕ) (some : 0 < h) (mode : true ≡ 
     points = λ e u p. next_point t ws a o u are;
     limit =
         let all = updated_total m is ws a pa in
-        let one = nat_sum_at (joint_observations m) (λ o. total_size m (weights_after_in (exact m.scales) m ws a o)) o po in
+        let one = nat_sum_at (joint_observations m) (λ o. total_size m
+        (weights_after_in (exact m.scales) m ws a o)) o po in
         let grown = mul-le-mul_right (step_scale m) are.limit in
         let e = scale_of_next m t in omega arith;
   }

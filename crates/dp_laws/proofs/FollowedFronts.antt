@@ -24,14 +24,16 @@ trees_of (us ∷ uss) (c ∷ cs) = us c ∷ trees_of uss cs
 -- what remains after a joint history, by the own histories
 pub trees_after_history_are : (m : Model) (qs : List PolicyTree)
     → trees_at m.observations qs zero (map (λ n. 0) m.observations) ≡ qs →
-    (t : ℕ) (H : List ℕ) → IsJointHistory (joint_observations m) t H → trees_after_history m qs H ≡ trees_at m.observations qs t (own_histories m.observations H)
+    (t : ℕ) (H : List ℕ) → IsJointHistory (joint_observations m) t H
+    → trees_after_history m qs H ≡ trees_at m.observations qs t (own_histories m.observations H)
 unfolding trees_after joint_observations
 trees_after_history_are m qs e zero [] h = sym e
 trees_after_history_are m qs e zero (o ∷ H) h = absurd h
 trees_after_history_are m qs e (suc t) [] h = absurd h
 trees_after_history_are m qs e (suc t) (o ∷ H) h =
     ap (λ x. subtrees_at x (parts_of m.observations o)) (trees_after_history_are m qs e t H h.1)
-    ∙ subtrees_at_next m.observations qs t (own_histories m.observations H) (parts_of m.observations o) (parts_below m.observations o h.0)
+    ∙ subtrees_at_next m.observations qs t (own_histories m.observations H) (parts_of m.observations o)
+    (parts_below m.observations o h.0)
 
 -- at the stage it is the trees of the classes
 pub trees_at_stage : {f r : ℕ} {bs ns : List ℕ} {ds : List AgentFront} {qs : List PolicyTree}
@@ -70,7 +72,8 @@ pub class_trees_agree : {f r : ℕ} {bs ns : List ℕ} {ds : List AgentFront} {q
 class_trees_agree no_agents cs h = refl
 class_trees_agree (and_agent k ks) [] h = absurd h
 class_trees_agree (and_agent {d = d} k ks) (c ∷ cs) h =
-    let here = agrees_with_choice (get_or d.chosen c None) _ (λ b e. k.does_chosen c b h.0 e) in rw (here, class_trees_agree ks cs h.1)
+    let here = agrees_with_choice (get_or d.chosen c None) _ (λ b e. k.does_chosen c b h.0 e) in
+    rw (here, class_trees_agree ks cs h.1)
 
 -- and are actions of the agents
 pub class_actions_below : {f r : ℕ} {bs ns : List ℕ} {ds : List AgentFront} {qs : List PolicyTree}
@@ -78,4 +81,7 @@ pub class_actions_below : {f r : ℕ} {bs ns : List ℕ} {ds : List AgentFront} 
     → AreBelow (class_counts ds) cs → AreBelow bs (map root_action (trees_of uss cs))
 class_actions_below no_agents cs h = tt
 class_actions_below (and_agent k ks) [] h = absurd h
-class_actions_below (and_agent k ks) (c ∷ cs) h = (root_action_below _ _ _ _ (k.are_trees c h.0), class_actions_below ks cs h.1)
+class_actions_below (and_agent k ks) (c ∷ cs) h = (
+  root_action_below _ _ _ _ (k.are_trees c h.0),
+  class_actions_below ks cs h.1,
+)

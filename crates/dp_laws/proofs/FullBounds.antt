@@ -24,5 +24,7 @@ full_bound_is_value m h look F is front e =
     let bound : bound_in A m 0 F look ≡ bound_of m 0 F look = (exact_quantities m is).bounds 0 F look in
     let there : F.stage + 0 ≡ h = omega arith in
     let earned : bound_of m 0 F look ≡ earned_reward m (fixed_joint_action m F) h h =
-    ap (λ (n : ℕ). earned_reward m (fixed_joint_action m F) n F.stage) there ∙ ap (λ (n : ℕ). earned_reward m (fixed_joint_action m F) h n) e in
-    ap (λ (r : ℕ). bound_in A m r F look) none ∙ bound ∙ earned ∙ sym (value_at_full_front m h F (full_policy m F) e kept.1)
+    ap (λ (n : ℕ). earned_reward m (fixed_joint_action m F) n F.stage) there
+    ∙ ap (λ (n : ℕ). earned_reward m (fixed_joint_action m F) h n) e in
+    ap (λ (r : ℕ). bound_in A m r F look) none ∙ bound ∙ earned
+    ∙ sym (value_at_full_front m h F (full_policy m F) e kept.1)

@@ -38,7 +38,11 @@ pub none_held : (k : ℕ) (es : List OpenLeaf) → All (λ e. e.node ≢ k) es �
 none_held k [] h = refl
 none_held k (e ∷ es) h =
     held_cons k e es
-    ∙ omega (arith, is_at_other k e (All-head (λ e. e.node ≢ k) e es h), none_held k es (All-tail (λ e. e.node ≢ k) e es h))
+    ∙ omega (
+      arith,
+      is_at_other k e (All-head (λ e. e.node ≢ k) e es h),
+      none_held k es (All-tail (λ e. e.node ≢ k) e es h),
+    )
 
 -- where some has the number, what holds of each holds of one with that number
 pub held_some : (k : ℕ) (P : OpenLeaf → Type 0) (es : List OpenLeaf) → 0 < held_at k es → All P es

@@ -16,7 +16,10 @@ next_below [] (n ∷ ns) xs ps e h g = absurd (omega arith)
 next_below (c ∷ cs) [] xs ps e h g = absurd (omega arith)
 next_below (c ∷ cs) (n ∷ ns) [] ps e h g = absurd h
 next_below (c ∷ cs) (n ∷ ns) (x ∷ xs) [] e h g = absurd g
-next_below (c ∷ cs) (n ∷ ns) (x ∷ xs) (p ∷ ps) e h g = (row_below x c n p h.0 g.0, next_below cs ns xs ps (omega arith) h.1 g.1)
+next_below (c ∷ cs) (n ∷ ns) (x ∷ xs) (p ∷ ps) e h g = (
+  row_below x c n p h.0 g.0,
+  next_below cs ns xs ps (omega arith) h.1 g.1,
+)
 
 nothing : (xs : List ℕ) → AreBelow [] xs → xs ≡ []
 nothing [] h = refl
@@ -26,7 +29,11 @@ nothing (x ∷ xs) h = absurd h
 pub next_injective : (cs ns xs ps ys qs : List ℕ) → length ns ≡ length cs → AreBelow cs xs → AreBelow ns ps
     → AreBelow cs ys → AreBelow ns qs → next_own_histories ns xs ps ≡ next_own_histories ns ys qs
     → (xs ≡ ys) × (ps ≡ qs)
-next_injective [] [] xs ps ys qs e hx hp hy hq same = (nothing xs hx ∙ sym (nothing ys hy), nothing ps hp ∙ sym (nothing qs hq))
+next_injective [] [] xs ps ys qs e hx hp hy hq same = (
+  nothing xs hx ∙ sym (nothing ys hy),
+  nothing ps hp
+      ∙ sym (nothing qs hq),
+)
 next_injective [] (n ∷ ns) xs ps ys qs e hx hp hy hq same = absurd (omega arith)
 next_injective (c ∷ cs) [] xs ps ys qs e hx hp hy hq same = absurd (omega arith)
 next_injective (c ∷ cs) (n ∷ ns) [] ps ys qs e hx hp hy hq same = absurd hx
@@ -37,7 +44,8 @@ next_injective (c ∷ cs) (n ∷ ns) (x ∷ xs) (p ∷ ps) (y ∷ ys) (q ∷ qs)
     let first : x * n + p ≡ y * n + q = cc in
     let others : next_own_histories ns xs ps ≡ next_own_histories ns ys qs = cc in
     let here = same_parts n x p y q hp.0 hq.0 first in
-    let rest = next_injective cs ns xs ps ys qs (omega arith) hx.1 hp.1 hy.1 hq.1 others in (cc (here.0, rest.0), cc (here.1, rest.1))
+    let rest = next_injective cs ns xs ps ys qs (omega arith) hx.1 hp.1 hy.1 hq.1 others in
+    (cc (here.0, rest.0), cc (here.1, rest.1))
 
 -- different pairs have different numbers
 pub pair_injective : (cs ns : List ℕ) (C o D u : ℕ) → length ns ≡ length cs → C < product cs → o < product ns
@@ -47,8 +55,10 @@ pair_injective cs ns C o D u e hC ho hD hu same =
     let o_in = parts_below ns o ho in
     let D_in = parts_below cs D hD in
     let u_in = parts_below ns u hu in
-    let parts = next_injective cs ns (parts_of cs C) (parts_of ns o) (parts_of cs D) (parts_of ns u) e C_in o_in D_in u_in
-    (sym (parts_of-joint_number _ _ (next_below cs ns _ _ e C_in o_in)) ∙ ap (parts_of (pair_counts cs ns)) same ∙ parts_of-joint_number _ _ (next_below cs ns _ _ e D_in u_in)) in (
+    let parts = next_injective cs ns (parts_of cs C) (parts_of ns o) (parts_of cs D) (parts_of ns u)
+    e C_in o_in D_in u_in
+    (sym (parts_of-joint_number _ _ (next_below cs ns _ _ e C_in o_in)) ∙ ap (parts_of (pair_counts cs ns)) same
+    ∙ parts_of-joint_number _ _ (next_below cs ns _ _ e D_in u_in)) in (
       sym (joint_number-parts_of cs C hC) ∙ ap (joint_number cs) parts.0 ∙ joint_number-parts_of cs D hD,
       sym (joint_number-parts_of ns o ho) ∙ ap (joint_number ns) parts.1 ∙ joint_number-parts_of ns u hu,
     )
@@ -58,12 +68,14 @@ one_place f = omega (arith, ints)
 
 -- the number of a pair, agent by agent
 pub pair_step : (c n : ℕ) (cs ns : List ℕ) (x C p o : ℕ) → C < product cs → o < product ns →
-    (x * n + p) * product (pair_counts cs ns) + pair_number cs ns C o ≡ pair_number (c ∷ cs) (n ∷ ns) (x * product cs + C) (p * product ns + o)
+    (x * n + p) * product (pair_counts cs ns) + pair_number cs ns C o
+    ≡ pair_number (c ∷ cs) (n ∷ ns) (x * product cs + C) (p * product ns + o)
 pair_step c n cs ns x C p o hC ho =
     let first : (x * product cs + C) / product cs ≡ x = div-mul-add x (product cs) C hC in
     let rest : (x * product cs + C) % product cs ≡ C = mod-mul-add x (product cs) C hC in
     let first' : (p * product ns + o) / product ns ≡ p = div-mul-add p (product ns) o ho in
-    let rest' : (p * product ns + o) % product ns ≡ o = mod-mul-add p (product ns) o ho in rw (first, rest, first', rest')
+    let rest' : (p * product ns + o) % product ns ≡ o = mod-mul-add p (product ns) o ho in
+    rw (first, rest, first', rest')
 
 -- a sum over the numbers of pairs is a sum over joint classes and joint observations
 pub int_sum_pairs : (cs ns : List ℕ) → length ns ≡ length cs → (g : ℕ → ℤ)

@@ -45,22 +45,28 @@ others_long (suc i) (n ∷ ns) h = let e = others_long i ns (omega arith) in ome
 -- ---- joint numbers
 parts_long : (i : ℕ) (ns : List ℕ) (x : ℕ) → i < length ns → x < product (without i ns)
     → i ≤ length (parts_of (without i ns) x)
-parts_long i ns x p h = let e = length-below (without i ns) (parts_of (without i ns) x) (parts_below (without i ns) x h) in let l = others_long i ns p in omega arith
+parts_long i ns x p h = let e = length-below (without i ns) (parts_of (without i ns) x)
+    (parts_below (without i ns) x h) in let l = others_long i ns p in omega arith
 
-pub parts-placed : (i : ℕ) (ns : List ℕ) (c x : ℕ) → i < length ns → c < get_or ns i 0 → x < product (without i ns)
+pub parts-placed : (i : ℕ) (ns : List ℕ) (c x : ℕ) → i < length ns → c < get_or ns i 0
+    → x < product (without i ns)
     → parts_of ns (placed_number i ns c x) ≡ inserted i c (parts_of (without i ns) x)
-parts-placed i ns c x p q h = parts_of-joint_number ns _ (below_inserted i ns c _ p q (parts_below (without i ns) x h))
+parts-placed i ns c x p q h = parts_of-joint_number ns _ (below_inserted i ns c _ p q
+    (parts_below (without i ns) x h))
 
 -- different places have different numbers
 pub placed_injective : (i : ℕ) (ns : List ℕ) (c x d y : ℕ) → i < length ns → c < get_or ns i 0
     → x < product (without i ns) → d < get_or ns i 0 → y < product (without i ns)
     → placed_number i ns c x ≡ placed_number i ns d y → (c ≡ d) × (x ≡ y)
 placed_injective i ns c x d y p hc hx hd hy e =
-    let lists : inserted i c (parts_of (without i ns) x) ≡ inserted i d (parts_of (without i ns) y) = sym (parts-placed i ns c x p hc hx) ∙ ap (parts_of ns) e ∙ parts-placed i ns d y p hd hy in
+    let lists : inserted i c (parts_of (without i ns) x) ≡ inserted i d (parts_of (without i ns) y) = sym
+    (parts-placed i ns c x p hc hx) ∙ ap (parts_of ns) e ∙ parts-placed i ns d y p hd hy in
     let long_x = parts_long i ns x p hx in
     let long_y = parts_long i ns y p hy in (
       sym (get_or-inserted i c _ long_x) ∙ ap (λ z. get_or z i 0) lists ∙ get_or-inserted i d _ long_y,
-      sym (joint_number-parts_of (without i ns) x hx) ∙ ap (joint_number (without i ns)) (sym (without-inserted i c _ long_x) ∙ ap (without i) lists ∙ without-inserted i d _ long_y) ∙ joint_number-parts_of (without i ns) y hy,
+      sym (joint_number-parts_of (without i ns) x hx) ∙ ap (joint_number (without i ns))
+          (sym (without-inserted i c _ long_x) ∙ ap (without i) lists ∙ without-inserted i d _ long_y)
+          ∙ joint_number-parts_of (without i ns) y hy,
     )
 
 -- a joint number of parts, by place
@@ -68,24 +74,31 @@ pub joint_is_placed : (i : ℕ) (ns xs : List ℕ) → i < length ns → AreBelo
     → joint_number ns xs ≡ placed_number i ns (get_or xs i 0) (joint_number (without i ns) (without i xs))
 joint_is_placed i ns xs p h =
     let long = length-below ns xs h in
-    ap (joint_number ns) (sym (inserted-without i xs (omega arith)) ∙ ap (inserted i (get_or xs i 0)) (sym (parts_of-joint_number (without i ns) (without i xs) (below_others i ns xs h))))
+    ap (joint_number ns) (sym (inserted-without i xs (omega arith))
+    ∙ ap (inserted i (get_or xs i 0)) (sym (parts_of-joint_number (without i ns) (without i xs)
+    (below_others i ns xs h))))
 
-place_first : (n : ℕ) (ns : List ℕ) (c x : ℕ) → x < product ns → c * product ns + x ≡ placed_number zero (n ∷ ns) c x
+place_first : (n : ℕ) (ns : List ℕ) (c x : ℕ) → x < product ns
+    → c * product ns + x ≡ placed_number zero (n ∷ ns) c x
 place_first n ns c x h = ap (λ (z : ℕ). c * product ns + z) (sym (joint_number-parts_of ns x h))
 
 -- a place behind the first agent
 pub place_later : (i n : ℕ) (ns : List ℕ) (y c x : ℕ) → x < product (without i ns)
-    → y * product ns + placed_number i ns c x ≡ placed_number (suc i) (n ∷ ns) c (y * product (without i ns) + x)
+    → y * product ns + placed_number i ns c x ≡ placed_number (suc i) (n ∷ ns) c
+    (y * product (without i ns) + x)
 place_later i n ns y c x h =
-    let first : (y * product (without i ns) + x) / product (without i ns) ≡ y = div-mul-add y (product (without i ns)) x h in
-    let rest : (y * product (without i ns) + x) % product (without i ns) ≡ x = mod-mul-add y (product (without i ns)) x h in rw (first, rest)
+    let first : (y * product (without i ns) + x) / product (without i ns)
+    ≡ y = div-mul-add y (product (without i ns)) x h in
+    let rest : (y * product (without i ns) + x) % product (without i ns)
+    ≡ x = mod-mul-add y (product (without i ns)) x h in rw (first, rest)
 
 -- a sum over joint numbers, by place
 pub int_sum_placed : (i : ℕ) (ns : List ℕ) → i < length ns → (g : ℕ → ℤ)
     → int_sum (product ns) g
     ≡ int_sum (get_or ns i 0) (λ c. int_sum (product (without i ns)) (λ x. g (placed_number i ns c x)))
 int_sum_placed i [] p g = absurd (omega arith)
-int_sum_placed zero (n ∷ ns) p g = int_sum_prod n (product ns) g ∙ int_sum_ext n _ _ (λ c q. int_sum_ext (product ns) _ _ (λ x h. ap g (place_first n ns c x h)))
+int_sum_placed zero (n ∷ ns) p g = int_sum_prod n (product ns) g
+    ∙ int_sum_ext n _ _ (λ c q. int_sum_ext (product ns) _ _ (λ x h. ap g (place_first n ns c x h)))
 int_sum_placed (suc i) (n ∷ ns) p g =
     let Q = product (without i ns) in
     int_sum_prod n (product ns) g

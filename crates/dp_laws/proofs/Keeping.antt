@@ -21,10 +21,12 @@ use Rattle.std.proofs.lemmas.Bool.{cases_eq}
 -- what remains of a tree of k steps after an own history of length t is a tree of the other r steps
 pub tree_at_fits : (b n : ℕ) (q : PolicyTree) (t r k x : ℕ) → t + r ≡ k → x < n ^ t → IsPolicyTree b n k q
     → IsPolicyTree b n r (tree_at n q t x)
-tree_at_fits b n q zero r k x e h is = let e' : k ≡ r = omega arith in subst (λ (z : ℕ). IsPolicyTree b n z q) e' is
+tree_at_fits b n q zero r k x e h is = let e' : k ≡ r = omega arith in
+    subst (λ (z : ℕ). IsPolicyTree b n z q) e' is
 tree_at_fits b n q (suc t) r k x e h is =
     let h' : x < n ^ t * n = rw pow-suc at h in
-    subtree_fits b n r (tree_at n q t (x / n)) (x % n) (mod_below x n (positive_right (n ^ t) n x h')) (tree_at_fits b n q t (suc r) k (x / n) (omega arith) (part_below (n ^ t) n x h') is)
+    subtree_fits b n r (tree_at n q t (x / n)) (x % n) (mod_below x n (positive_right (n ^ t) n x h'))
+    (tree_at_fits b n q t (suc r) k (x / n) (omega arith) (part_below (n ^ t) n x h') is)
 
 -- the last number below k that is of class c
 abbrev pub last_member : (ℕ → ℕ) → ℕ → ℕ → ℕ
@@ -51,25 +53,29 @@ follows_agent : (b n f r h : ℕ) (d : AgentFront) (q : PolicyTree) → f + r �
     → IsPolicyTree b n h q → KeepsAgentFront n f d q → (us : ℕ → PolicyTree) × FollowsAgentFront b n f r d q us
 follows_agent b n f r h d q e front tree keeps =
     let class : ℕ → ℕ = λ x. get_or d.class_of x 0 in
-    let last : (c : ℕ) → c < length d.chosen → (last_member class c (n ^ f) < n ^ f) × (class (last_member class c (n ^ f)) ≡ c) =
+    let last : (c : ℕ) → c < length d.chosen → (last_member class c (n ^ f) < n ^ f)
+    × (class (last_member class c (n ^ f)) ≡ c) =
     λ c p. let some = front.member c p in last_member_is class c (n ^ f) some.0 some.1 some.2 in (
       λ c. tree_at n q f (last_member class c (n ^ f)),
       record {
         does_fixed = keeps.does_fixed;
         remains = λ x p. let l = last (class x) (front.class_below x p) in keeps.alike x _ p l.0 (sym l.1);
-        does_chosen = λ c a p s. let l = last c p in keeps.does_chosen _ a l.0 (ap (λ (z : ℕ). get_or d.chosen z None) l.1 ∙ s);
+        does_chosen = λ c a p s. let l = last c p in keeps.does_chosen _ a l.0
+            (ap (λ (z : ℕ). get_or d.chosen z None) l.1 ∙ s);
         are_trees = λ c p. tree_at_fits b n q f r h _ e (last c p).0 tree;
         in_range = front.class_below;
         of_stage = front.of_stage;
       },
     )
 
-keeps_agent : (b n f r : ℕ) (d : AgentFront) (q : PolicyTree) (us : ℕ → PolicyTree) → FollowsAgentFront b n f r d q us
+keeps_agent : (b n f r : ℕ) (d : AgentFront) (q : PolicyTree) (us : ℕ → PolicyTree)
+    → FollowsAgentFront b n f r d q us
     → KeepsAgentFront n f d q
 keeps_agent b n f r d q us follows = record {
   does_fixed = follows.does_fixed;
   alike = λ x y p s e. follows.remains x p ∙ ap us e ∙ sym (follows.remains y s);
-  does_chosen = λ x a p e. ap root_action (follows.remains x p) ∙ follows.does_chosen _ a (follows.in_range x p) e;
+  does_chosen = λ x a p e. ap root_action (follows.remains x p)
+      ∙ follows.does_chosen _ a (follows.in_range x p) e;
 }
 
 -- the same for all agents
@@ -77,7 +83,8 @@ pub follow_agents : {f h : ℕ} {bs ns : List ℕ} {ds : List AgentFront} {qs : 
     → AreAgentFronts f bs ns ds → IsJointPolicy h bs ns qs → KeepAgentFronts f ns ds qs
     → (uss : List (ℕ → PolicyTree)) × FollowsAgentFronts f r bs ns ds qs uss
 follow_agents r e no_fronts no_policies none_keep = ([], none_follow)
-follow_agents {f} {h} r e (and_front {b = b} {n = n} {d = d} front fronts) (and_policy {q = q} tree trees) (and_keeps keeps all_keep) =
+follow_agents {f} {h} r e (and_front {b = b} {n = n} {d = d} front fronts) (and_policy {q = q} tree trees)
+    (and_keeps keeps all_keep) =
     let first = follows_agent b n f r h d q e front tree keeps in
     let rest = follow_agents r e fronts trees all_keep in (first.0 ∷ rest.0, and_follows first.1 rest.1)
 
@@ -87,7 +94,8 @@ keep_agents none_follow = none_keep
 keep_agents (and_follows follows rest) = and_keeps (keeps_agent _ _ _ _ _ _ _ follows) (keep_agents rest)
 
 -- a joint policy that keeps a well-formed front follows it with some trees at its classes
-pub follows_of_keeps : (m : Model) (h r : ℕ) (F : Front) (qs : List PolicyTree) → F.stage + r ≡ h → IsFront m h F
+pub follows_of_keeps : (m : Model) (h r : ℕ) (F : Front) (qs : List PolicyTree) → F.stage + r ≡ h
+    → IsFront m h F
     → IsPolicyOf m h qs → KeepsFront m F qs
     → (uss : List (ℕ → PolicyTree)) × FollowsAgentFronts F.stage r m.actions m.observations F.agents qs uss
 follows_of_keeps m h r F qs e front policy keeps = follow_agents r e front.agents policy keeps

@@ -29,13 +29,18 @@ value_le_bound : (m : Model) → IsModel m
 value_le_bound m ok look F zero qs uss ks =
     let O = joint_observations m in
     zle_trans _ _ _
-    (zle_of _ _ (forward_is_backward m (fixed_joint_action m F) qs (F.stage + 0) F.stage 0 refl (follows_fixed m F 0 qs uss ks)))
-    (add_none_le _ _ (int_history_sum_ext O F.stage _ (λ H. pos 0) (λ H p. weighted_zeros m.states (history_weight m (fixed_joint_action m F) H)) ∙ int_history_sum_zero O F.stage))
+    (zle_of _ _ (forward_is_backward m (fixed_joint_action m F) qs (F.stage + 0) F.stage 0 refl
+    (follows_fixed m F 0 qs uss ks)))
+    (add_none_le _ _ (int_history_sum_ext O F.stage _ (λ H. pos 0)
+    (λ H p. weighted_zeros m.states (history_weight m (fixed_joint_action m F) H))
+    ∙ int_history_sum_zero O F.stage))
 value_le_bound m ok look F (suc r) qs uss ks = following_policy_le_bound m ok F r look qs uss ks
 
 -- for a horizon of h steps
-pub keeper_under_bound : (m : Model) → IsModel m → (h r look : ℕ) (F : Front) (qs : List PolicyTree) → IsFront m h F
+pub keeper_under_bound : (m : Model) → IsModel m → (h r look : ℕ) (F : Front) (qs : List PolicyTree)
+    → IsFront m h F
     → F.stage + r ≡ h → IsPolicyOf m h qs → KeepsFront m F qs → policy_value m h qs ≤ℤ bound_of m r F look
 keeper_under_bound m ok h r look F qs front e policy keeps =
     let follows = follows_of_keeps m h r F qs e front policy keeps in
-    subst (λ (n : ℕ). policy_value m n qs ≤ℤ bound_of m r F look) e (value_le_bound m ok look F r qs follows.0 follows.1)
+    subst (λ (n : ℕ). policy_value m n qs ≤ℤ bound_of m r F look) e
+    (value_le_bound m ok look F r qs follows.0 follows.1)

@@ -25,7 +25,8 @@ use Rattle.dp_base.proofs.Order.{last_or_before}
 
 -- ---- choosing
 -- a tree that does action a after one history of class c keeps the choice of a for that class
-keeps_choice : (n f : ℕ) (d : AgentFront) (q : PolicyTree) (c a x : ℕ) → KeepsAgentFront n f d q → c < length d.chosen
+keeps_choice : (n f : ℕ) (d : AgentFront) (q : PolicyTree) (c a x : ℕ) → KeepsAgentFront n f d q
+    → c < length d.chosen
     → x < n ^ f → get_or d.class_of x 0 ≡ c → root_action (tree_at n q f x) ≡ a →
     KeepsAgentFront n f (record d { chosen = set d.chosen c (Some a) }) q
 keeps_choice n f d q c a x k p u is does = record {
@@ -34,10 +35,12 @@ keeps_choice n f d q c a x k p u is does = record {
   does_chosen = λ y e v s. elim (cases_eq c (get_or d.class_of y 0)) [
     | inl same ↦
         let g : get_or (set d.chosen c (Some a)) c None ≡ Some a = get_or-set_same d.chosen c (Some a) None p in
-        let s' : get_or (set d.chosen c (Some a)) c None ≡ Some e = subst (λ (z : ℕ). get_or (set d.chosen c (Some a)) z None ≡ Some e) (sym same) s in
+        let s' : get_or (set d.chosen c (Some a)) c None ≡ Some e = subst
+        (λ (z : ℕ). get_or (set d.chosen c (Some a)) z None ≡ Some e) (sym same) s in
         let ae : a ≡ e = cc in
         ap root_action (k.alike y x v u (sym same ∙ sym is)) ∙ does ∙ ae
-    | inr ne ↦ k.does_chosen y e v (sym (get_or-set_other d.chosen c (get_or d.class_of y 0) (Some a) None (λ z. ne (sym z))) ∙ s)
+    | inr ne ↦ k.does_chosen y e v (sym (get_or-set_other d.chosen c (get_or d.class_of y 0) (Some a) None
+        (λ z. ne (sym z))) ∙ s)
   ];
 }
 
@@ -46,7 +49,8 @@ choose : {f h : ℕ} {bs ns : List ℕ} {ds : List AgentFront} {qs : List Policy
     → IsUnassigned i c ds →
     (a : ℕ) × (a < get_or bs i 0) × KeepAgentFronts f ns (with_choice i c a ds) qs
 choose r e no_fronts no_policies none_keep i c free = absurd free
-choose {f} {h} r e (and_front {b = b} {n = n} {d = d} front fronts) (and_policy {q = q} tree trees) (and_keeps k ks) zero c free =
+choose {f} {h} r e (and_front {b = b} {n = n} {d = d} front fronts) (and_policy {q = q} tree trees)
+    (and_keeps k ks) zero c free =
     let x = front.member c free.0 in (
       root_action (tree_at n q f x.0),
       root_action_below b n r _ (tree_at_fits b n q f (suc r) h x.0 e x.1 tree),
@@ -56,10 +60,12 @@ choose r e (and_front front fronts) (and_policy tree trees) (and_keeps k ks) (su
     let more = choose r e fronts trees ks i c free in (more.0, more.1, and_keeps k more.2)
 
 -- a policy that keeps a front keeps one of its fronts after a choice of any unassigned class
-pub keeps_some_choice : (m : Model) (h : ℕ) (F : Front) (qs : List PolicyTree) (i c : ℕ) → IsFront m h F → F.stage < h
+pub keeps_some_choice : (m : Model) (h : ℕ) (F : Front) (qs : List PolicyTree) (i c : ℕ) → IsFront m h F
+    → F.stage < h
     → IsPolicyOf m h qs → KeepsFront m F qs → IsUnassigned i c F.agents →
     (a : ℕ) × (a < get_or m.actions i 0) × KeepsFront m (chosen_front F i c a) qs
-keeps_some_choice m h F qs i c front lt policy keeps free = choose (h - suc F.stage) (omega arith) front.agents policy keeps i c free
+keeps_some_choice m h F qs i c front lt policy keeps free = choose (h - suc F.stage) (omega arith)
+    front.agents policy keeps i c free
 
 -- ---- advancing
 keeps_next : (b n f : ℕ) (d : AgentFront) (q : PolicyTree) → IsAgentFront b n f d → KeepsAgentFront n f d q
@@ -70,7 +76,8 @@ keeps_next b n f d q front k all =
     let acts = map act (range_with_len 0 (n ^ f)) in
     record {
       does_fixed = λ t x p u. elim (last_or_before t f p) [
-        | inr lt ↦ k.does_fixed t x lt u ∙ ap (λ z. get_or z x 0) (sym (get_or_append_left d.fixed (acts ∷ []) [] t (omega (arith, front.of_stage))))
+        | inr lt ↦ k.does_fixed t x lt u ∙ ap (λ z. get_or z x 0)
+            (sym (get_or_append_left d.fixed (acts ∷ []) [] t (omega (arith, front.of_stage))))
         | inl e ↦
             let u' : x < n ^ f = subst (λ (z : ℕ). x < n ^ z) e u in
             let some = some_at d.chosen (get_or d.class_of x 0) all (front.class_below x u') in
@@ -82,16 +89,23 @@ keeps_next b n f d q front k all =
       alike = λ x y u v e.
           let u' : x < n ^ f * n = rw pow-suc at u in
           let v' : y < n ^ f * n = rw pow-suc at v in
-          let parts = same_parts n _ _ _ _ (mod_below x n (positive_right (n ^ f) n x u')) (mod_below y n (positive_right (n ^ f) n y v')) (sym (new_class n f x d.class_of u) ∙ e ∙ new_class n f y d.class_of v) in
-          ap (λ z. subtree z (x % n)) (k.alike (x / n) (y / n) (part_below (n ^ f) n x u') (part_below (n ^ f) n y v') parts.0)
+          let parts = same_parts n _ _ _ _ (mod_below x n (positive_right (n ^ f) n x u'))
+          (mod_below y n (positive_right (n ^ f) n y v'))
+          (sym (new_class n f x d.class_of u) ∙ e ∙ new_class n f y d.class_of v) in
+          ap (λ z. subtree z (x % n)) (k.alike (x / n) (y / n) (part_below (n ^ f) n x u')
+          (part_below (n ^ f) n y v') parts.0)
           ∙ ap (λ (z : ℕ). subtree (tree_at n q f (y / n)) z) parts.1;
-      does_chosen = λ x a u s. let none = no_choice (length d.chosen * n) (get_or (map (λ x. get_or d.class_of (x / n) 0 * n + x % n) (range_with_len 0 (n ^ suc f))) x 0) in cc;
+      does_chosen = λ x a u s. let none = no_choice (length d.chosen * n)
+          (get_or (map (λ x. get_or d.class_of (x / n) 0 * n + x % n) (range_with_len 0 (n ^ suc f))) x 0) in
+          cc;
     }
 
 advance : {f : ℕ} {bs ns : List ℕ} {ds : List AgentFront} {qs : List PolicyTree} → AreAgentFronts f bs ns ds
-    → KeepAgentFronts f ns ds qs → is_complete ds ≡ true → KeepAgentFronts (suc f) ns (advanced_agents ns f ds) qs
+    → KeepAgentFronts f ns ds qs → is_complete ds ≡ true → KeepAgentFronts (suc f) ns
+    (advanced_agents ns f ds) qs
 advance no_fronts none_keep all = none_keep
-advance (and_front front fronts) (and_keeps k ks) all = let both = and_parts _ _ all in and_keeps (keeps_next _ _ _ _ _ front k both.0) (advance fronts ks both.1)
+advance (and_front front fronts) (and_keeps k ks) all = let both = and_parts _ _ all in
+    and_keeps (keeps_next _ _ _ _ _ front k both.0) (advance fronts ks both.1)
 
 -- a policy that keeps a complete front keeps the advanced front
 pub keeps_advanced : (m : Model) (h : ℕ) (F : Front) (qs : List PolicyTree) → IsFront m h F → KeepsFront m F qs
@@ -105,7 +119,8 @@ keeps_advanced_if m h F qs front keeps true all = keeps_advanced m h F qs front 
 keeps_advanced_if m h F qs front keeps false some = keeps
 
 -- a policy that keeps a front keeps one of its fronts after a choice, and after the advance where it follows
-pub keeps_some_next : (m : Model) (h : ℕ) (F : Front) (qs : List PolicyTree) (i c : ℕ) → IsFront m h F → F.stage < h
+pub keeps_some_next : (m : Model) (h : ℕ) (F : Front) (qs : List PolicyTree) (i c : ℕ) → IsFront m h F
+    → F.stage < h
     → IsPolicyOf m h qs → KeepsFront m F qs → IsUnassigned i c F.agents →
     (a : ℕ) × (a < get_or m.actions i 0) × KeepsFront m (front_after_choice m F i c a) qs
 unfolding front_after_choice
@@ -113,5 +128,7 @@ keeps_some_next m h F qs i c front lt policy keeps free =
     let some = keeps_some_choice m h F qs i c front lt policy keeps free in (
       some.0,
       some.1,
-      keeps_advanced_if m h (chosen_front F i c some.0) qs (chosen_is_front m h F i c some.0 front lt free some.1) some.2 (is_complete (with_choice i c some.0 F.agents)) refl,
+      keeps_advanced_if m h (chosen_front F i c some.0) qs (chosen_is_front m h F i c some.0 front lt free
+          some.1)
+          some.2 (is_complete (with_choice i c some.0 F.agents)) refl,
     )

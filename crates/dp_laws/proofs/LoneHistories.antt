@@ -1,5 +1,5 @@
--- Each joint class of a well-formed front holds a joint history; where no two own histories share a class it holds one
--- alone, and steps as that does.
+-- Each joint class of a well-formed front holds a joint history; where no two own histories share a class it holds
+-- one alone, and steps as that does.
 use Rattle.std.proofs.Common.{◌≡◌, ℕ, zero, suc, ◌+◌, ◌*◌, ◌/◌, ◌%◌, ◌^◌, ◌<◌, cond, eqb, pos, List, [], ◌∷◌, map, length, get_or, refl, sym, ap, ◌∙◌, arith}
 use Rattle.std.proofs.Math.Nat.{pow-suc, pow-zero}
 use Rattle.std.proofs.lemmas.Nat.{mod_below}
@@ -39,13 +39,19 @@ shorter_within : (ns : List ℕ) (t : ℕ) (xs : List ℕ) → Within ns (suc t)
 shorter_within [] t [] h = tt
 shorter_within [] t (x ∷ xs) h = absurd h
 shorter_within (n ∷ ns) t [] h = absurd h
-shorter_within (n ∷ ns) t (x ∷ xs) h = (part_below (n ^ t) n x (into_power n t x h.0), shorter_within ns t xs h.1)
+shorter_within (n ∷ ns) t (x ∷ xs) h = (
+  part_below (n ^ t) n x (into_power n t x h.0),
+  shorter_within ns t xs h.1,
+)
 
 last_below : (ns : List ℕ) (t : ℕ) (xs : List ℕ) → Within ns (suc t) xs → AreBelow ns (last_seen ns xs)
 last_below [] t [] h = tt
 last_below [] t (x ∷ xs) h = absurd h
 last_below (n ∷ ns) t [] h = absurd h
-last_below (n ∷ ns) t (x ∷ xs) h = (mod_below x n (positive_right (n ^ t) n x (into_power n t x h.0)), last_below ns t xs h.1)
+last_below (n ∷ ns) t (x ∷ xs) h = (
+  mod_below x n (positive_right (n ^ t) n x (into_power n t x h.0)),
+  last_below ns t xs h.1,
+)
 
 put_together : (n x : ℕ) → x / n * n + x % n ≡ x
 put_together n x = omega arith
@@ -55,14 +61,16 @@ together : (ns : List ℕ) (t : ℕ) (xs : List ℕ) → Within ns t xs
 together [] t [] h = refl
 together [] t (x ∷ xs) h = absurd h
 together (n ∷ ns) t [] h = absurd h
-together (n ∷ ns) t (x ∷ xs) h = let here = put_together n x in let rest = together ns t xs h.1 in λ j. here j ∷ rest j
+together (n ∷ ns) t (x ∷ xs) h = let here = put_together n x in let rest = together ns t xs h.1 in
+    λ j. here j ∷ rest j
 
 empty_histories : (ns xs : List ℕ) → Within ns zero xs → map (λ n. 0) ns ≡ xs
 empty_histories [] [] h = refl
 empty_histories [] (x ∷ xs) h = absurd h
 empty_histories (n ∷ ns) [] h = absurd h
 empty_histories (n ∷ ns) (x ∷ xs) h =
-    let lt : x < 1 = rw pow-zero at h.0 in let here : 0 ≡ x = omega arith in let rest = empty_histories ns xs h.1 in λ j. here j ∷ rest j
+    let lt : x < 1 = rw pow-zero at h.0 in let here : 0 ≡ x = omega arith in
+    let rest = empty_histories ns xs h.1 in λ j. here j ∷ rest j
 
 -- own histories are those of a joint history
 some_history : (ns : List ℕ) (t : ℕ) (xs : List ℕ) → Within ns t xs
@@ -74,7 +82,8 @@ some_history ns (suc t) xs h =
     let o = joint_number ns (last_seen ns xs) in (
       o ∷ before.0,
       (joint_number_below ns (last_seen ns xs) seen, before.1),
-      (λ j. next_own_histories ns (before.2 j) (parts_of-joint_number ns (last_seen ns xs) seen j)) ∙ together ns (suc t) xs h,
+      (λ j. next_own_histories ns (before.2 j) (parts_of-joint_number ns (last_seen ns xs) seen j))
+          ∙ together ns (suc t) xs h,
     )
 
 -- each class of each agent holds an own history
@@ -130,8 +139,11 @@ own_histories_apart ns (suc t) (o ∷ H) [] p q e = absurd q
 own_histories_apart ns (suc t) (o ∷ H) (u ∷ K) p q e =
     let before = below_counts ns t _ (own_histories_within ns t H p.1) in
     let before' = below_counts ns t _ (own_histories_within ns t K q.1) in
-    let both = next_injective (history_counts t ns) ns _ _ _ _ (as_many_counts t ns) before (parts_below ns o p.0) before' (parts_below ns u q.0) e in
-    let seen : o ≡ u = sym (joint_number-parts_of ns o p.0) ∙ ap (joint_number ns) both.1 ∙ joint_number-parts_of ns u q.0 in
+    let both = next_injective (history_counts t ns) ns _ _ _ _ (as_many_counts t ns) before
+    (parts_below ns o p.0)
+    before' (parts_below ns u q.0) e in
+    let seen : o ≡ u = sym (joint_number-parts_of ns o p.0) ∙ ap (joint_number ns) both.1
+    ∙ joint_number-parts_of ns u q.0 in
     let rest = own_histories_apart ns t H K p.1 q.1 both.0 in λ j. seen j ∷ rest j
 
 module _ (m : Model) (h : ℕ) (F : Front) (front : IsFront m h F) where
@@ -140,9 +152,15 @@ module _ (m : Model) (h : ℕ) (F : Front) (front : IsFront m h F) where
       → (H : List ℕ) × (IsJointHistory (joint_observations m) F.stage H) × (joint_class m F H ≡ C)
   unfolding joint_class joint_observations
   some_member C p =
-      let own = members front.agents (parts_of (class_counts F.agents) C) (parts_below (class_counts F.agents) C p) in
-      let joint = some_history m.observations F.stage own.0 own.1 in
-      (joint.0, joint.1, ap (λ xs. joint_number (class_counts F.agents) (own_classes F.agents xs)) joint.2 ∙ ap (joint_number (class_counts F.agents)) own.2 ∙ joint_number-parts_of (class_counts F.agents) C p)
+      let own = members front.agents (parts_of (class_counts F.agents) C)
+      (parts_below (class_counts F.agents) C p) in
+      let joint = some_history m.observations F.stage own.0 own.1 in (
+        joint.0,
+        joint.1,
+        ap (λ xs. joint_number (class_counts F.agents) (own_classes F.agents xs)) joint.2
+            ∙ ap (joint_number (class_counts F.agents)) own.2
+            ∙ joint_number-parts_of (class_counts F.agents) C p,
+      )
 
   -- where no two own histories share a class no two joint histories do
   pub alone : KeepsHistoriesApart m F → (H K : List ℕ) → IsJointHistory (joint_observations m) F.stage H
@@ -151,15 +169,20 @@ module _ (m : Model) (h : ℕ) (F : Front) (front : IsFront m h F) where
   alone apart H K p q e =
       let own = own_histories_within m.observations F.stage H p in
       let own' = own_histories_within m.observations F.stage K q in
-      let classes = sym (parts_of-joint_number _ _ (classes_below front.agents _ own)) ∙ ap (parts_of (class_counts F.agents)) e ∙ parts_of-joint_number _ _ (classes_below front.agents _ own') in
-      own_histories_apart m.observations F.stage H K p q (same_histories front.agents apart _ _ own own' classes)
+      let classes = sym (parts_of-joint_number _ _ (classes_below front.agents _ own))
+      ∙ ap (parts_of (class_counts F.agents)) e ∙ parts_of-joint_number _ _
+      (classes_below front.agents _ own') in
+      own_histories_apart m.observations F.stage H K p q (same_histories front.agents apart _ _ own own'
+      classes)
 
   -- a sum over the joint histories of a class that holds one alone
   lone_sum : KeepsHistoriesApart m F → (C : ℕ) (K : List ℕ) (v : List ℕ → Span)
       → IsJointHistory (joint_observations m) F.stage K → joint_class m F K ≡ C
-      → span_history_sum (joint_observations m) F.stage (λ H. cond (eqb (joint_class m F H) C) (v H) (point (pos 0))) ≡ v K
+      → span_history_sum (joint_observations m) F.stage (λ H. cond (eqb (joint_class m F H) C) (v H)
+      (point (pos 0))) ≡ v K
   lone_sum lone C K v k e =
-      span_history_sum_only (joint_observations m) F.stage (λ H. cond (eqb (joint_class m F H) C) (v H) (point (pos 0))) K k
+      span_history_sum_only (joint_observations m) F.stage (λ H. cond (eqb (joint_class m F H) C) (v H)
+      (point (pos 0))) K k
       (λ H p ne. where_other (joint_class m F H) C (v H) _ (λ is. ne (alone lone H K p k (is ∙ sym e))))
       ∙ (λ j. cond (eqb (e j) C) (v K) (point (pos 0))) ∙ where_same C (v K) _
 
@@ -167,7 +190,9 @@ module _ (m : Model) (h : ℕ) (F : Front) (front : IsFront m h F) where
       → IsJointHistory (joint_observations m) F.stage K → joint_class m F K ≡ C
       → class_weight_in A m F C ≡ history_weight_in A m (fixed_joint_action m F) K
   unfolding class_weight_in
-  lone_weights A lone C K k e = λ j s. lone_sum lone C K (λ H. history_weight_in A m (fixed_joint_action m F) H s) k e j
+  lone_weights A lone C K k e = λ j s. lone_sum lone C K (λ H. history_weight_in A m (fixed_joint_action m F)
+      H s)
+      k e j
 
   -- in any arithmetic a class steps as its one joint history does
   pub lone_steps : (A : Arithmetic) → KeepsHistoriesApart m F → StepsByClass A m F
@@ -175,9 +200,11 @@ module _ (m : Model) (h : ℕ) (F : Front) (front : IsFront m h F) where
     weights = λ C a o t p.
         let K = some_member C p in
         ap (λ (w : ℕ → Span). weights_after_in A m w a o t) (lone_weights A lone C K.0 K.1 K.2)
-        ∙ sym (lone_sum lone C K.0 (λ H. weights_after_in A m (history_weight_in A m (fixed_joint_action m F) H) a o t) K.1 K.2);
+        ∙ sym (lone_sum lone C K.0 (λ H. weights_after_in A m (history_weight_in A m (fixed_joint_action m F) H)
+        a o t) K.1 K.2);
     rewards = λ C a r p.
         let K = some_member C p in
         ap (λ (w : ℕ → Span). weighted_reward_in A m r w a) (lone_weights A lone C K.0 K.1 K.2)
-        ∙ sym (lone_sum lone C K.0 (λ H. weighted_reward_in A m r (history_weight_in A m (fixed_joint_action m F) H) a) K.1 K.2);
+        ∙ sym (lone_sum lone C K.0 (λ H. weighted_reward_in A m r
+        (history_weight_in A m (fixed_joint_action m F) H) a) K.1 K.2);
   }

@@ -17,9 +17,11 @@ one_more : (m : Model) → IsModel m → (r k : ℕ) (w : ℕ → ℕ) → look_
 one_more m ok zero k w = zle_of (pos 0) (pos 0) refl
 one_more m ok (suc r) zero w = look_ahead_le_table m ok (suc r) 1 w
 one_more m ok (suc r) (suc k) w =
-    greatest_mono _ _ (numbers_below (joint_actions m)) (λ a i. add_le_right (weighted_reward m r w a) _ _ (int_sum_le (joint_observations m) _ _ (λ o p. one_more m ok r k (weights_after m w a o))))
+    greatest_mono _ _ (numbers_below (joint_actions m)) (λ a i. add_le_right (weighted_reward m r w a) _ _
+    (int_sum_le (joint_observations m) _ _ (λ o p. one_more m ok r k (weights_after m w a o))))
 
-so_many_more : (m : Model) → IsModel m → (r k j : ℕ) (w : ℕ → ℕ) → look_ahead m r w (k + j) ≤ℤ look_ahead m r w k
+so_many_more : (m : Model) → IsModel m → (r k j : ℕ) (w : ℕ → ℕ)
+    → look_ahead m r w (k + j) ≤ℤ look_ahead m r w k
 so_many_more m ok r k zero w = zle_of _ _ (let e : k + 0 ≡ k = omega arith in rw e)
 so_many_more m ok r k (suc j) w =
     let e : k + suc j ≡ suc (k + j) = omega arith in
@@ -37,11 +39,13 @@ pub longer_look_action_le : (m : Model) → IsModel m → (r k l : ℕ) (w : ℕ
     → action_look_ahead m r w a l ≤ℤ action_look_ahead m r w a k
 unfolding action_look_ahead
 longer_look_action_le m ok r k l w a h =
-    add_le_right (weighted_reward m r w a) _ _ (int_sum_le (joint_observations m) _ _ (λ o p. longer_look_le m ok r (k - 1) (l - 1) (weights_after m w a o) (omega arith)))
+    add_le_right (weighted_reward m r w a) _ _ (int_sum_le (joint_observations m) _ _
+    (λ o p. longer_look_le m ok r (k - 1) (l - 1) (weights_after m w a o) (omega arith)))
 
 -- no joint policy that begins with a joint action earns more than its look-ahead
 pub value_under_action : (m : Model) → IsModel m → (r k : ℕ) (w : ℕ → ℕ) (a : ℕ) (qs : List PolicyTree)
     → IsPolicyOf m (suc r) qs → joint_root_action m qs ≡ a →
     int_sum m.states (λ s. pos (w s) *ℤ backward_value m (suc r) s qs) ≤ℤ action_look_ahead m r w a k
 value_under_action m ok r k w a qs policy e =
-    subst (λ (b : ℕ). int_sum m.states (λ s. pos (w s) *ℤ backward_value m (suc r) s qs) ≤ℤ action_look_ahead m r w b k) e (value_le_action_look_ahead m ok r k w qs policy)
+    subst (λ (b : ℕ). int_sum m.states (λ s. pos (w s) *ℤ backward_value m (suc r) s qs)
+    ≤ℤ action_look_ahead m r w b k) e (value_le_action_look_ahead m ok r k w qs policy)

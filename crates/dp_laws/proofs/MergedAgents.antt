@@ -28,7 +28,8 @@ get_or-without_above (suc j) (x ∷ xs) zero d h = absurd (omega arith)
 get_or-without_above (suc j) (x ∷ xs) (suc k) d h = get_or-without_above j xs k d (omega arith)
 
 -- one place less
-pub length-without : {X : Type 0} (j : ℕ) (xs : List X) → j < length xs → suc (length (without j xs)) ≡ length xs
+pub length-without : {X : Type 0} (j : ℕ) (xs : List X) → j < length xs
+    → suc (length (without j xs)) ≡ length xs
 length-without zero [] h = absurd (omega arith)
 length-without (suc j) [] h = absurd (omega arith)
 length-without zero (x ∷ xs) h = refl
@@ -80,8 +81,10 @@ pub renumbered_below : (a b k c : ℕ) → a < b → b < suc k → c < suc k →
 renumbered_below a b k c h g p = grind (arith, nat_tests)
 
 -- the tree of an agent, with the trees of the merged classes grafted below its histories of stage f
-unfoldable pub grafted_tree : ℕ → ℕ → AgentFront → ℕ → ℕ → PolicyTree → PolicyTree → (ℕ → PolicyTree) → PolicyTree
-grafted_tree n f d a b y q us = graft n f 0 q (λ x. joined_trees a b y us (renumbered a b (get_or d.class_of x 0)))
+unfoldable pub grafted_tree : ℕ → ℕ → AgentFront → ℕ → ℕ → PolicyTree → PolicyTree → (ℕ → PolicyTree)
+    → PolicyTree
+grafted_tree n f d a b y q us = graft n f 0 q (λ x. joined_trees a b y us
+    (renumbered a b (get_or d.class_of x 0)))
 
 -- a fact of both is one of either
 fact_of_either : (P : PolicyTree → Type 0) (y x x' : PolicyTree) → (y ≡ x) ⊎ (y ≡ x') → P x → P x' → P y
@@ -94,14 +97,16 @@ joined_trees_all : (a b : ℕ) (y : PolicyTree) (us : ℕ → PolicyTree) (k : �
 joined_trees_all a b y us k P py pu c h =
     elim (eqb a c) as (λ t. P (cond t y (cond (ltb c b) (us c) (us (suc c))))) [
       | true ↦ py
-      | false ↦ elim (ltb c b) as (λ t. P (cond t (us c) (us (suc c)))) [ true ↦ pu c (omega arith) | false ↦ pu (suc c) (omega arith) ]
+      | false ↦ elim (ltb c b) as (λ t. P (cond t (us c) (us (suc c))))
+          [ true ↦ pu c (omega arith) | false ↦ pu (suc c) (omega arith) ]
     ]
 
 -- the same by an old class
 replaced_trees_all : (a b : ℕ) (y : PolicyTree) (us : ℕ → PolicyTree) (P : PolicyTree → Type 0) (c : ℕ) → P y
     → P (us c) → P (replaced_trees a b y us c)
 replaced_trees_all a b y us P c py pu =
-    elim (eqb a c) as (λ t. P (cond t y (cond (eqb b c) y (us c)))) [ true ↦ py | false ↦ elim (eqb b c) as (λ t. P (cond t y (us c))) [ true ↦ py | false ↦ pu ] ]
+    elim (eqb a c) as (λ t. P (cond t y (cond (eqb b c) y (us c))))
+    [ true ↦ py | false ↦ elim (eqb b c) as (λ t. P (cond t y (us c))) [ true ↦ py | false ↦ pu ] ]
 
 -- below b a class keeps its number
 joined_trees_below : (a b : ℕ) (y : PolicyTree) (us : ℕ → PolicyTree) (c : ℕ) → a ≢ c → c < b
@@ -114,17 +119,22 @@ joined_trees_above : (a b : ℕ) (y : PolicyTree) (us : ℕ → PolicyTree) (c :
 joined_trees_above a b y us c h g = grind (arith, nat_tests)
 
 -- the merged classes do the chosen actions
-chosen_actions_kept : (a b : ℕ) (y : PolicyTree) (us : ℕ → PolicyTree) (os : List (Option ℕ)) → a < b → b < length os
+chosen_actions_kept : (a b : ℕ) (y : PolicyTree) (us : ℕ → PolicyTree) (os : List (Option ℕ)) → a < b
+    → b < length os
     → get_or os a None ≡ None →
     ((c e : ℕ) → c < length os → get_or os c None ≡ Some e → root_action (us c) ≡ e) →
-    (c e : ℕ) → c < length (without b os) → get_or (without b os) c None ≡ Some e → root_action (joined_trees a b y us c) ≡ e
+    (c e : ℕ) → c < length (without b os) → get_or (without b os) c None ≡ Some e
+    → root_action (joined_trees a b y us c) ≡ e
 chosen_actions_kept a b y us os h g na does c e p s =
     let len = length-without b os g in
     elim (cases_eq a c) [
-      | inl ac ↦ let lt : c < b = omega arith in let same = get_or-without_below b os c None lt in let na' : get_or os c None ≡ None = subst (λ (z : ℕ). get_or os z None ≡ None) ac na in cc
+      | inl ac ↦ let lt : c < b = omega arith in let same = get_or-without_below b os c None lt in
+          let na' : get_or os c None ≡ None = subst (λ (z : ℕ). get_or os z None ≡ None) ac na in cc
       | inr ne ↦ elim (cases_lt c b) [
-        | inl lt ↦ ap root_action (joined_trees_below a b y us c ne lt) ∙ does c e (omega arith) (sym (get_or-without_below b os c None lt) ∙ s)
-        | inr le ↦ ap root_action (joined_trees_above a b y us c h le) ∙ does (suc c) e (omega arith) (sym (get_or-without_above b os c None le) ∙ s)
+        | inl lt ↦ ap root_action (joined_trees_below a b y us c ne lt)
+            ∙ does c e (omega arith) (sym (get_or-without_below b os c None lt) ∙ s)
+        | inr le ↦ ap root_action (joined_trees_above a b y us c h le)
+            ∙ does (suc c) e (omega arith) (sym (get_or-without_above b os c None le) ∙ s)
       ]
     ]
 
@@ -137,15 +147,20 @@ unfolding grafted_tree
 merged_agent_follows bs n f r d q us k a b h g na y is =
     let len = length-without b d.chosen g in
     record {
-      does_fixed = λ t x p u. ap root_action (tree_at-graft n q _ t (suc (f - suc t)) f 0 x (omega arith) u) ∙ k.does_fixed t x p u;
+      does_fixed = λ t x p u. ap root_action (tree_at-graft n q _ t (suc (f - suc t)) f 0 x (omega arith) u)
+          ∙ k.does_fixed t x p u;
       remains = λ x u.
           tree_at-graft n q _ f 0 f 0 x (omega arith) u
           ∙ ap (λ (z : ℕ). joined_trees a b y us (renumbered a b (get_or d.class_of z 0))) (omega arith)
           ∙ ap (joined_trees a b y us) (sym (get_or-renumbered a b d.class_of x h));
       does_chosen = chosen_actions_kept a b y us d.chosen h g na k.does_chosen;
-      are_trees = λ c p. joined_trees_all a b y us (length (without b d.chosen)) (IsPolicyTree bs n r) (fact_of_either (IsPolicyTree bs n r) y (us a) (us b) is (k.are_trees a (omega arith)) (k.are_trees b g)) (λ c u. k.are_trees c (omega arith)) c p;
+      are_trees = λ c p. joined_trees_all a b y us (length (without b d.chosen)) (IsPolicyTree bs n r)
+          (fact_of_either (IsPolicyTree bs n r) y (us a) (us b) is (k.are_trees a (omega arith))
+          (k.are_trees b g))
+          (λ c u. k.are_trees c (omega arith)) c p;
       of_stage = k.of_stage;
-      in_range = λ x u. rw (get_or-renumbered a b d.class_of x h) (renumbered_below a b _ _ h (omega arith) (let c_in = k.in_range x u in omega arith));
+      in_range = λ x u. rw (get_or-renumbered a b d.class_of x h)
+          (renumbered_below a b _ _ h (omega arith) (let c_in = k.in_range x u in omega arith));
     }
 
 -- it is a tree of as many steps
@@ -159,6 +174,10 @@ grafted_tree_fits bs n f (suc r) h d q us k a b lt b_in y is e some fits =
     graft_fits bs n r f h 0 q _ e fits (λ x u.
     let c = get_or d.class_of x 0 in
     let at : 0 * n ^ f + x ≡ x = omega arith in
-    subst (λ (z : ℕ). IsPolicyTree bs n (suc r) (joined_trees a b y us (renumbered a b (get_or d.class_of z 0)))) (sym at)
+    subst (λ (z : ℕ). IsPolicyTree bs n (suc r) (joined_trees a b y us
+    (renumbered a b (get_or d.class_of z 0))))
+    (sym at)
     (subst (IsPolicyTree bs n (suc r)) (sym (joined_trees-renumbered a b y us c lt))
-    (replaced_trees_all a b y us (IsPolicyTree bs n (suc r)) c (fact_of_either (IsPolicyTree bs n (suc r)) y (us a) (us b) is (k.are_trees a (omega arith)) (k.are_trees b b_in)) (k.are_trees c (k.in_range x u)))))
+    (replaced_trees_all a b y us (IsPolicyTree bs n (suc r)) c
+    (fact_of_either (IsPolicyTree bs n (suc r)) y (us a) (us b) is (k.are_trees a (omega arith))
+    (k.are_trees b b_in)) (k.are_trees c (k.in_range x u)))))

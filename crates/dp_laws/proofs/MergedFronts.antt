@@ -24,9 +24,11 @@ pub unassigned_agent : (i c : ℕ) (ds : List AgentFront) → IsUnassigned i c d
     → (i < length (class_counts ds)) × (c < get_or (class_counts ds) i 0)
 unassigned_agent i c [] free = absurd free
 unassigned_agent zero c (d ∷ ds) free = (omega arith, free.0)
-unassigned_agent (suc i) c (d ∷ ds) free = let rest = unassigned_agent i c ds free in (omega (arith, rest.0), rest.1)
+unassigned_agent (suc i) c (d ∷ ds) free = let rest = unassigned_agent i c ds free in
+    (omega (arith, rest.0), rest.1)
 
-module _ (m : Model) (h : ℕ) (F : Front) (front : IsFront m h F) (i : ℕ) (i_in : i < length (class_counts F.agents)) where
+module _ (m : Model) (h : ℕ) (F : Front) (front : IsFront m h F) (i : ℕ)
+    (i_in : i < length (class_counts F.agents)) where
   classes_in : (H : List ℕ) → IsJointHistory (joint_observations m) F.stage H
       → AreBelow (class_counts F.agents) (own_classes F.agents (own_histories m.observations H))
   unfolding joint_observations
@@ -44,7 +46,8 @@ module _ (m : Model) (h : ℕ) (F : Front) (front : IsFront m h F) (i : ℕ) (i_
   others_in_range H p = joint_number_below _ _ (below_others i _ _ (classes_in H p))
 
   class_is_placed : (H : List ℕ) → IsJointHistory (joint_observations m) F.stage H
-      → joint_class m F H ≡ placed_number i (class_counts F.agents) (class_of_agent m F i H) (class_of_others m F i H)
+      → joint_class m F H ≡ placed_number i (class_counts F.agents) (class_of_agent m F i H)
+      (class_of_others m F i H)
   unfolding joint_class class_of_agent class_of_others
   class_is_placed H p = joint_is_placed i _ _ i_in (classes_in H p)
 
@@ -56,7 +59,9 @@ module _ (m : Model) (h : ℕ) (F : Front) (front : IsFront m h F) (i : ℕ) (i_
   placed_weight c x s hc hx =
       let counts = class_counts F.agents in
       nat_history_sum_ext (joint_observations m) F.stage _ _ (λ H p.
-      ap (λ (z : ℕ). cond (eqb z (placed_number i counts c x)) (history_weight m (fixed_joint_action m F) H s) 0) (class_is_placed H p)
+      ap (λ (z : ℕ). cond (eqb z (placed_number i counts c x))
+      (history_weight m (fixed_joint_action m F) H s) 0)
+      (class_is_placed H p)
       ∙ both_tests _ _ (class_of_agent m F i H) c (class_of_others m F i H) x _ _
       (λ e. placed_injective i counts _ _ c x i_in (agent_in_range H p) (others_in_range H p) hc hx e)
       (λ e f j. placed_number i counts (e j) (f j))
@@ -87,7 +92,8 @@ classes_of_others i a b [] xs = refl
 classes_of_others zero a b (d ∷ ds) [] = refl
 classes_of_others (suc i) a b (d ∷ ds) [] = refl
 classes_of_others zero a b (d ∷ ds) (x ∷ xs) = refl
-classes_of_others (suc i) a b (d ∷ ds) (x ∷ xs) = ap (λ z. get_or d.class_of x 0 ∷ z) (classes_of_others i a b ds xs)
+classes_of_others (suc i) a b (d ∷ ds) (x ∷ xs) = ap (λ z. get_or d.class_of x 0 ∷ z)
+    (classes_of_others i a b ds xs)
 
 renumbered_none : (a b : ℕ) → a < b → 0 ≡ renumbered a b 0
 renumbered_none a b h = grind (arith, nat_tests)
@@ -101,10 +107,12 @@ class_renumbered zero a b (d ∷ ds) (x ∷ xs) h = get_or-renumbered a b d.clas
 class_renumbered (suc i) a b (d ∷ ds) (x ∷ xs) h = class_renumbered i a b ds xs h
 
 -- ---- weights
-same_test : (a b k c w : ℕ) → a < b → a ≢ c → cond (eqb (renumbered a b k) c) w 0 ≡ cond (eqb k (kept_class b c)) w 0
+same_test : (a b k c w : ℕ) → a < b → a ≢ c → cond (eqb (renumbered a b k) c) w 0
+    ≡ cond (eqb k (kept_class b c)) w 0
 same_test a b k c w h ne = grind (arith, nat_tests)
 
-joined_test : (a b k w : ℕ) → a < b → cond (eqb (renumbered a b k) a) w 0 ≡ cond (eqb k a) w 0 + cond (eqb k b) w 0
+joined_test : (a b k w : ℕ) → a < b → cond (eqb (renumbered a b k) a) w 0
+    ≡ cond (eqb k a) w 0 + cond (eqb k b) w 0
 joined_test a b k w h = grind (arith, nat_tests)
 
 cond_add : (t : Bool) (x y : ℕ) → cond t (x + y) 0 ≡ cond t x 0 + cond t y 0
@@ -121,19 +129,26 @@ module _ (m : Model) (F : Front) (i a b : ℕ) (ab : a < b) where
 
   others_merged : (H : List ℕ) → class_of_others m G i H ≡ class_of_others m F i H
   unfolding class_of_others
-  others_merged H = λ j. joint_number (counts_of_others i a b F.agents j) (classes_of_others i a b F.agents (own_histories m.observations H) j)
+  others_merged H = λ j. joint_number (counts_of_others i a b F.agents j)
+      (classes_of_others i a b F.agents (own_histories m.observations H) j)
 
   place_merged_to : (c x s : ℕ) → place_weight m G i c x s
-      ≡ nat_history_sum (joint_observations m) F.stage (λ H. cond (eqb (class_of_others m F i H) x) (cond (eqb (renumbered a b (class_of_agent m F i H)) c) (history_weight m (fixed_joint_action m F) H s) 0) 0)
+      ≡ nat_history_sum (joint_observations m) F.stage (λ H. cond (eqb (class_of_others m F i H) x)
+      (cond (eqb (renumbered a b (class_of_agent m F i H)) c) (history_weight m (fixed_joint_action m F) H s)
+      0) 0)
   unfolding place_weight
-  place_merged_to c x s = λ j. nat_history_sum (joint_observations m) F.stage (λ H. cond (eqb (others_merged H j) x) (cond (eqb (agent_merged H j) c) (history_weight m (fixed_joint_action_merged m F i a b j) H s) 0) 0)
+  place_merged_to c x s = λ j. nat_history_sum (joint_observations m) F.stage
+      (λ H. cond (eqb (others_merged H j) x) (cond (eqb (agent_merged H j) c)
+      (history_weight m (fixed_joint_action_merged m F i a b j) H s) 0) 0)
 
   -- the weight of a class that was not joined
   pub kept_weight : (c x s : ℕ) → a ≢ c → place_weight m G i c x s ≡ place_weight m F i (kept_class b c) x s
   unfolding place_weight
   kept_weight c x s ne =
       place_merged_to c x s
-      ∙ nat_history_sum_ext (joint_observations m) F.stage _ _ (λ H p. ap (λ (z : ℕ). cond (eqb (class_of_others m F i H) x) z 0) (same_test a b (class_of_agent m F i H) c (history_weight m (fixed_joint_action m F) H s) ab ne))
+      ∙ nat_history_sum_ext (joint_observations m) F.stage _ _
+      (λ H p. ap (λ (z : ℕ). cond (eqb (class_of_others m F i H) x) z 0)
+      (same_test a b (class_of_agent m F i H) c (history_weight m (fixed_joint_action m F) H s) ab ne))
 
   -- the weight of the joined class is the sum of the two
   pub joined_weight : (x s : ℕ) → place_weight m G i a x s ≡ place_weight m F i a x s + place_weight m F i b x s
@@ -141,7 +156,8 @@ module _ (m : Model) (F : Front) (i a b : ℕ) (ab : a < b) where
   joined_weight x s =
       place_merged_to a x s
       ∙ nat_history_sum_ext (joint_observations m) F.stage _ _ (λ H p.
-      ap (λ (z : ℕ). cond (eqb (class_of_others m F i H) x) z 0) (joined_test a b (class_of_agent m F i H) (history_weight m (fixed_joint_action m F) H s) ab)
+      ap (λ (z : ℕ). cond (eqb (class_of_others m F i H) x) z 0)
+      (joined_test a b (class_of_agent m F i H) (history_weight m (fixed_joint_action m F) H s) ab)
       ∙ cond_add (eqb (class_of_others m F i H) x) _ _)
       ∙ nat_history_sum_add (joint_observations m) F.stage _ _
 
@@ -166,10 +182,12 @@ agree_kept : (i a b c : ℕ) (ds : List AgentFront) (ps xs : List ℕ)
     → all_agree (merged_agents i a b ds) (inserted i c ps) xs ≡ all_agree ds (inserted i (kept_class b c) ps) xs
 agree_kept i a b c [] ps xs = refl
 agree_kept zero a b c (d ∷ ds) ps [] = refl
-agree_kept zero a b c (d ∷ ds) ps (x ∷ xs) = ap (λ o. agrees o x && all_agree ds ps xs) (choice_kept b c d.chosen)
+agree_kept zero a b c (d ∷ ds) ps (x ∷ xs) = ap (λ o. agrees o x && all_agree ds ps xs)
+    (choice_kept b c d.chosen)
 agree_kept (suc i) a b c (d ∷ ds) [] xs = refl
 agree_kept (suc i) a b c (d ∷ ds) (p ∷ ps) [] = refl
-agree_kept (suc i) a b c (d ∷ ds) (p ∷ ps) (x ∷ xs) = ap (λ z. agrees (get_or d.chosen p None) x && z) (agree_kept i a b c ds ps xs)
+agree_kept (suc i) a b c (d ∷ ds) (p ∷ ps) (x ∷ xs) = ap (λ z. agrees (get_or d.chosen p None) x && z)
+    (agree_kept i a b c ds ps xs)
 
 agree_either : (i a b : ℕ) (ds : List AgentFront) (ps xs : List ℕ) → IsUnassigned i a ds → IsUnassigned i b ds
     → all_agree ds (inserted i b ps) xs ≡ all_agree ds (inserted i a ps) xs
@@ -178,20 +196,25 @@ agree_either zero a b (d ∷ ds) ps [] p q = refl
 agree_either zero a b (d ∷ ds) ps (x ∷ xs) p q = ap (λ o. agrees o x && all_agree ds ps xs) (q.1 ∙ sym p.1)
 agree_either (suc i) a b (d ∷ ds) [] xs p q = refl
 agree_either (suc i) a b (d ∷ ds) (e ∷ ps) [] p q = refl
-agree_either (suc i) a b (d ∷ ds) (e ∷ ps) (x ∷ xs) p q = ap (λ z. agrees (get_or d.chosen e None) x && z) (agree_either i a b ds ps xs p q)
+agree_either (suc i) a b (d ∷ ds) (e ∷ ps) (x ∷ xs) p q = ap (λ z. agrees (get_or d.chosen e None) x && z)
+    (agree_either i a b ds ps xs p q)
 
 -- by the parts of a joint class
 agreeing_parts : (m : Model) (F : Front) (C : ℕ) (cs : List ℕ) → parts_of (class_counts F.agents) C ≡ cs
     → agreeing_actions m F C
     ≡ filter (λ x. all_agree F.agents cs (parts_of m.actions x)) (numbers_below (joint_actions m))
 unfolding agreeing_actions
-agreeing_parts m F C cs e = ap (λ z. filter (λ x. all_agree F.agents z (parts_of m.actions x)) (numbers_below (joint_actions m))) e
+agreeing_parts m F C cs e = ap (λ z. filter (λ x. all_agree F.agents z (parts_of m.actions x))
+    (numbers_below (joint_actions m))) e
 
-module _ (m : Model) (F : Front) (i a b : ℕ) (free_a : IsUnassigned i a F.agents) (free_b : IsUnassigned i b F.agents) where
+module _ (m : Model) (F : Front) (i a b : ℕ) (free_a : IsUnassigned i a F.agents)
+    (free_b : IsUnassigned i b F.agents) where
   -- with a class of the merged front agree those that agree with the old class
   pub agreeing_kept : (c x : ℕ) → c < get_or (class_counts (merged_agents i a b F.agents)) i 0
       → x < product (without i (class_counts F.agents)) →
-      agreeing_actions m (merged_front F i a b) (placed_number i (class_counts (merged_agents i a b F.agents)) c x) ≡ agreeing_actions m F (placed_number i (class_counts F.agents) (kept_class b c) x)
+      agreeing_actions m (merged_front F i a b) (placed_number i
+      (class_counts (merged_agents i a b F.agents)) c x)
+      ≡ agreeing_actions m F (placed_number i (class_counts F.agents) (kept_class b c) x)
   agreeing_kept c x hc hx =
       let counts = class_counts F.agents in
       let merged = class_counts (merged_agents i a b F.agents) in
@@ -199,9 +222,12 @@ module _ (m : Model) (F : Front) (i a b : ℕ) (free_a : IsUnassigned i a F.agen
       let i_in = (unassigned_agent i a F.agents free_a).0 in
       let i_in' : i < length merged = omega (arith, as_many_merged i a b F.agents) in
       let hx' : x < product (without i merged) = subst (λ (z : List ℕ). x < product z) (sym others) hx in
-      agreeing_parts m (merged_front F i a b) _ _ (parts-placed i merged c x i_in' hc hx' ∙ ap (λ z. inserted i c (parts_of z x)) others)
-      ∙ (λ j. filter (λ y. agree_kept i a b c F.agents (parts_of (without i counts) x) (parts_of m.actions y) j) (numbers_below (joint_actions m)))
-      ∙ sym (agreeing_parts m F _ _ (parts-placed i counts (kept_class b c) x i_in (kept_below b c _ _ hc (one_class_less i a b F.agents free_b)) hx))
+      agreeing_parts m (merged_front F i a b) _ _ (parts-placed i merged c x i_in' hc hx'
+      ∙ ap (λ z. inserted i c (parts_of z x)) others)
+      ∙ (λ j. filter (λ y. agree_kept i a b c F.agents (parts_of (without i counts) x) (parts_of m.actions y) j)
+      (numbers_below (joint_actions m)))
+      ∙ sym (agreeing_parts m F _ _ (parts-placed i counts (kept_class b c) x i_in
+      (kept_below b c _ _ hc (one_class_less i a b F.agents free_b)) hx))
 
   -- with the two classes agree the same
   pub agreeing_either : (x : ℕ) → x < product (without i (class_counts F.agents))
@@ -211,5 +237,6 @@ module _ (m : Model) (F : Front) (i a b : ℕ) (free_a : IsUnassigned i a F.agen
       let i_in = unassigned_agent i a F.agents free_a in
       let b_in = unassigned_agent i b F.agents free_b in
       agreeing_parts m F _ _ (parts-placed i (class_counts F.agents) b x i_in.0 b_in.1 hx)
-      ∙ (λ j. filter (λ y. agree_either i a b F.agents (parts_of (without i (class_counts F.agents)) x) (parts_of m.actions y) free_a free_b j) (numbers_below (joint_actions m)))
+      ∙ (λ j. filter (λ y. agree_either i a b F.agents (parts_of (without i (class_counts F.agents)) x)
+      (parts_of m.actions y) free_a free_b j) (numbers_below (joint_actions m)))
       ∙ sym (agreeing_parts m F _ _ (parts-placed i (class_counts F.agents) a x i_in.0 i_in.1 hx))

@@ -38,7 +38,8 @@ unit_is false u = refl
 pub mode_unit : (m : Model) (h : ℕ) (e : Bool) → e ≡ is_exact_mode m h
     → unit_of m h ≡ (enclosure e).unit (value_scale m h)
 unfolding unit_of
-mode_unit m h e is = ap (λ (t : Bool). if t then value_scale m h else 10 ^ 9) (sym is) ∙ unit_is e (value_scale m h)
+mode_unit m h e is = ap (λ (t : Bool). if t then value_scale m h else 10 ^ 9) (sym is)
+    ∙ unit_is e (value_scale m h)
 
 -- the arithmetic of exact mode says that it is exact
 pub arithmetic_says : (e : Bool) (c : Scales) → e ≡ true → IsTrue (arithmetic e c).is_exact

@@ -28,7 +28,8 @@ abbrev pub total_size : Model → (ℕ → Span) → ℕ
 total_size m ws = nat_sum m.states (λ s. size (ws s))
 
 -- weights are such spans
-pub weight_ordered : {e : Bool} {m : Model} {t : ℕ} {ws : ℕ → Span} → AreWeights e m t ws → (s : ℕ) → s < m.states
+pub weight_ordered : {e : Bool} {m : Model} {t : ℕ} {ws : ℕ → Span} → AreWeights e m t ws → (s : ℕ)
+    → s < m.states
     → IsOrdered (ws s)
 weight_ordered are s p = record { from = are.from s p; order = are.order s p }
 
@@ -57,7 +58,8 @@ sum_ordered (suc n) f h =
     record { from = from_both _ _ rest.from here.from; order = zadd_le _ _ _ _ rest.order here.order }
 
 -- the same over joint histories
-pub history_sum_ordered : (n t : ℕ) (v : List ℕ → Span) → ((H : List ℕ) → IsJointHistory n t H → IsOrdered (v H))
+pub history_sum_ordered : (n t : ℕ) (v : List ℕ → Span) → ((H : List ℕ) → IsJointHistory n t H
+    → IsOrdered (v H))
     → IsOrdered (span_history_sum n t v)
 history_sum_ordered n zero v h = h [] tt
 history_sum_ordered n (suc t) v h = history_sum_ordered n t _ (λ H p. sum_ordered n _ (λ o q. h (o ∷ H) (q, p)))
@@ -65,7 +67,8 @@ history_sum_ordered n (suc t) v h = history_sum_ordered n t _ (λ H p. sum_order
 -- sums of single numbers
 pub sum_point : (n : ℕ) (f : ℕ → Span) → ((i : ℕ) → i < n → IsPoint (f i)) → IsPoint (span_sum n f)
 sum_point zero f h = refl
-sum_point (suc n) f h = let here = h n (omega arith) in let rest = sum_point n f (λ i p. h i (omega arith)) in rw (here, rest) refl
+sum_point (suc n) f h = let here = h n (omega arith) in let rest = sum_point n f (λ i p. h i (omega arith)) in
+    rw (here, rest) refl
 
 -- the same over joint histories
 pub history_sum_point : (n t : ℕ) (v : List ℕ → Span) → ((H : List ℕ) → IsJointHistory n t H → IsPoint (v H))
@@ -101,18 +104,24 @@ where_size false w = refl
 
 -- the weights of a joint class sum to no more than those of its joint histories
 pub class_total : (A : Arithmetic) (m : Model) (F : Front) (C : ℕ) →
-    total_size m (class_weight_in A m F C) ≤ nat_history_sum (joint_observations m) F.stage (λ H. cond (eqb (joint_class m F H) C) (total_size m (history_weight_in A m (fixed_joint_action m F) H)) 0)
+    total_size m (class_weight_in A m F C) ≤ nat_history_sum (joint_observations m) F.stage
+    (λ H. cond (eqb (joint_class m F H) C) (total_size m (history_weight_in A m (fixed_joint_action m F) H)) 0)
 unfolding class_weight_in
 class_total A m F C =
     let O = joint_observations m in
     let S = m.states in
     let test = λ (H : List ℕ). eqb (joint_class m F H) C in
     let W = λ (H : List ℕ) (s : ℕ). history_weight_in A m (fixed_joint_action m F) H s in
-    let each = nat_sum_le S (λ s. size (span_history_sum O F.stage (λ H. cond (test H) (W H s) (point (pos 0))))) (λ s. nat_history_sum O F.stage (λ H. size (cond (test H) (W H s) (point (pos 0)))))
+    let each = nat_sum_le S (λ s. size (span_history_sum O F.stage
+    (λ H. cond (test H) (W H s) (point (pos 0)))))
+    (λ s. nat_history_sum O F.stage (λ H. size (cond (test H) (W H s) (point (pos 0)))))
     (λ s p. span_history_sum_size O F.stage (λ H. cond (test H) (W H s) (point (pos 0)))) in
     let swapped = nat_history_sum_swap O F.stage S (λ H s. size (cond (test H) (W H s) (point (pos 0)))) in
-    let inner = nat_history_sum_ext O F.stage (λ H. nat_sum S (λ s. size (cond (test H) (W H s) (point (pos 0))))) (λ H. cond (test H) (nat_sum S (λ s. size (W H s))) 0)
-    (λ H p. nat_sum_ext S _ (λ s. cond (test H) (size (W H s)) 0) (λ s q. where_size (test H) (W H s)) ∙ nat_sum_cond S (test H) (λ s. size (W H s))) in
+    let inner = nat_history_sum_ext O F.stage (λ H. nat_sum S
+    (λ s. size (cond (test H) (W H s) (point (pos 0)))))
+    (λ H. cond (test H) (nat_sum S (λ s. size (W H s))) 0)
+    (λ H p. nat_sum_ext S _ (λ s. cond (test H) (size (W H s)) 0) (λ s q. where_size (test H) (W H s))
+    ∙ nat_sum_cond S (test H) (λ s. size (W H s))) in
     omega arith
 
 -- a number counts at no other place
@@ -122,7 +131,8 @@ elsewhere k n x ne = grind (arith, nat_tests)
 -- a place past the end counts nowhere
 none_before : (n k x : ℕ) → n ≤ k → nat_sum n (λ i. cond (eqb k i) x 0) ≡ 0
 none_before zero k x h = refl
-none_before (suc n) k x h = let rest = none_before n k x (omega arith) in let here : cond (eqb k n) x 0 ≡ 0 = elsewhere k n x (omega arith) in omega arith
+none_before (suc n) k x h = let rest = none_before n k x (omega arith) in
+    let here : cond (eqb k n) x 0 ≡ 0 = elsewhere k n x (omega arith) in omega arith
 
 -- a number counts at one place at most
 pub one_place : (n k x : ℕ) → nat_sum n (λ i. cond (eqb k i) x 0) ≤ x
@@ -130,7 +140,8 @@ one_place zero k x = omega arith
 one_place (suc n) k x =
     elim (cases_eq k n) [
       | inl e ↦ let rest = none_before n k x (omega arith) in let here = at_most (eqb k n) x in omega arith
-      | inr ne ↦ let rest = one_place n k x in let here : cond (eqb k n) x 0 ≡ 0 = elsewhere k n x ne in omega arith
+      | inr ne ↦ let rest = one_place n k x in let here : cond (eqb k n) x 0 ≡ 0 = elsewhere k n x ne in
+          omega arith
     ]
   where
     at_most : (b : Bool) (x : ℕ) → cond b x 0 ≤ x
@@ -139,11 +150,15 @@ one_place (suc n) k x =
 
 -- all joint classes together sum to no more than all joint histories of the stage
 pub classes_total : (A : Arithmetic) (m : Model) (F : Front) (n : ℕ) →
-    nat_sum n (λ C. total_size m (class_weight_in A m F C)) ≤ nat_history_sum (joint_observations m) F.stage (λ H. total_size m (history_weight_in A m (fixed_joint_action m F) H))
+    nat_sum n (λ C. total_size m (class_weight_in A m F C)) ≤ nat_history_sum (joint_observations m) F.stage
+    (λ H. total_size m (history_weight_in A m (fixed_joint_action m F) H))
 classes_total A m F n =
     let O = joint_observations m in
     let V = λ (H : List ℕ). total_size m (history_weight_in A m (fixed_joint_action m F) H) in
-    let each = nat_sum_le n (λ C. total_size m (class_weight_in A m F C)) (λ C. nat_history_sum O F.stage (λ H. cond (eqb (joint_class m F H) C) (V H) 0)) (λ C p. class_total A m F C) in
+    let each = nat_sum_le n (λ C. total_size m (class_weight_in A m F C))
+    (λ C. nat_history_sum O F.stage (λ H. cond (eqb (joint_class m F H) C) (V H) 0))
+    (λ C p. class_total A m F C) in
     let swapped = nat_history_sum_swap O F.stage n (λ H C. cond (eqb (joint_class m F H) C) (V H) 0) in
-    let inner = nat_history_sum_le O F.stage (λ H. nat_sum n (λ C. cond (eqb (joint_class m F H) C) (V H) 0)) V (λ H p. one_place n (joint_class m F H) (V H)) in
+    let inner = nat_history_sum_le O F.stage (λ H. nat_sum n (λ C. cond (eqb (joint_class m F H) C) (V H) 0)) V
+    (λ H p. one_place n (joint_class m F H) (V H)) in
     omega arith

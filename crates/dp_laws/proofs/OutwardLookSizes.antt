@@ -35,7 +35,9 @@ below_zero (pos n) x c d B h small some = omega (arith, ints)
 below_zero (negsuc n) x c d B h small some =
     let e : unsigned_abs (negsuc n *ℤ pos d) ≡ suc n * d = unsigned_abs-mul (negsuc n) (pos d) in
     let f : unsigned_abs (x *ℤ pos c) ≡ unsigned_abs x * c = unsigned_abs-mul x (pos c) in
-    let le : suc n * d ≤ B * d = through (negsuc n *ℤ pos d) (x *ℤ pos c) (suc n * d) (B * d) (negative n d some) e (omega arith) h in
+    let le : suc n * d ≤ B * d = through (negsuc n *ℤ pos d) (x *ℤ pos c) (suc n * d) (B * d)
+    (negative n d some) e
+    (omega arith) h in
     let few : suc n ≤ B = le_of_mul-le-mul_right {m = suc n} {n = B} {k = d} le some in omega (arith, ints)
   where
     negative : (n d : ℕ) → 0 < d → (negsuc n *ℤ pos d) ≤ℤ pos 0
@@ -58,7 +60,8 @@ module _ (m : Model) (is : IsModel m) where
   true_most : (r k : ℕ) (w : ℕ → ℕ) → unsigned_abs (look_ahead m r w k) ≤ nat_sum m.states w * value_most m r
   true_most r k w =
       let spans = λ (s : ℕ). point (pos (w s)) in
-      let e : look_ahead_in (exact m.scales) m r spans k ≡ look_ahead m r w k = look_ahead_enclosed m (exact m.scales) equality (exact_sound m.scales) is 1 r k w spans (λ s p. refl) in
+      let e : look_ahead_in (exact m.scales) m r spans k ≡ look_ahead m r w k = look_ahead_enclosed m
+      (exact m.scales) equality (exact_sound m.scales) is 1 r k w spans (λ s p. refl) in
       let most = look_most m is r k spans in
       let f = nat_sum_ext m.states (λ s. size (spans s)) w (λ s p. same (w s)) in
       let g = ap (λ (n : ℕ). n * value_most m r) f in
@@ -76,7 +79,11 @@ module _ (m : Model) (is : IsModel m) where
   low_enclosed : (w : Span) → IsOrdered w → Encloses (10 ^ 12) (10 ^ 12) (pos (unsigned_abs w.low)) w
   low_enclosed w o =
       let e = low_number w.low o.from in
-      record { from = zle_of _ _ (ap (λ (x : ℤ). x *ℤ pos (10 ^ 12)) (sym e)); to = subst (λ (x : ℤ). (x *ℤ pos (10 ^ 12)) ≤ℤ (w.high *ℤ pos (10 ^ 12))) (sym e) (mul_le_right (10 ^ 12) w.low w.high o.order) }
+      record {
+        from = zle_of _ _ (ap (λ (x : ℤ). x *ℤ pos (10 ^ 12)) (sym e));
+        to = subst (λ (x : ℤ). (x *ℤ pos (10 ^ 12)) ≤ℤ (w.high *ℤ pos (10 ^ 12))) (sym e)
+            (mul_le_right (10 ^ 12) w.low w.high o.order);
+      }
 
   -- a true value of 2^64 weights over 24 steps
   scaled_value : (W r most dr q : ℕ) → W ≤ 2 ^ 64 → r ≤ 24 → most ≤ 10 ^ 8 * dr
@@ -93,26 +100,35 @@ module _ (m : Model) (is : IsModel m) where
   unfolding value_most
   look_from r k ws few small ordered =
       let w = λ (s : ℕ). unsigned_abs (ws s).low in
-      let above = look_ahead_enclosed m (outward m.scales) containment (outward_sound m.scales (scales_in_range m.scales is.scales)) is (10 ^ 12) r k w ws (λ s p. low_enclosed (ws s) (ordered s p)) in
+      let above = look_ahead_enclosed m (outward m.scales) containment
+      (outward_sound m.scales (scales_in_range m.scales is.scales)) is (10 ^ 12) r k w ws
+      (λ s p. low_enclosed (ws s) (ordered s p)) in
       let most = mul-le-mul_right (10 ^ 9) (true_most r k w) in
-      let lows : nat_sum m.states w ≤ total_size m ws = nat_sum_le m.states w (λ s. size (ws s)) (λ s p. omega arith) in
-      let value = scaled_value (nat_sum m.states w) r (reward_most m) m.scales.reward (step_scale m ^ r) (omega arith) few (reward_most_within m is) in
-      let scale = mul-pos {m = 10 ^ 12} (omega arith) (mul-pos is.scales.reward (one-le-pow r (step_scale m) (step_scale_some m is))) in
-      below_zero (look_ahead_in (outward m.scales) m r ws k) (look_ahead m r w k) (10 ^ 9) (10 ^ 12 * (m.scales.reward * step_scale m ^ r)) (2 ^ 88) above (omega arith) scale
+      let lows : nat_sum m.states w ≤ total_size m ws = nat_sum_le m.states w (λ s. size (ws s))
+      (λ s p. omega arith) in
+      let value = scaled_value (nat_sum m.states w) r (reward_most m) m.scales.reward (step_scale m ^ r)
+      (omega arith) few (reward_most_within m is) in
+      let scale = mul-pos {m = 10 ^ 12} (omega arith) (mul-pos is.scales.reward
+      (one-le-pow r (step_scale m) (step_scale_some m is))) in
+      below_zero (look_ahead_in (outward m.scales) m r ws k) (look_ahead m r w k) (10 ^ 9)
+      (10 ^ 12 * (m.scales.reward * step_scale m ^ r)) (2 ^ 88) above (omega arith) scale
 
   module _ (h : ℕ) (horizon : h ≤ 24) where
     -- one weight against the table
     tail_part : (t r s : ℕ) (ws : ℕ → Span) → t + r ≡ h → AreWeights false m t ws → s < m.states
         → unsigned_abs ((outward m.scales).tail (ws s) (mdp_table_in (outward m.scales) m r s))
         ≤ size (ws s) * 2 ^ 23 + 1
-    tail_part t r s ws e are ps = tail_most m is (ws s) (mdp_table_in (outward m.scales) m r s) (table_room m is h horizon r s (omega arith) ps)
+    tail_part t r s ws e are ps = tail_most m is (ws s) (mdp_table_in (outward m.scales) m r s)
+        (table_room m is h horizon r s (omega arith) ps)
 
     -- all weights against the table
     weighted_table_most : (t r : ℕ) (ws : ℕ → Span) → t + r ≡ h → AreWeights false m t ws
         → weighted_table_size (outward m.scales) m r ws ≤ 2 ^ 88
     unfolding weighted_table_size
     weighted_table_most t r ws e are =
-        let each = nat_sum_le m.states (λ s. unsigned_abs ((outward m.scales).tail (ws s) (mdp_table_in (outward m.scales) m r s))) (λ s. size (ws s) * 2 ^ 23 + 1) (λ s ps. tail_part t r s ws e are ps) in
+        let each = nat_sum_le m.states (λ s. unsigned_abs ((outward m.scales).tail (ws s)
+        (mdp_table_in (outward m.scales) m r s))) (λ s. size (ws s) * 2 ^ 23 + 1)
+        (λ s ps. tail_part t r s ws e are ps) in
         let sums = nat_sum_add m.states (λ s. size (ws s) * 2 ^ 23) (λ s. 1) in
         let times = nat_sum_times m.states (λ s. size (ws s)) (2 ^ 23) in
         let flat = nat_sum_const m.states 1 in
@@ -124,7 +140,9 @@ module _ (m : Model) (is : IsModel m) where
     weighted_table_abs : (t r : ℕ) (ws : ℕ → Span) → t + r ≡ h → AreWeights false m t ws
         → unsigned_abs (weighted_table_in (outward m.scales) m r ws) ≤ 2 ^ 88
     unfolding weighted_table_in weighted_table_size
-    weighted_table_abs t r ws e are = let parts = int_sum_abs m.states (λ s. (outward m.scales).tail (ws s) (mdp_table_in (outward m.scales) m r s)) in let most = weighted_table_most t r ws e are in omega arith
+    weighted_table_abs t r ws e are = let parts = int_sum_abs m.states
+        (λ s. (outward m.scales).tail (ws s) (mdp_table_in (outward m.scales) m r s)) in
+        let most = weighted_table_most t r ws e are in omega arith
 
     -- look-ahead is at most 2^88
     pub look_room : (t r k : ℕ) (ws : ℕ → Span) → t + r ≡ h → AreWeights false m t ws
@@ -133,7 +151,8 @@ module _ (m : Model) (is : IsModel m) where
     look_room t (suc r) zero ws e are = weighted_table_abs t (suc r) ws e are
     look_room t (suc r) (suc k) ws e are =
         between _ (weighted_table_in (outward m.scales) m (suc r) ws) (2 ^ 88)
-        (look_from (suc r) (suc k) ws (omega arith) (limit_room m is h horizon t ws (omega arith) are) (λ s p. weight_ordered are s p))
+        (look_from (suc r) (suc k) ws (omega arith) (limit_room m is h horizon t ws (omega arith) are)
+        (λ s p. weight_ordered are s p))
         (min_le _ (weighted_table_in (outward m.scales) m (suc r) ws))
         (weighted_table_abs t (suc r) ws e are)
 
@@ -145,15 +164,21 @@ module _ (m : Model) (is : IsModel m) where
     looks_room t r k ws a e are pa =
         let O = joint_observations m in
         let reward = reward_room m is h horizon t r ws a (omega arith) are pa in
-        let each = nat_sum_most O (2 ^ 88) (λ o. unsigned_abs (look_ahead_in (outward m.scales) m r (weights_after_in (outward m.scales) m ws a o) k))
-        (λ o po. look_room (suc t) r k (weights_after_in (outward m.scales) m ws a o) (omega arith) (next_weights m is h horizon t ws a o are pa po)) in
+        let each = nat_sum_most O (2 ^ 88) (λ o. unsigned_abs
+        (look_ahead_in (outward m.scales) m r (weights_after_in (outward m.scales) m ws a o) k))
+        (λ o po. look_room (suc t) r k (weights_after_in (outward m.scales) m ws a o) (omega arith)
+        (next_weights m is h horizon t ws a o are pa po)) in
         let few = mul-le-mul_right (2 ^ 88) is.sizes.joint_observations_limit in
         omega arith
 
     -- the call for a weight against the table
     may_tail : (t r s : ℕ) (ws : ℕ → Span) → t + r ≡ h → AreWeights false m t ws → s < m.states
         → (outward_calls m.scales).Tail (ws s) (mdp_table_in (outward m.scales) m r s)
-    may_tail t r s ws e are ps = (weight_of (ws s) (weight_ordered are s ps) (weight_le m is h horizon t s ws (omega arith) are ps), table_room m is h horizon r s (omega arith) ps)
+    may_tail t r s ws e are ps = (
+      weight_of (ws s) (weight_ordered are s ps)
+          (weight_le m is h horizon t s ws (omega arith) are ps),
+      table_room m is h horizon r s (omega arith) ps,
+    )
 
     -- in outward mode look-ahead can be computed
     pub outward_can_look_ahead : CanLookAhead (outward m.scales) (outward_calls m.scales) m h

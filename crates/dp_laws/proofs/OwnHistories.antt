@@ -32,7 +32,10 @@ next_within [] t [] ps h g = tt
 next_within [] t (x ∷ xs) ps h g = absurd h
 next_within (n ∷ ns) t [] ps h g = absurd h
 next_within (n ∷ ns) t (x ∷ xs) [] h g = absurd g
-next_within (n ∷ ns) t (x ∷ xs) (p ∷ ps) h g = (next_history_below x n t p h.0 g.0, next_within ns t xs ps h.1 g.1)
+next_within (n ∷ ns) t (x ∷ xs) (p ∷ ps) h g = (
+  next_history_below x n t p h.0 g.0,
+  next_within ns t xs ps h.1 g.1,
+)
 
 -- the empty own histories
 none_within : (ns : List ℕ) → Within ns zero (map (λ n. 0) ns)
@@ -45,7 +48,8 @@ pub own_histories_within : (ns : List ℕ) (t : ℕ) (H : List ℕ) → IsJointH
 own_histories_within ns zero [] h = none_within ns
 own_histories_within ns zero (o ∷ H) h = absurd h
 own_histories_within ns (suc t) [] h = absurd h
-own_histories_within ns (suc t) (o ∷ H) h = next_within ns t _ _ (own_histories_within ns t H h.1) (parts_below ns o h.0)
+own_histories_within ns (suc t) (o ∷ H) h = next_within ns t _ _ (own_histories_within ns t H h.1)
+    (parts_below ns o h.0)
 
 -- the trees of all agents after own histories
 abbrev pub trees_at : List ℕ → List PolicyTree → ℕ → List ℕ → List PolicyTree
@@ -67,7 +71,8 @@ subtrees_at_next (n ∷ ns) (q ∷ qs) t (x ∷ xs) (p ∷ ps) h =
     rw (first, rest, subtrees_at_next ns qs t xs ps h.1)
 
 -- after no observations the trees are those of the start
-pub trees_at-start : {f : ℕ} {ns : List ℕ} {ds : List AgentFront} {qs : List PolicyTree} → KeepAgentFronts f ns ds qs
+pub trees_at-start : {f : ℕ} {ns : List ℕ} {ds : List AgentFront} {qs : List PolicyTree}
+    → KeepAgentFronts f ns ds qs
     → trees_at ns qs zero (map (λ n. 0) ns) ≡ qs
 trees_at-start none_keep = refl
 trees_at-start (and_keeps {q = q} k ks) = ap (λ x. q ∷ x) (trees_at-start ks)

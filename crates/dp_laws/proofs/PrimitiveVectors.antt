@@ -40,8 +40,10 @@ list_gcd_is (x ∷ xs) =
     let both = gcd_of-IsGcd x (list_gcd xs) in
     let g = gcd_of x (list_gcd xs) in
     record {
-      divides = All-cons (λ y. g ∣ y) x xs both.0 (All-weaker (λ y. list_gcd xs ∣ y) (λ y. g ∣ y) (λ y divides. dvd_trans g both.1 divides) xs rest.divides);
-      greatest = λ d all. both.2 d (All-head (λ y. d ∣ y) x xs all) (rest.greatest d (All-tail (λ y. d ∣ y) x xs all));
+      divides = All-cons (λ y. g ∣ y) x xs both.0 (All-weaker (λ y. list_gcd xs ∣ y) (λ y. g ∣ y)
+          (λ y divides. dvd_trans g both.1 divides) xs rest.divides);
+      greatest = λ d all. both.2 d (All-head (λ y. d ∣ y) x xs all)
+          (rest.greatest d (All-tail (λ y. d ∣ y) x xs all));
     }
 
 -- and only one
@@ -56,7 +58,8 @@ primitive_unique xs us vs one other =
 of_mapped : (P : ℕ → Type 0) (f : ℕ → ℕ) (xs : List ℕ) → All P (map f xs) → All (λ x. P (f x)) xs
 of_mapped P f [] all = All-nil (λ x. P (f x))
 of_mapped P f (x ∷ xs) all =
-    All-cons (λ y. P (f y)) x xs (All-head P (f x) (map f xs) all) (of_mapped P f xs (All-tail P (f x) (map f xs) all))
+    All-cons (λ y. P (f y)) x xs (All-head P (f x) (map f xs) all)
+    (of_mapped P f xs (All-tail P (f x) (map f xs) all))
 
 -- what divides each number times T divides the greatest common divisor times T
 scaled_divisor : (xs : List ℕ) (g T d : ℕ) → 0 < T → IsGcdOf xs g → All (λ x. d ∣ T * x) xs → d ∣ T * g
@@ -65,22 +68,27 @@ scaled_divisor xs g T d some is divides =
     let e = list_gcd scaled in
     let gcd = list_gcd_is scaled in
     let of_d : d ∣ e = gcd.greatest d (All-map (λ y. d ∣ y) (λ x. T * x) xs divides) in
-    let of_T : T ∣ e = gcd.greatest T (All-map (λ y. T ∣ y) (λ x. T * x) xs (λ k z lt. dvd-mul_right T (get_or xs k z))) in
+    let of_T : T ∣ e = gcd.greatest T (All-map (λ y. T ∣ y) (λ x. T * x) xs
+    (λ k z lt. dvd-mul_right T (get_or xs k z))) in
     let parts : T * (e / T) ≡ e = mul-div_cancel' T of_T in
     let each : All (λ x. e / T ∣ x) xs =
-    All-weaker (λ x. e ∣ T * x) (λ x. e / T ∣ x) (λ x divided. dvd_of_mul-dvd-mul_left (e / T) some (subst (λ y. y ∣ T * x) (sym parts) divided)) xs
+    All-weaker (λ x. e ∣ T * x) (λ x. e / T ∣ x) (λ x divided. dvd_of_mul-dvd-mul_left (e / T) some
+    (subst (λ y. y ∣ T * x) (sym parts) divided)) xs
     (of_mapped (λ y. e ∣ y) (λ x. T * x) xs gcd.divides) in
     dvd_trans d of_d (subst (λ y. y ∣ T * g) parts (mul-dvd-mul_left (e / T) T (is.greatest (e / T) each)))
 
 -- ---- two vectors of so many places
 
 -- in a list of f p for each place p what holds of each number holds of each f p, and the other way round
-at_places : (P : ℕ → Type 0) (f : ℕ → ℕ) (n : ℕ) → All P (map f (range_with_len 0 n)) → (p : ℕ) → p < n → P (f p)
+at_places : (P : ℕ → Type 0) (f : ℕ → ℕ) (n : ℕ) → All P (map f (range_with_len 0 n)) → (p : ℕ) → p < n
+    → P (f p)
 at_places P f n all p lt =
     subst P (get_or-map-range_with_len f 0 n p p 0 lt (omega arith))
-    (All-get_or P (map f (range_with_len 0 n)) p 0 (let size = length-map-range_with_len f 0 n in omega arith) all)
+    (All-get_or P (map f (range_with_len 0 n)) p 0 (let size = length-map-range_with_len f 0 n in
+    omega arith) all)
 
-from_places : (P : ℕ → Type 0) (f : ℕ → ℕ) (n : ℕ) → ((p : ℕ) → p < n → P (f p)) → All P (map f (range_with_len 0 n))
+from_places : (P : ℕ → Type 0) (f : ℕ → ℕ) (n : ℕ) → ((p : ℕ) → p < n → P (f p))
+    → All P (map f (range_with_len 0 n))
 from_places P f n each =
     All-from_get_or P (map f (range_with_len 0 n)) 0
     (λ p lt. let below : p < n = let size = length-map-range_with_len f 0 n in omega arith in
@@ -90,7 +98,8 @@ mapped_twice : (f h : ℕ → ℕ) (xs : List ℕ) → map h (map f xs) ≡ map 
 mapped_twice f h [] = refl
 mapped_twice f h (x ∷ xs) = ap (λ (ys : List ℕ). h (f x) ∷ ys) (mapped_twice f h xs)
 
-mapped_alike : (f h : ℕ → ℕ) (a n : ℕ) → ((p : ℕ) → a ≤ p → p < a + n → f p ≡ h p) → map f (range_with_len a n) ≡ map h (range_with_len a n)
+mapped_alike : (f h : ℕ → ℕ) (a n : ℕ) → ((p : ℕ) → a ≤ p → p < a + n → f p ≡ h p)
+    → map f (range_with_len a n) ≡ map h (range_with_len a n)
 mapped_alike f h a zero alike = refl
 mapped_alike f h a (suc n) alike =
     let here : f a ≡ h a = alike a (omega arith) (omega arith) in
@@ -115,8 +124,10 @@ module _ (n : ℕ) (v v' : ℕ → ℕ) (T T' g g' : ℕ) (gcd : IsGcdOf (map v 
   -- where the vectors are in the proportion of the totals, so are the divisors
   divisors_in_proportion : ((p : ℕ) → p < n → v p * T' ≡ v' p * T) → T' * g ≡ T * g'
   divisors_in_proportion equivalent =
-      dvd_antisymm (scaled_divisor (map v' (range_with_len 0 n)) g' T (T' * g) some_T gcd' (from_places (λ x. T' * g ∣ T * x) v' n forth))
-      (scaled_divisor (map v (range_with_len 0 n)) g T' (T * g') some_T' gcd (from_places (λ x. T * g' ∣ T' * x) v n back))
+      dvd_antisymm (scaled_divisor (map v' (range_with_len 0 n)) g' T (T' * g) some_T gcd'
+      (from_places (λ x. T' * g ∣ T * x) v' n forth))
+      (scaled_divisor (map v (range_with_len 0 n)) g T' (T * g') some_T' gcd
+      (from_places (λ x. T * g' ∣ T' * x) v n back))
     where
       forth : (p : ℕ) → p < n → T' * g ∣ T * v' p
       forth p lt =
@@ -136,9 +147,11 @@ module _ (n : ℕ) (v v' : ℕ → ℕ) (T T' g g' : ℕ) (gcd : IsGcdOf (map v 
       (divisors_in_proportion equivalent)
 
   -- and the other way round, where the totals are those of the quotients
-  in_proportion : (U : ℕ) → T ≡ U * g → T' ≡ U * g' → ((p : ℕ) → p < n → v p / g ≡ v' p / g') → (p : ℕ) → p < n → v p * T' ≡ v' p * T
+  in_proportion : (U : ℕ) → T ≡ U * g → T' ≡ U * g' → ((p : ℕ) → p < n → v p / g ≡ v' p / g') → (p : ℕ) → p < n
+      → v p * T' ≡ v' p * T
   in_proportion U total total' equal p lt =
-      ap (λ x. x * T') (sym (divided p lt)) ∙ products (v p / g) (v' p / g') (equal p lt) ∙ ap (λ x. x * T) (divided' p lt)
+      ap (λ x. x * T') (sym (divided p lt)) ∙ products (v p / g) (v' p / g') (equal p lt)
+      ∙ ap (λ x. x * T) (divided' p lt)
     where
       products : (u u' : ℕ) → u ≡ u' → u * g * T' ≡ u' * g' * T
       products u u' e = rw (total, total', e) (grind arith)
@@ -146,9 +159,11 @@ module _ (n : ℕ) (v v' : ℕ → ℕ) (T T' g g' : ℕ) (gcd : IsGcdOf (map v 
 -- ---- classes
 
 -- what a sum of sums over rows and places in them has as a common factor
-factored : (n k : ℕ) (u : ℕ → ℕ → ℕ) (g : ℕ) → nat_sum n (λ i. nat_sum k (λ j. u i j * g)) ≡ nat_sum n (λ i. nat_sum k (λ j. u i j)) * g
+factored : (n k : ℕ) (u : ℕ → ℕ → ℕ) (g : ℕ) → nat_sum n (λ i. nat_sum k (λ j. u i j * g))
+    ≡ nat_sum n (λ i. nat_sum k (λ j. u i j)) * g
 factored n k u g =
-    nat_sum_ext n (λ i. nat_sum k (λ j. u i j * g)) (λ i. nat_sum k (λ j. u i j) * g) (λ i lt. nat_sum_times k (u i) g)
+    nat_sum_ext n (λ i. nat_sum k (λ j. u i j * g)) (λ i. nat_sum k (λ j. u i j) * g)
+    (λ i lt. nat_sum_times k (u i) g)
     ∙ nat_sum_times n (λ i. nat_sum k (λ j. u i j)) g
 
 -- there is a count for each agent
@@ -177,14 +192,18 @@ module _ (m : Model) (h : ℕ) (F : Front) (front : IsFront m h F) (i : ℕ) (i_
     place_divided x s x_in s_in =
         let row : place_number m x s / m.states ≡ x = div-mul-add x m.states s s_in in
         let rest : place_number m x s % m.states ≡ s = mod-mul-add x m.states s s_in in
-        let here = div-mul_cancel g (at_places (λ y. g ∣ y) (weight_at m F i c) (others * m.states) gcd.divides (place_number m x s) (row_below x others m.states s x_in s_in)) in
-        here ∙ ap (λ y. place_weight m F i c y (place_number m x s % m.states)) row ∙ ap (place_weight m F i c x) rest
+        let here = div-mul_cancel g (at_places (λ y. g ∣ y) (weight_at m F i c) (others * m.states) gcd.divides
+        (place_number m x s) (row_below x others m.states s x_in s_in)) in
+        here ∙ ap (λ y. place_weight m F i c y (place_number m x s % m.states)) row
+        ∙ ap (place_weight m F i c x) rest
 
     total_divided : class_total m F i c ≡ quotient_total c g * g
     total_divided =
         sym (places_total m h F front i c there)
-        ∙ nat_sum_ext others (λ x. nat_sum m.states (λ s. place_weight m F i c x s)) (λ x. nat_sum m.states (λ s. quotient_at c g x s * g))
-        (λ x x_in. nat_sum_ext m.states (λ s. place_weight m F i c x s) (λ s. quotient_at c g x s * g) (λ s s_in. sym (place_divided x s x_in s_in)))
+        ∙ nat_sum_ext others (λ x. nat_sum m.states (λ s. place_weight m F i c x s))
+        (λ x. nat_sum m.states (λ s. quotient_at c g x s * g))
+        (λ x x_in. nat_sum_ext m.states (λ s. place_weight m F i c x s) (λ s. quotient_at c g x s * g)
+        (λ s s_in. sym (place_divided x s x_in s_in)))
         ∙ factored others m.states (quotient_at c g) g
 
   module _ (c c' g g' : ℕ) (gcd : IsGcdOf (class_vector m F i c) g) (gcd' : IsGcdOf (class_vector m F i c') g')
@@ -200,17 +219,20 @@ module _ (m : Model) (h : ℕ) (F : Front) (front : IsFront m h F) (i : ℕ) (i_
     some_divisor = above_zero g (total_divided c g gcd)
       where
         above_zero : (d : ℕ) → class_total m F i c ≡ quotient_total c g * d → 0 < d
-        above_zero zero e = absurd (let none : class_total m F i c ≡ 0 = e ∙ mul-zero (quotient_total c g) in omega arith)
+        above_zero zero e = absurd (let none : class_total m F i c ≡ 0 = e ∙ mul-zero (quotient_total c g) in
+            omega arith)
         above_zero (suc d) e = omega arith
 
     by_place : (k d : ℕ) → quotients k d ≡ map (λ p. weight_at m F i k p / d) (range_with_len 0 places)
     unfolding class_vector
     by_place k d = mapped_twice (weight_at m F i k) (λ x. x / d) (range_with_len 0 places)
 
-    totals_alike : ((p : ℕ) → p < places → weight_at m F i c p / g ≡ weight_at m F i c' p / g') → quotient_total c' g' ≡ quotient_total c g
+    totals_alike : ((p : ℕ) → p < places → weight_at m F i c p / g ≡ weight_at m F i c' p / g')
+        → quotient_total c' g' ≡ quotient_total c g
     unfolding place_count
     totals_alike each =
-        nat_sum_ext others (λ x. nat_sum m.states (λ s. quotient_at c' g' x s)) (λ x. nat_sum m.states (λ s. quotient_at c g x s))
+        nat_sum_ext others (λ x. nat_sum m.states (λ s. quotient_at c' g' x s))
+        (λ x. nat_sum m.states (λ s. quotient_at c g x s))
         (λ x x_in. nat_sum_ext m.states (λ s. quotient_at c' g' x s) (λ s. quotient_at c g x s)
         (λ s s_in. sym (each (place_number m x s) (row_below x others m.states s x_in s_in))))
 
@@ -218,28 +240,39 @@ module _ (m : Model) (h : ℕ) (F : Front) (front : IsFront m h F) (i : ℕ) (i_
     unfolding class_vector
     equal_where_equivalent equivalent =
         let agree = (agreement_is m F i c c').1 equivalent in
-        let each = equal_quotients places (weight_at m F i c) (weight_at m F i c') (class_total m F i c) (class_total m F i c') g g' gcd gcd' some some' some_divisor agree in
+        let each = equal_quotients places (weight_at m F i c) (weight_at m F i c') (class_total m F i c)
+        (class_total m F i c') g g' gcd gcd' some some' some_divisor agree in
         by_place c g
-        ∙ mapped_alike (λ p. weight_at m F i c p / g) (λ p. weight_at m F i c' p / g') 0 places (λ p le lt. each p (omega arith))
+        ∙ mapped_alike (λ p. weight_at m F i c p / g) (λ p. weight_at m F i c' p / g') 0 places
+        (λ p le lt. each p (omega arith))
         ∙ sym (by_place c' g')
 
     equivalent_where_equal : quotients c g ≡ quotients c' g' → AreEquivalent m F i c c'
     unfolding class_vector
     equivalent_where_equal equal =
-        let same : map (λ p. weight_at m F i c p / g) (range_with_len 0 places) ≡ map (λ p. weight_at m F i c' p / g') (range_with_len 0 places) =
+        let same : map (λ p. weight_at m F i c p / g) (range_with_len 0 places)
+        ≡ map (λ p. weight_at m F i c' p / g') (range_with_len 0 places) =
         sym (by_place c g) ∙ equal ∙ by_place c' g' in
         let each = λ (p : ℕ) (lt : p < places).
         sym (get_or-map-range_with_len (λ p. weight_at m F i c p / g) 0 places p p 0 lt (omega arith))
-        ∙ ap (λ (xs : List ℕ). get_or xs p 0) same ∙ get_or-map-range_with_len (λ p. weight_at m F i c' p / g') 0 places p p 0 lt (omega arith) in
+        ∙ ap (λ (xs : List ℕ). get_or xs p 0) same ∙ get_or-map-range_with_len (λ p. weight_at m F i c' p / g')
+        0 places p p 0 lt (omega arith) in
         let totals : quotient_total c' g' ≡ quotient_total c g = totals_alike each in
         (agreement_is m F i c c').0
-        (in_proportion places (weight_at m F i c) (weight_at m F i c') (class_total m F i c) (class_total m F i c') g g' gcd gcd' some some' (quotient_total c g) (total_divided c g gcd) (total_divided c' g' gcd' ∙ ap (λ U. U * g') totals) each)
+        (in_proportion places (weight_at m F i c) (weight_at m F i c') (class_total m F i c)
+        (class_total m F i c')
+        g g' gcd gcd' some some' (quotient_total c g) (total_divided c g gcd)
+        (total_divided c' g' gcd' ∙ ap (λ U. U * g') totals) each)
 
 -- two classes with weight are equivalent exactly where their primitive vectors are equal
-pub primitive_vectors_tell : (m : Model) (h : ℕ) (F : Front) (i c c' : ℕ) (us us' : List ℕ) → IsFront m h F → i < length F.agents
-    → IsPrimitiveOf (class_vector m F i c) us → IsPrimitiveOf (class_vector m F i c') us' → 0 < class_total m F i c
+pub primitive_vectors_tell : (m : Model) (h : ℕ) (F : Front) (i c c' : ℕ) (us us' : List ℕ) → IsFront m h F
+    → i < length F.agents
+    → IsPrimitiveOf (class_vector m F i c) us → IsPrimitiveOf (class_vector m F i c') us'
+    → 0 < class_total m F i c
     → 0 < class_total m F i c' → AreEquivalent m F i c c' ↔ (us ≡ us')
 primitive_vectors_tell m h F i c c' us us' front i_in one other some some' = (
-  λ equivalent. one.2 ∙ equal_where_equivalent m h F front i i_in c c' one.0 other.0 one.1 other.1 some some' equivalent ∙ sym other.2,
-  λ equal. equivalent_where_equal m h F front i i_in c c' one.0 other.0 one.1 other.1 some some' (sym one.2 ∙ equal ∙ other.2),
+  λ equivalent. one.2 ∙ equal_where_equivalent m h F front i i_in c c' one.0 other.0 one.1 other.1 some some'
+      equivalent ∙ sym other.2,
+  λ equal. equivalent_where_equal m h F front i i_in c c' one.0 other.0 one.1 other.1 some some'
+      (sym one.2 ∙ equal ∙ other.2),
 )

@@ -16,11 +16,13 @@ use Rattle.dp_spec.specs.Quantities.{earned_reward_in, forward_worth_in}
 use Rattle.dp_spec.specs.Value.{joint_root_action, policy_value}
 
 -- the worth span encloses the value of the policy
-pub worth_enclosed : (m : Model) (A : Arithmetic) (R : Enclosure) → IsSound m.scales A R → (h : ℕ) (qs : List PolicyTree)
+pub worth_enclosed : (m : Model) (A : Arithmetic) (R : Enclosure) → IsSound m.scales A R
+    → (h : ℕ) (qs : List PolicyTree)
     → R.Earns (value_scale m h) (policy_value m h qs) (forward_worth_in A m h qs)
 unfolding forward_worth_in
 worth_enclosed m A R ok h qs =
-    subst (λ (x : ℤ). R.Earns (value_scale m h) x (earned_reward_in A m (λ H. joint_root_action m (trees_after_history m qs H)) h h)) (sym (value_is_earned m h qs))
+    subst (λ (x : ℤ). R.Earns (value_scale m h) x (earned_reward_in A m
+    (λ H. joint_root_action m (trees_after_history m qs H)) h h)) (sym (value_is_earned m h qs))
     (earned_reward_enclosed m A R ok (λ H. joint_root_action m (trees_after_history m qs H)) h h (omega arith))
 
 -- a sound arithmetic encloses every quantity
@@ -45,8 +47,11 @@ exact_quantities m is = quantities_enclosed m (exact m.scales) equality is (exac
 
 -- in the outward arithmetic
 pub outward_quantities : (m : Model) → IsModel m → EnclosesQuantities m (outward m.scales) containment
-outward_quantities m is = quantities_enclosed m (outward m.scales) containment is (outward_sound m.scales (scales_in_range m.scales is.scales))
+outward_quantities m is = quantities_enclosed m (outward m.scales) containment is
+    (outward_sound m.scales (scales_in_range m.scales is.scales))
 
 -- in that of either mode
-pub mode_quantities : (m : Model) → IsModel m → (e : Bool) → EnclosesQuantities m (arithmetic e m.scales) (enclosure e)
-mode_quantities m is e = quantities_enclosed m (arithmetic e m.scales) (enclosure e) is (model_arithmetic_sound m is e)
+pub mode_quantities : (m : Model) → IsModel m → (e : Bool) → EnclosesQuantities m (arithmetic e m.scales)
+    (enclosure e)
+mode_quantities m is e = quantities_enclosed m (arithmetic e m.scales) (enclosure e) is
+    (model_arithmetic_sound m is e)

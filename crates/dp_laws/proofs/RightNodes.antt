@@ -24,7 +24,8 @@ module _ (A : Arithmetic) (m : Model) (h look : ℕ) where
   the_node above T F cap = record { tree = T; above = above; front = F; cap = cap }
 
   -- a branch that fits has one child for each action that is left
-  children_are_counted : (above : ℕ) (ks : BoundTrees) (F : Front) (i c a : ℕ) (cap : ℤ) → FitEachAction A m h look above ks F i c a cap
+  children_are_counted : (above : ℕ) (ks : BoundTrees) (F : Front) (i c a : ℕ) (cap : ℤ)
+      → FitEachAction A m h look above ks F i c a cap
       → a + child_count ks ≡ get_or m.actions i 0
   children_are_counted above no_bound_trees F i c a cap fits = omega arith
   children_are_counted above (more_bound_trees k ks) F i c a cap fits =
@@ -33,41 +34,64 @@ module _ (A : Arithmetic) (m : Model) (h look : ℕ) where
   mutual
     pub right_nodes : (above : ℕ) (T : BoundTree) (F : Front) (cap : ℤ) → FitsFront A m h look above T F cap
         → AreRightNodes A m h (nodes_of A m h look above T F cap)
-    right_nodes above (leaf x) F cap fits = All-from_recursion (IsRightNode A m h) (the_node above (leaf x) F cap ∷ []) (fits, tt)
+    right_nodes above (leaf x) F cap fits = All-from_recursion (IsRightNode A m h)
+        (the_node above (leaf x) F cap ∷ []) (fits, tt)
     right_nodes above (branch i c ks) F cap fits =
-        let count : child_count ks ≡ get_or m.actions i 0 = let counted = children_are_counted (suc above) ks F i c 0 cap fits.2 in omega arith in
-        All-cons (IsRightNode A m h) (the_node above (branch i c ks) F cap) (nodes_of_choices A m h look (suc above) ks F i c 0 cap)
+        let count : child_count ks ≡ get_or m.actions i 0 = let counted = children_are_counted (suc above)
+        ks F i c 0 cap fits.2 in omega arith in
+        All-cons (IsRightNode A m h) (the_node above (branch i c ks) F cap)
+        (nodes_of_choices A m h look (suc above) ks F i c 0 cap)
         ((fits.0, fits.3, fits.1), count) (right_choices (suc above) ks F i c 0 cap fits.2)
     right_nodes above (merge i a b k) F cap fits =
         let G = merged_front F i a b in
-        All-cons (IsRightNode A m h) (the_node above (merge i a b k) F cap) (nodes_of A m h look (suc above) k G (least_with cap G))
-        ((fits.0, fits.7, fits.6, fits.1, fits.2, fits.3), fits.4) (right_nodes (suc above) k G (least_with cap G) fits.5)
+        All-cons (IsRightNode A m h) (the_node above (merge i a b k) F cap)
+        (nodes_of A m h look (suc above) k G (least_with cap G))
+        ((fits.0, fits.7, fits.6, fits.1, fits.2, fits.3), fits.4)
+        (right_nodes (suc above) k G (least_with cap G) fits.5)
 
-    right_choices : (above : ℕ) (ks : BoundTrees) (F : Front) (i c a : ℕ) (cap : ℤ) → FitEachAction A m h look above ks F i c a cap
+    right_choices : (above : ℕ) (ks : BoundTrees) (F : Front) (i c a : ℕ) (cap : ℤ)
+        → FitEachAction A m h look above ks F i c a cap
         → AreRightNodes A m h (nodes_of_choices A m h look above ks F i c a cap)
     right_choices above no_bound_trees F i c a cap fits = All-from_recursion (IsRightNode A m h) [] tt
     right_choices above (more_bound_trees k ks) F i c a cap fits =
         let G = front_after_choice m F i c a in
-        All-append (IsRightNode A m h) (nodes_of A m h look above k G (least_with cap G)) (nodes_of_choices A m h look above ks F i c (suc a) cap)
+        All-append (IsRightNode A m h) (nodes_of A m h look above k G (least_with cap G))
+        (nodes_of_choices A m h look above ks F i c (suc a) cap)
         (right_nodes above k G (least_with cap G) fits.0) (right_choices above ks F i c (suc a) cap fits.1)
 
   mutual
-    pub fits_where_right : (above : ℕ) (T : BoundTree) (F : Front) (cap : ℤ) → AreRightNodes A m h (nodes_of A m h look above T F cap)
+    pub fits_where_right : (above : ℕ) (T : BoundTree) (F : Front) (cap : ℤ)
+        → AreRightNodes A m h (nodes_of A m h look above T F cap)
         → FitsFront A m h look above T F cap
-    fits_where_right above (leaf x) F cap right = All-head (IsRightNode A m h) (the_node above (leaf x) F cap) [] right
+    fits_where_right above (leaf x) F cap right = All-head (IsRightNode A m h) (the_node above (leaf x) F cap)
+        [] right
     fits_where_right above (branch i c ks) F cap right =
-        let here = All-head (IsRightNode A m h) (the_node above (branch i c ks) F cap) (nodes_of_choices A m h look (suc above) ks F i c 0 cap) right in
-        let below = All-tail (IsRightNode A m h) (the_node above (branch i c ks) F cap) (nodes_of_choices A m h look (suc above) ks F i c 0 cap) right in
+        let here = All-head (IsRightNode A m h) (the_node above (branch i c ks) F cap)
+        (nodes_of_choices A m h look (suc above) ks F i c 0 cap) right in
+        let below = All-tail (IsRightNode A m h) (the_node above (branch i c ks) F cap)
+        (nodes_of_choices A m h look (suc above) ks F i c 0 cap) right in
         let count : 0 + child_count ks ≡ get_or m.actions i 0 = let counted = here.1 in omega arith in
         (here.0.0, here.0.2, fit_where_right (suc above) ks F i c 0 cap count below, here.0.1)
     fits_where_right above (merge i a b k) F cap right =
         let G = merged_front F i a b in
-        let here = All-head (IsRightNode A m h) (the_node above (merge i a b k) F cap) (nodes_of A m h look (suc above) k G (least_with cap G)) right in
-        let below = All-tail (IsRightNode A m h) (the_node above (merge i a b k) F cap) (nodes_of A m h look (suc above) k G (least_with cap G)) right in
-        (here.0.0, here.0.3, here.0.4, here.0.5, here.1, fits_where_right (suc above) k G (least_with cap G) below, here.0.2, here.0.1)
+        let here = All-head (IsRightNode A m h) (the_node above (merge i a b k) F cap)
+        (nodes_of A m h look (suc above) k G (least_with cap G)) right in
+        let below = All-tail (IsRightNode A m h) (the_node above (merge i a b k) F cap)
+        (nodes_of A m h look (suc above) k G (least_with cap G)) right in (
+          here.0.0,
+          here.0.3,
+          here.0.4,
+          here.0.5,
+          here.1,
+          fits_where_right (suc above) k G (least_with cap G) below,
+          here.0.2,
+          here.0.1,
+        )
 
-    fit_where_right : (above : ℕ) (ks : BoundTrees) (F : Front) (i c a : ℕ) (cap : ℤ) → a + child_count ks ≡ get_or m.actions i 0
-        → AreRightNodes A m h (nodes_of_choices A m h look above ks F i c a cap) → FitEachAction A m h look above ks F i c a cap
+    fit_where_right : (above : ℕ) (ks : BoundTrees) (F : Front) (i c a : ℕ) (cap : ℤ)
+        → a + child_count ks ≡ get_or m.actions i 0
+        → AreRightNodes A m h (nodes_of_choices A m h look above ks F i c a cap)
+        → FitEachAction A m h look above ks F i c a cap
     fit_where_right above no_bound_trees F i c a cap count right = omega arith
     fit_where_right above (more_bound_trees k ks) F i c a cap count right =
         let G = front_after_choice m F i c a in

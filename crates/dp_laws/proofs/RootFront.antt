@@ -60,9 +60,11 @@ root_agent_keeps n q = record {
 root_agents_keep : {h : ℕ} {bs ns : List ℕ} {qs : List PolicyTree} → IsJointPolicy h bs ns qs
     → KeepAgentFronts 0 ns (map (λ n. root_agent) bs) qs
 root_agents_keep no_policies = none_keep
-root_agents_keep (and_policy {n = n} {q = q} tree trees) = and_keeps (root_agent_keeps n q) (root_agents_keep trees)
+root_agents_keep (and_policy {n = n} {q = q} tree trees) = and_keeps (root_agent_keeps n q)
+    (root_agents_keep trees)
 
 -- every joint policy keeps the root front
-pub policy_keeps_root : (m : Model) (h : ℕ) (qs : List PolicyTree) → IsPolicyOf m h qs → KeepsFront m (root_front m) qs
+pub policy_keeps_root : (m : Model) (h : ℕ) (qs : List PolicyTree) → IsPolicyOf m h qs
+    → KeepsFront m (root_front m) qs
 unfolding root_front
 policy_keeps_root m h qs policy = root_agents_keep policy

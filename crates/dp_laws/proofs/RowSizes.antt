@@ -28,7 +28,8 @@ actions_below (and_agent {b = b} {n = n} {stages = stages} are ares) t (r ∷ rs
 pub row_acts : (m : Model) (h : ℕ) (p : SharedPolicy) → AreRowsOfAgents h m.actions m.observations p → (t j : ℕ)
     → j < joint_row_count p t → joint_row_action m p t j < joint_actions m
 unfolding joint_row_action joint_actions
-row_acts m h p are t j lt = joint_number_below m.actions _ (actions_below are t _ (parts_below (row_counts p t) j lt))
+row_acts m h p are t j lt = joint_number_below m.actions _ (actions_below are t _
+    (parts_below (row_counts p t) j lt))
 
 -- the weights of all joint rows of a stage together
 abbrev pub rows_total : Arithmetic → Model → SharedPolicy → ℕ → ℕ
@@ -49,36 +50,49 @@ by_target : (K I O S : ℕ) (next : ℕ → ℕ → ℕ) (x : ℕ → ℕ → �
     ≤ nat_sum I (λ i. nat_sum O (λ o. nat_sum S (λ s. x i o s)))
 by_target K I O S next x =
     let Y = λ (i : ℕ) (o : ℕ) (s : ℕ) (J : ℕ). cond (eqb (next i o) J) (x i o s) 0 in
-    let one = nat_sum_ext K (λ J. nat_sum S (λ s. nat_sum I (λ i. nat_sum O (λ o. Y i o s J)))) (λ J. nat_sum I (λ i. nat_sum S (λ s. nat_sum O (λ o. Y i o s J)))) (λ J hJ. nat_sum_swap S I (λ s i. nat_sum O (λ o. Y i o s J))) in
+    let one = nat_sum_ext K (λ J. nat_sum S (λ s. nat_sum I (λ i. nat_sum O (λ o. Y i o s J))))
+    (λ J. nat_sum I (λ i. nat_sum S (λ s. nat_sum O (λ o. Y i o s J))))
+    (λ J hJ. nat_sum_swap S I (λ s i. nat_sum O (λ o. Y i o s J))) in
     let two = nat_sum_swap K I (λ J i. nat_sum S (λ s. nat_sum O (λ o. Y i o s J))) in
-    let three = nat_sum_le I (λ i. nat_sum K (λ J. nat_sum S (λ s. nat_sum O (λ o. Y i o s J)))) (λ i. nat_sum O (λ o. nat_sum S (λ s. x i o s)))
+    let three = nat_sum_le I (λ i. nat_sum K (λ J. nat_sum S (λ s. nat_sum O (λ o. Y i o s J))))
+    (λ i. nat_sum O (λ o. nat_sum S (λ s. x i o s)))
     (λ i hi.
     let turned = nat_rotate K S O (λ J s o. Y i o s J) in
-    let each = nat_sum_le O (λ o. nat_sum S (λ s. nat_sum K (λ J. Y i o s J))) (λ o. nat_sum S (λ s. x i o s)) (λ o ho. nat_sum_le S _ _ (λ s hs. one_place K (next i o) (x i o s))) in omega arith) in
+    let each = nat_sum_le O (λ o. nat_sum S (λ s. nat_sum K (λ J. Y i o s J))) (λ o. nat_sum S (λ s. x i o s))
+    (λ o ho. nat_sum_le S _ _ (λ s hs. one_place K (next i o) (x i o s))) in omega arith) in
     omega arith
 
 -- the joint rows of the next stage weigh no more than all next weights
-pub next_rows_total : (A : Arithmetic) (m : Model) (p : SharedPolicy) (t : ℕ) → rows_total A m p (suc t) ≤ rows_update_size A m p t
+pub next_rows_total : (A : Arithmetic) (m : Model) (p : SharedPolicy) (t : ℕ)
+    → rows_total A m p (suc t) ≤ rows_update_size A m p t
 unfolding rows_update_size
 next_rows_total A m p t =
     let K = joint_row_count p (suc t) in
     let I = joint_row_count p t in
     let O = joint_observations m in
     let S = m.states in
-    let W = λ (i : ℕ) (o : ℕ) (s : ℕ). weights_after_in A m (row_weight_in A m p t i) (joint_row_action m p t i) o s in
-    let parts = nat_sum_le K (λ J. total_size m (row_weight_in A m p (suc t) J)) (λ J. nat_sum S (λ s. nat_sum I (λ i. nat_sum O (λ o. cond (eqb (next_joint_row m p t i o) J) (size (W i o s)) 0))))
+    let W = λ (i : ℕ) (o : ℕ) (s : ℕ). weights_after_in A m (row_weight_in A m p t i) (joint_row_action m p t i)
+    o s in
+    let parts = nat_sum_le K (λ J. total_size m (row_weight_in A m p (suc t) J))
+    (λ J. nat_sum S (λ s. nat_sum I (λ i. nat_sum O (λ o. cond (eqb (next_joint_row m p t i o) J)
+    (size (W i o s)) 0))))
     (λ J hJ. nat_sum_le S _ _ (λ s hs.
-    let outer = span_sum_size I (λ i. span_sum O (λ o. cond (eqb (next_joint_row m p t i o) J) (W i o s) (point (pos 0)))) in
-    let inner = nat_sum_le I (λ i. size (span_sum O (λ o. cond (eqb (next_joint_row m p t i o) J) (W i o s) (point (pos 0))))) (λ i. nat_sum O (λ o. cond (eqb (next_joint_row m p t i o) J) (size (W i o s)) 0))
+    let outer = span_sum_size I (λ i. span_sum O (λ o. cond (eqb (next_joint_row m p t i o) J) (W i o s)
+    (point (pos 0)))) in
+    let inner = nat_sum_le I (λ i. size (span_sum O (λ o. cond (eqb (next_joint_row m p t i o) J) (W i o s)
+    (point (pos 0))))) (λ i. nat_sum O (λ o. cond (eqb (next_joint_row m p t i o) J) (size (W i o s)) 0))
     (λ i hi.
     let sum = span_sum_size O (λ o. cond (eqb (next_joint_row m p t i o) J) (W i o s) (point (pos 0))) in
-    let same = nat_sum_ext O (λ o. size (cond (eqb (next_joint_row m p t i o) J) (W i o s) (point (pos 0)))) (λ o. cond (eqb (next_joint_row m p t i o) J) (size (W i o s)) 0) (λ o ho. where_size (eqb (next_joint_row m p t i o) J) (W i o s)) in omega arith) in
+    let same = nat_sum_ext O (λ o. size (cond (eqb (next_joint_row m p t i o) J) (W i o s) (point (pos 0))))
+    (λ o. cond (eqb (next_joint_row m p t i o) J) (size (W i o s)) 0)
+    (λ o ho. where_size (eqb (next_joint_row m p t i o) J) (W i o s)) in omega arith) in
     omega arith)) in
     let all = by_target K I O S (next_joint_row m p t) (λ i o s. size (W i o s)) in
     omega arith
 
 -- where weights can be updated, the weights of the joint rows of the next stage are weights within their limit
-pub next_rows_are_weights : (A : Arithmetic) (C : Calls) (m : Model) (h : ℕ) → CanUpdateWeights A C m h → (p : SharedPolicy)
+pub next_rows_are_weights : (A : Arithmetic) (C : Calls) (m : Model) (h : ℕ) → CanUpdateWeights A C m h
+    → (p : SharedPolicy)
     → AreRowsOfAgents h m.actions m.observations p → (t : ℕ) → t < h
     → ((j : ℕ) → j < joint_row_count p t → AreWeights A.is_exact m t (row_weight_in A m p t j))
     → rows_total A m p (suc t) ≤ weight_limit A.is_exact m (suc t)
@@ -87,16 +101,23 @@ next_rows_are_weights A C m h can p are t lt weights small J inside =
     let O = joint_observations m in
     let I = joint_row_count p t in
     let W = λ (i : ℕ) (o : ℕ). weights_after_in A m (row_weight_in A m p t i) (joint_row_action m p t i) o in
-    let each : (i o : ℕ) → i < I → o < O → AreWeights A.is_exact m (suc t) (W i o) = λ i o hi ho. can.updated t (row_weight_in A m p t i) (joint_row_action m p t i) o lt (weights i hi) (row_acts m h p are t i hi) ho in
+    let each : (i o : ℕ) → i < I → o < O → AreWeights A.is_exact m (suc t) (W i o) = λ i o hi ho. can.updated t
+    (row_weight_in A m p t i) (joint_row_action m p t i) o lt (weights i hi) (row_acts m h p are t i hi) ho in
     let ordered : (s : ℕ) → s < m.states → IsOrdered (row_weight_in A m p (suc t) J s) = λ s ps.
-    sum_ordered I (λ i. span_sum O (λ o. cond (eqb (next_joint_row m p t i o) J) (W i o s) (point (pos 0)))) (λ i hi.
-    sum_ordered O (λ o. cond (eqb (next_joint_row m p t i o) J) (W i o s) (point (pos 0))) (λ o ho. where_ordered (eqb (next_joint_row m p t i o) J) (W i o s) (weight_ordered (each i o hi ho) s ps))) in
-    let one = nat_sum_at (joint_row_count p (suc t)) (λ j. total_size m (row_weight_in A m p (suc t) j)) J inside in
+    sum_ordered I (λ i. span_sum O (λ o. cond (eqb (next_joint_row m p t i o) J) (W i o s) (point (pos 0))))
+    (λ i hi.
+    sum_ordered O (λ o. cond (eqb (next_joint_row m p t i o) J) (W i o s) (point (pos 0)))
+    (λ o ho. where_ordered (eqb (next_joint_row m p t i o) J) (W i o s)
+    (weight_ordered (each i o hi ho) s ps))) in
+    let one = nat_sum_at (joint_row_count p (suc t)) (λ j. total_size m (row_weight_in A m p (suc t) j))
+    J inside in
     record {
       from = λ s ps. (ordered s ps).from;
       order = λ s ps. (ordered s ps).order;
       points = λ e s ps.
-          sum_point I (λ i. span_sum O (λ o. cond (eqb (next_joint_row m p t i o) J) (W i o s) (point (pos 0)))) (λ i hi.
-          sum_point O (λ o. cond (eqb (next_joint_row m p t i o) J) (W i o s) (point (pos 0))) (λ o ho. where_point (eqb (next_joint_row m p t i o) J) (W i o s) ((each i o hi ho).points e s ps)));
+          sum_point I (λ i. span_sum O (λ o. cond (eqb (next_joint_row m p t i o) J) (W i o s) (point (pos 0))))
+          (λ i hi.
+          sum_point O (λ o. cond (eqb (next_joint_row m p t i o) J) (W i o s) (point (pos 0)))
+          (λ o ho. where_point (eqb (next_joint_row m p t i o) J) (W i o s) ((each i o hi ho).points e s ps)));
       limit = omega arith;
     }

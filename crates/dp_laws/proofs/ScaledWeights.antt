@@ -21,7 +21,8 @@ factor_out k w x = by_ring (nat (k * w) ⊗ v x) (nat k ⊗ (nat w ⊗ v x)) (om
 -- a sum of weights against numbers
 weighed : (n k : ℕ) (w : ℕ → ℕ) (f : ℕ → ℤ)
     → int_sum n (λ s. pos (k * w s) *ℤ f s) ≡ pos k *ℤ int_sum n (λ s. pos (w s) *ℤ f s)
-weighed n k w f = int_sum_ext n _ _ (λ s p. factor_out k (w s) (f s)) ∙ int_sum_mul (pos k) n (λ s. pos (w s) *ℤ f s)
+weighed n k w f = int_sum_ext n _ _ (λ s p. factor_out k (w s) (f s))
+    ∙ int_sum_mul (pos k) n (λ s. pos (w s) *ℤ f s)
 
 part_factor : (k w x : ℕ) → k * w * x ≡ w * x * k
 part_factor k w x = omega arith
@@ -40,31 +41,39 @@ module _ (m : Model) (k : ℕ) where
       ∙ factor_first (nat_sum m.states (λ s. w s * K s)) k
 
   -- the reward of a joint action
-  scaled_reward : (r : ℕ) (w : ℕ → ℕ) (a : ℕ) → weighted_reward m r (λ s. k * w s) a ≡ pos k *ℤ weighted_reward m r w a
+  scaled_reward : (r : ℕ) (w : ℕ → ℕ) (a : ℕ) → weighted_reward m r (λ s. k * w s) a
+      ≡ pos k *ℤ weighted_reward m r w a
   scaled_reward r w a =
-      reward_by_state m r (λ s. k * w s) a ∙ weighed m.states k w (λ s. state_reward m r a s) ∙ ap (λ (x : ℤ). pos k *ℤ x) (sym (reward_by_state m r w a))
+      reward_by_state m r (λ s. k * w s) a ∙ weighed m.states k w (λ s. state_reward m r a s)
+      ∙ ap (λ (x : ℤ). pos k *ℤ x) (sym (reward_by_state m r w a))
 
   -- a joint action's reward and the look-aheads after it, where these scale
   scaled_step : (r look : ℕ) (w : ℕ → ℕ) (a : ℕ)
       → ((u : ℕ → ℕ) → look_ahead m r (λ s. k * u s) look ≡ pos k *ℤ look_ahead m r u look) →
-      weighted_reward m r (λ s. k * w s) a +ℤ int_sum (joint_observations m) (λ o. look_ahead m r (weights_after m (λ s. k * w s) a o) look)
-      ≡ pos k *ℤ (weighted_reward m r w a +ℤ int_sum (joint_observations m) (λ o. look_ahead m r (weights_after m w a o) look))
+      weighted_reward m r (λ s. k * w s) a +ℤ int_sum (joint_observations m)
+      (λ o. look_ahead m r (weights_after m (λ s. k * w s) a o) look)
+      ≡ pos k *ℤ (weighted_reward m r w a +ℤ int_sum (joint_observations m)
+      (λ o. look_ahead m r (weights_after m w a o) look))
   scaled_step r look w a scales =
       let O = joint_observations m in
       let L = λ (o : ℕ). look_ahead m r (weights_after m w a o) look in
-      let later : int_sum O (λ o. look_ahead m r (weights_after m (λ s. k * w s) a o) look) ≡ pos k *ℤ int_sum O L =
+      let later : int_sum O (λ o. look_ahead m r (weights_after m (λ s. k * w s) a o) look)
+      ≡ pos k *ℤ int_sum O L =
       int_sum_ext O _ (λ o. pos k *ℤ L o) (λ o p.
       ap (λ (u : ℕ → ℕ). look_ahead m r u look) (λ j t. scaled_next w a o t j) ∙ scales (weights_after m w a o))
       ∙ int_sum_mul (pos k) O L in
       (λ j. scaled_reward r w a j +ℤ later j) ∙ sym (zmul_add (pos k) (weighted_reward m r w a) (int_sum O L))
 
   -- look-ahead
-  scaled_look_ahead : (r look : ℕ) (w : ℕ → ℕ) → look_ahead m r (λ s. k * w s) look ≡ pos k *ℤ look_ahead m r w look
+  scaled_look_ahead : (r look : ℕ) (w : ℕ → ℕ) → look_ahead m r (λ s. k * w s) look
+      ≡ pos k *ℤ look_ahead m r w look
   scaled_look_ahead zero look w = sym (*ℤ-zero (pos k))
   scaled_look_ahead (suc r) zero w = weighed m.states k w (mdp_table m (suc r))
   scaled_look_ahead (suc r) (suc look) w =
-      let whole = λ (a : ℕ). weighted_reward m r w a +ℤ int_sum (joint_observations m) (λ o. look_ahead m r (weights_after m w a o) look) in
-      greatest_ext _ (λ a. pos k *ℤ whole a) (numbers_below (joint_actions m)) (λ a i. scaled_step r look w a (scaled_look_ahead r look))
+      let whole = λ (a : ℕ). weighted_reward m r w a +ℤ int_sum (joint_observations m)
+      (λ o. look_ahead m r (weights_after m w a o) look) in
+      greatest_ext _ (λ a. pos k *ℤ whole a) (numbers_below (joint_actions m))
+      (λ a i. scaled_step r look w a (scaled_look_ahead r look))
       ∙ greatest_times k whole (numbers_below (joint_actions m))
 
   -- look-ahead of a joint action
@@ -75,7 +84,9 @@ module _ (m : Model) (k : ℕ) where
 
 -- ---- in the exact arithmetic
 
-module _ (m : Model) (is : IsModel m) (k : ℕ) (w : ℕ → ℕ) (ws vs : ℕ → Span) (here : (s : ℕ) → s < m.states → ws s ≡ point (pos (w s))) (scaled : (s : ℕ) → s < m.states → vs s ≡ point (pos (k * w s))) where
+module _ (m : Model) (is : IsModel m) (k : ℕ) (w : ℕ → ℕ) (ws vs : ℕ → Span)
+    (here : (s : ℕ) → s < m.states → ws s ≡ point (pos (w s)))
+    (scaled : (s : ℕ) → s < m.states → vs s ≡ point (pos (k * w s))) where
   scaled_look_ahead_in : (r look : ℕ)
       → look_ahead_in (exact m.scales) m r vs look ≡ pos k *ℤ look_ahead_in (exact m.scales) m r ws look
   scaled_look_ahead_in r look =
@@ -85,7 +96,8 @@ module _ (m : Model) (is : IsModel m) (k : ℕ) (w : ℕ → ℕ) (ws vs : ℕ �
       ∙ ap (λ (x : ℤ). pos k *ℤ x) (sym (quantities.look_aheads 1 r look w ws here))
 
   scaled_action_look_ahead_in : (r look a : ℕ)
-      → action_look_ahead_in (exact m.scales) m r vs a look ≡ pos k *ℤ action_look_ahead_in (exact m.scales) m r ws a look
+      → action_look_ahead_in (exact m.scales) m r vs a look ≡ pos k *ℤ action_look_ahead_in (exact m.scales)
+      m r ws a look
   scaled_action_look_ahead_in r look a =
       let quantities = exact_quantities m is in
       quantities.action_look_aheads 1 r look (λ s. k * w s) vs a scaled
@@ -94,17 +106,23 @@ module _ (m : Model) (is : IsModel m) (k : ℕ) (w : ℕ → ℕ) (ws vs : ℕ �
 
 -- with all premises in order
 pub scaled_spans_look_ahead : (m : Model) → IsModel m → (r look k : ℕ) (w : ℕ → ℕ) (ws vs : ℕ → Span)
-    → ((s : ℕ) → s < m.states → ws s ≡ point (pos (w s))) → ((s : ℕ) → s < m.states → vs s ≡ point (pos (k * w s)))
+    → ((s : ℕ) → s < m.states → ws s ≡ point (pos (w s))) → ((s : ℕ) → s < m.states
+    → vs s ≡ point (pos (k * w s)))
     → look_ahead_in (exact m.scales) m r vs look ≡ pos k *ℤ look_ahead_in (exact m.scales) m r ws look
-scaled_spans_look_ahead m is r look k w ws vs here scaled = scaled_look_ahead_in m is k w ws vs here scaled r look
+scaled_spans_look_ahead m is r look k w ws vs here scaled = scaled_look_ahead_in m is k w ws vs here scaled r
+    look
 
 pub scaled_spans_action_look_ahead : (m : Model) → IsModel m → (r look k a : ℕ) (w : ℕ → ℕ) (ws vs : ℕ → Span)
-    → ((s : ℕ) → s < m.states → ws s ≡ point (pos (w s))) → ((s : ℕ) → s < m.states → vs s ≡ point (pos (k * w s)))
-    → action_look_ahead_in (exact m.scales) m r vs a look ≡ pos k *ℤ action_look_ahead_in (exact m.scales) m r ws a look
-scaled_spans_action_look_ahead m is r look k a w ws vs here scaled = scaled_action_look_ahead_in m is k w ws vs here scaled r look a
+    → ((s : ℕ) → s < m.states → ws s ≡ point (pos (w s))) → ((s : ℕ) → s < m.states
+    → vs s ≡ point (pos (k * w s)))
+    → action_look_ahead_in (exact m.scales) m r vs a look ≡ pos k *ℤ action_look_ahead_in (exact m.scales)
+    m r ws a look
+scaled_spans_action_look_ahead m is r look k a w ws vs here scaled =
+    scaled_action_look_ahead_in m is k w ws vs here scaled r look a
 
 -- for any model and factor
-pub look_ahead_of_scaled : (m : Model) (r look k : ℕ) (w : ℕ → ℕ) → look_ahead m r (λ s. k * w s) look ≡ pos k *ℤ look_ahead m r w look
+pub look_ahead_of_scaled : (m : Model) (r look k : ℕ) (w : ℕ → ℕ)
+    → look_ahead m r (λ s. k * w s) look ≡ pos k *ℤ look_ahead m r w look
 look_ahead_of_scaled m r look k w = scaled_look_ahead m k r look w
 
 pub action_look_ahead_of_scaled : (m : Model) (r look k : ℕ) (w : ℕ → ℕ) (a : ℕ)

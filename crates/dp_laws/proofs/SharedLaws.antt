@@ -18,12 +18,15 @@ use Rattle.dp_spec.specs.Value.{policy_value}
 -- in the exact one
 pub exact_shared_worth : (m : Model) (h : ℕ) (p : SharedPolicy) → IsSharedOf m h p
     → shared_worth_in (exact m.scales) m h p ≡ point (policy_value m h (unfolded p))
-exact_shared_worth m h p shared = shared_worth_enclosed m (exact m.scales) equality (exact_sound m.scales) h p shared
+exact_shared_worth m h p shared = shared_worth_enclosed m (exact m.scales) equality (exact_sound m.scales)
+    h p shared
 
 -- in either
 pub shared_worth_in_mode : (m : Model) → IsModel m → (e : Bool) (h : ℕ) (p : SharedPolicy) → IsSharedOf m h p
-    → (enclosure e).Earns (value_scale m h) (policy_value m h (unfolded p)) (shared_worth_in (arithmetic e m.scales) m h p)
-shared_worth_in_mode m is e h p shared = shared_worth_enclosed m (arithmetic e m.scales) (enclosure e) (model_arithmetic_sound m is e) h p shared
+    → (enclosure e).Earns (value_scale m h) (policy_value m h (unfolded p))
+    (shared_worth_in (arithmetic e m.scales) m h p)
+shared_worth_in_mode m is e h p shared = shared_worth_enclosed m (arithmetic e m.scales) (enclosure e)
+    (model_arithmetic_sound m is e) h p shared
 
 -- of a plain form it is the forward worth
 pub plain_form_worth : (A : Arithmetic) (m : Model) (h : ℕ) (qs : List PolicyTree) → IsModel m → 0 < h

@@ -30,7 +30,8 @@ rows_tree_is (rows ∷ stages) zero r = refl
 rows_tree_is (rows ∷ stages) (suc t) r = rows_tree_is stages t r
 
 -- a tree of a list of trees
-nth_tree-trees_of : (g : ℕ → PolicyTree) (xs : List ℕ) (o : ℕ) → o < length xs → nth_tree (trees_of g xs) o ≡ g (get_or xs o 0)
+nth_tree-trees_of : (g : ℕ → PolicyTree) (xs : List ℕ) (o : ℕ) → o < length xs
+    → nth_tree (trees_of g xs) o ≡ g (get_or xs o 0)
 nth_tree-trees_of g [] o lt = absurd (omega arith)
 nth_tree-trees_of g (x ∷ xs) zero lt = refl
 nth_tree-trees_of g (x ∷ xs) (suc o) lt = nth_tree-trees_of g xs o (omega arith)
@@ -39,10 +40,12 @@ nth_tree-trees_of g (x ∷ xs) (suc o) lt = nth_tree-trees_of g xs o (omega arit
 pub subtree_of_row : (stages : AgentRows) (t r o : ℕ) → o < length (row_at stages t r).next
     → subtree (rows_tree stages t r) o ≡ rows_tree stages (suc t) (get_or (row_at stages t r).next o 0)
 subtree_of_row stages t r o lt =
-    ap (λ (q : PolicyTree). subtree q o) (rows_tree_is stages t r) ∙ nth_tree-trees_of (rows_tree stages (suc t)) (row_at stages t r).next o lt
+    ap (λ (q : PolicyTree). subtree q o) (rows_tree_is stages t r)
+    ∙ nth_tree-trees_of (rows_tree stages (suc t)) (row_at stages t r).next o lt
 
 -- rows do actions of their agent
-pub row_action_below : (b n : ℕ) (stages : AgentRows) → AreStages b n stages → (t r : ℕ) → r < row_count stages t
+pub row_action_below : (b n : ℕ) (stages : AgentRows) → AreStages b n stages → (t r : ℕ)
+    → r < row_count stages t
     → (row_at stages t r).action < b
 row_action_below b n [] are t r lt = absurd (omega arith)
 row_action_below b n (rows ∷ stages) are zero r lt = (are.1 r lt).action
@@ -54,7 +57,8 @@ pub row_nexts : (b n : ℕ) (stages : AgentRows) → AreStages b n stages → (t
 row_nexts b n [] are t r step lt = absurd (omega arith)
 row_nexts b n (rows ∷ []) are t r step lt = absurd (omega arith)
 row_nexts b n (rows ∷ (later ∷ stages)) are zero r step lt = (are.1 r lt).one_each
-row_nexts b n (rows ∷ (later ∷ stages)) are (suc t) r step lt = row_nexts b n (later ∷ stages) are.2 t r (omega arith) lt
+row_nexts b n (rows ∷ (later ∷ stages)) are (suc t) r step lt = row_nexts b n (later ∷ stages) are.2 t r
+    (omega arith) lt
 
 -- .. which is a row of the next stage ..
 pub next_row_below : (b n : ℕ) (stages : AgentRows) → AreStages b n stages → (t r o : ℕ) → suc t < length stages
@@ -62,7 +66,8 @@ pub next_row_below : (b n : ℕ) (stages : AgentRows) → AreStages b n stages �
 next_row_below b n [] are t r o step lt seen = absurd (omega arith)
 next_row_below b n (rows ∷ []) are t r o step lt seen = absurd (omega arith)
 next_row_below b n (rows ∷ (later ∷ stages)) are zero r o step lt seen = (are.1 r lt).below o seen
-next_row_below b n (rows ∷ (later ∷ stages)) are (suc t) r o step lt seen = next_row_below b n (later ∷ stages) are.2 t r o (omega arith) lt seen
+next_row_below b n (rows ∷ (later ∷ stages)) are (suc t) r o step lt seen = next_row_below b n (later ∷ stages)
+    are.2 t r o (omega arith) lt seen
 
 -- .. and none at the last one
 pub last_row_nexts : (b n : ℕ) (stages : AgentRows) → AreStages b n stages → (t r : ℕ) → suc t ≡ length stages
@@ -75,7 +80,9 @@ last_row_nexts b n (rows ∷ []) are zero r last lt = empty _ (are.1 r lt).one_e
     empty (x ∷ xs) e = absurd (omega arith)
 last_row_nexts b n (rows ∷ []) are (suc t) r last lt = absurd (omega arith)
 last_row_nexts b n (rows ∷ (later ∷ stages)) are zero r last lt = absurd (omega arith)
-last_row_nexts b n (rows ∷ (later ∷ stages)) are (suc t) r last lt = last_row_nexts b n (later ∷ stages) are.2 t r (omega arith) lt
+last_row_nexts b n (rows ∷ (later ∷ stages)) are (suc t) r last lt = last_row_nexts b n (later ∷ stages)
+    are.2 t r
+    (omega arith) lt
 
 -- so many trees of a list of trees
 are_trees_of : (b n r c : ℕ) (g : ℕ → PolicyTree) (xs : List ℕ) → length xs ≡ c
@@ -83,20 +90,28 @@ are_trees_of : (b n r c : ℕ) (g : ℕ → PolicyTree) (xs : List ℕ) → leng
 are_trees_of b n r zero g [] e each = tt
 are_trees_of b n r zero g (x ∷ xs) e each = absurd (omega arith)
 are_trees_of b n r (suc c) g [] e each = absurd (omega arith)
-are_trees_of b n r (suc c) g (x ∷ xs) e each = (each 0 (omega arith), are_trees_of b n r c g xs (omega arith) (λ o lt. each (suc o) (omega arith)))
+are_trees_of b n r (suc c) g (x ∷ xs) e each = (
+  each 0 (omega arith),
+  are_trees_of b n r c g xs (omega arith) (λ o lt. each (suc o) (omega arith)),
+)
 
 -- the tree of a row has the steps that are left
 pub row_tree_fits : (b n : ℕ) (stages : AgentRows) → AreStages b n stages → (r t x : ℕ) → t + r ≡ length stages
     → x < row_count stages t → IsPolicyTree b n r (rows_tree stages t x)
 row_tree_fits b n stages are zero t x e lt = tt
 row_tree_fits b n stages are (suc zero) t x e lt =
-    subst (IsPolicyTree b n 1) (sym (rows_tree_is stages t x))
-    (row_action_below b n stages are t x lt, ap (trees_of (rows_tree stages (suc t))) (last_row_nexts b n stages are t x (omega arith) lt))
+    subst (IsPolicyTree b n 1) (sym (rows_tree_is stages t x)) (
+      row_action_below b n stages are t x lt,
+      ap (trees_of (rows_tree stages (suc t)))
+          (last_row_nexts b n stages are t x (omega arith) lt),
+    )
 row_tree_fits b n stages are (suc (suc r)) t x e lt =
     subst (IsPolicyTree b n (suc (suc r))) (sym (rows_tree_is stages t x)) (
       row_action_below b n stages are t x lt,
-      are_trees_of b n (suc r) n (rows_tree stages (suc t)) (row_at stages t x).next (row_nexts b n stages are t x (omega arith) lt)
-          (λ o seen. row_tree_fits b n stages are (suc r) (suc t) (get_or (row_at stages t x).next o 0) (omega arith) (next_row_below b n stages are t x o (omega arith) lt seen)),
+      are_trees_of b n (suc r) n (rows_tree stages (suc t)) (row_at stages t x).next
+          (row_nexts b n stages are t x (omega arith) lt)
+          (λ o seen. row_tree_fits b n stages are (suc r) (suc t) (get_or (row_at stages t x).next o 0)
+          (omega arith) (next_row_below b n stages are t x o (omega arith) lt seen)),
     )
 
 -- ---- all agents
@@ -108,7 +123,8 @@ row_trees (stages ∷ p) t [] = []
 row_trees (stages ∷ p) t (r ∷ rs) = rows_tree stages t r ∷ row_trees p t rs
 
 -- their roots do the actions of the rows
-pub row_trees_act : (p : SharedPolicy) (t : ℕ) (rs : List ℕ) → map root_action (row_trees p t rs) ≡ actions_of_rows p t rs
+pub row_trees_act : (p : SharedPolicy) (t : ℕ) (rs : List ℕ)
+    → map root_action (row_trees p t rs) ≡ actions_of_rows p t rs
 row_trees_act [] t rs = refl
 row_trees_act (stages ∷ p) t [] = refl
 row_trees_act (stages ∷ p) t (r ∷ rs) = rw (ap root_action (rows_tree_is stages t r), row_trees_act p t rs)
@@ -133,17 +149,21 @@ rows_after_below no_agents t rs os step hr ho = tt
 rows_after_below (and_agent are ares) t [] os step hr ho = absurd hr
 rows_after_below (and_agent are ares) t (r ∷ rs) [] step hr ho = absurd ho
 rows_after_below (and_agent {b = b} {n = n} {stages = stages} are ares) t (r ∷ rs) (o ∷ os) step hr ho =
-    let inside = are.of_horizon in
-    (next_row_below b n stages are.rows t r o (omega arith) hr.0 ho.0, rows_after_below ares t rs os step hr.1 ho.1)
+    let inside = are.of_horizon in (
+      next_row_below b n stages are.rows t r o (omega arith) hr.0 ho.0,
+      rows_after_below ares t rs os step hr.1 ho.1,
+    )
 
 -- the trees of rows of stage t are a joint policy of the steps that are left
-pub row_trees_fit : {h : ℕ} {bs ns : List ℕ} {p : SharedPolicy} → AreRowsOfAgents h bs ns p → (r t : ℕ) (rs : List ℕ)
+pub row_trees_fit : {h : ℕ} {bs ns : List ℕ} {p : SharedPolicy} → AreRowsOfAgents h bs ns p
+    → (r t : ℕ) (rs : List ℕ)
     → t + r ≡ h → AreBelow (row_counts p t) rs → IsJointPolicy r bs ns (row_trees p t rs)
 row_trees_fit no_agents r t rs e below = no_policies
 row_trees_fit (and_agent are ares) r t [] e below = absurd below
 row_trees_fit (and_agent {b = b} {n = n} {stages = stages} are ares) r t (x ∷ rs) e below =
     let inside = are.of_horizon in
-    and_policy (row_tree_fits b n stages are.rows r t x (omega arith) below.0) (row_trees_fit ares r t rs e below.1)
+    and_policy (row_tree_fits b n stages are.rows r t x (omega arith) below.0)
+    (row_trees_fit ares r t rs e below.1)
 
 -- ---- the first stage
 
@@ -153,10 +173,12 @@ first_count_is [] = refl
 first_count_is (rows ∷ stages) = refl
 
 -- it has one joint row ..
-pub one_joint_row : {h : ℕ} {bs ns : List ℕ} {p : SharedPolicy} → AreRowsOfAgents h bs ns p → product (row_counts p 0) ≡ 1
+pub one_joint_row : {h : ℕ} {bs ns : List ℕ} {p : SharedPolicy} → AreRowsOfAgents h bs ns p
+    → product (row_counts p 0) ≡ 1
 one_joint_row no_agents = refl
 one_joint_row (and_agent {stages = stages} are ares) =
-    let one : row_count stages 0 ≡ 1 = sym (first_count_is stages) ∙ are.one_first in rw (one, one_joint_row ares) refl
+    let one : row_count stages 0 ≡ 1 = sym (first_count_is stages) ∙ are.one_first in
+    rw (one, one_joint_row ares) refl
 
 -- .. of which the trees are those of the policy
 pub row_trees-start : {h : ℕ} {bs ns : List ℕ} {p : SharedPolicy} → AreRowsOfAgents h bs ns p
@@ -174,20 +196,28 @@ start_below no_agents = tt
 start_below (and_agent {stages = stages} {p = p} are ares) =
     let one : row_count stages 0 ≡ 1 = sym (first_count_is stages) ∙ are.one_first in
     let place : 0 / product (row_counts p 0) ≡ 0 = rw (one_joint_row ares) (omega arith) in
-    let rest : 0 % product (row_counts p 0) ≡ 0 = rw (one_joint_row ares) (omega arith) in
-    (omega (arith, one, place), subst (λ (x : ℕ). AreBelow (row_counts p 0) (parts_of (row_counts p 0) x)) (sym rest) (start_below ares))
+    let rest : 0 % product (row_counts p 0) ≡ 0 = rw (one_joint_row ares) (omega arith) in (
+      omega (arith, one, place),
+      subst (λ (x : ℕ). AreBelow (row_counts p 0) (parts_of (row_counts p 0) x))
+          (sym rest) (start_below ares),
+    )
 
 -- the rows of a shared policy mean a joint policy
 pub unfolded_is_policy : (m : Model) (h : ℕ) (p : SharedPolicy) → IsSharedOf m h p → IsPolicyOf m h (unfolded p)
 unfolded_is_policy m h p shared =
-    subst (IsPolicyOf m h) (row_trees-start shared.agents) (row_trees_fit shared.agents h 0 _ (omega arith) (start_below shared.agents))
+    subst (IsPolicyOf m h) (row_trees-start shared.agents) (row_trees_fit shared.agents h 0 _ (omega arith)
+    (start_below shared.agents))
 
 -- ---- own histories
 
 -- the row that an own history reaches is one of the stage, and its tree is what remains
-pub row_of_history_is : (b n h : ℕ) (stages : AgentRows) → AreAgentRows b n h stages → (t x : ℕ) → t < h → x < n ^ t →
-    (row_of_history n stages t x < row_count stages t) × (tree_at n (unfolded_tree stages 0) t x ≡ rows_tree stages t (row_of_history n stages t x))
-row_of_history_is b n h stages are zero x lt below = let one = are.one_first in let same = first_count_is stages in (omega arith, refl)
+pub row_of_history_is : (b n h : ℕ) (stages : AgentRows) → AreAgentRows b n h stages → (t x : ℕ) → t < h
+    → x < n ^ t →
+    (row_of_history n stages t x < row_count stages t) × (tree_at n (unfolded_tree stages 0) t x
+    ≡ rows_tree stages t (row_of_history n stages t x))
+row_of_history_is b n h stages are zero x lt below = let one = are.one_first in
+    let same = first_count_is stages in
+    (omega arith, refl)
 row_of_history_is b n h stages are (suc t) x lt below =
     let inside = are.of_horizon in
     let below' : x < n ^ t * n = rw pow-suc at below in
@@ -200,13 +230,21 @@ row_of_history_is b n h stages are (suc t) x lt below =
     )
 
 -- so the action after an own history is that of the row
-pub action_of_history : (b n h : ℕ) (stages : AgentRows) → AreAgentRows b n h stages → (t x : ℕ) → t < h → x < n ^ t
-    → root_action (tree_at n (unfolded_tree stages 0) t x) ≡ (row_at stages t (row_of_history n stages t x)).action
+pub action_of_history : (b n h : ℕ) (stages : AgentRows) → AreAgentRows b n h stages → (t x : ℕ) → t < h
+    → x < n ^ t
+    → root_action (tree_at n (unfolded_tree stages 0) t x) ≡ (row_at stages t
+    (row_of_history n stages t x)).action
 action_of_history b n h stages are t x lt below =
-    ap root_action (row_of_history_is b n h stages are t x lt below).1 ∙ ap root_action (rows_tree_is stages t (row_of_history n stages t x))
+    ap root_action (row_of_history_is b n h stages are t x lt below).1
+    ∙ ap root_action (rows_tree_is stages t (row_of_history n stages t x))
 
 -- both together
-pub history_reaches : (b n h : ℕ) (stages : AgentRows) → AreAgentRows b n h stages → (t x : ℕ) → t < h → x < n ^ t →
+pub history_reaches : (b n h : ℕ) (stages : AgentRows) → AreAgentRows b n h stages → (t x : ℕ) → t < h
+    → x < n ^ t →
     (row_of_history n stages t x < row_count stages t)
-    × (root_action (tree_at n (unfolded_tree stages 0) t x) ≡ (row_at stages t (row_of_history n stages t x)).action)
-history_reaches b n h stages are t x lt below = ((row_of_history_is b n h stages are t x lt below).0, action_of_history b n h stages are t x lt below)
+    × (root_action (tree_at n (unfolded_tree stages 0) t x) ≡ (row_at stages t
+    (row_of_history n stages t x)).action)
+history_reaches b n h stages are t x lt below = (
+  (row_of_history_is b n h stages are t x lt below).0,
+  action_of_history b n h stages are t x lt below,
+)

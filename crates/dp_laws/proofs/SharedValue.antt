@@ -27,34 +27,44 @@ abbrev pub row_weight : Model → SharedPolicy → ℕ → ℕ → ℕ → ℕ
 row_weight m p zero j s = start_at m s
 row_weight m p (suc t) j s =
     nat_sum (joint_row_count p t) (λ i. nat_sum (joint_observations m) (λ o.
-    cond (eqb (next_joint_row m p t i o) j) (weights_after m (row_weight m p t i) (joint_row_action m p t i) o s) 0))
+    cond (eqb (next_joint_row m p t i o) j) (weights_after m (row_weight m p t i) (joint_row_action m p t i)
+    o s) 0))
 
 -- what the joint rows of the stages before f earn
 abbrev pub rows_earn : Model → SharedPolicy → ℕ → ℕ → ℤ
 rows_earn m p h zero = pos 0
 rows_earn m p h (suc f) =
-    rows_earn m p h f +ℤ int_sum (joint_row_count p f) (λ j. weighted_reward m (h - suc f) (row_weight m p f j) (joint_row_action m p f j))
+    rows_earn m p h f +ℤ int_sum (joint_row_count p f) (λ j. weighted_reward m (h - suc f) (row_weight m p f j)
+    (joint_row_action m p f j))
 
 -- ---- what an arithmetic computes encloses them
 
 -- the weights of joint rows
-row_weight_enclosed : (m : Model) (A : Arithmetic) (R : Enclosure) → IsSound m.scales A R → (p : SharedPolicy) (t j s : ℕ)
+row_weight_enclosed : (m : Model) (A : Arithmetic) (R : Enclosure) → IsSound m.scales A R
+    → (p : SharedPolicy) (t j s : ℕ)
     → R.Weighs (m.scales.start * step_scale m ^ t) (row_weight m p t j s) (row_weight_in A m p t j s)
-row_weight_enclosed m A R ok p zero j s = weighs_same m A R ok _ _ _ _ _ (scale_of_first m) refl (ok.start (start_at m s))
+row_weight_enclosed m A R ok p zero j s = weighs_same m A R ok _ _ _ _ _ (scale_of_first m) refl
+    (ok.start (start_at m s))
 row_weight_enclosed m A R ok p (suc t) j s =
-    weighs_sum m A R ok _ (joint_row_count p t) _ _ (λ i hi. weighs_sum m A R ok _ (joint_observations m) _ _ (λ o ho.
+    weighs_sum m A R ok _ (joint_row_count p t) _ _ (λ i hi. weighs_sum m A R ok _ (joint_observations m) _ _
+    (λ o ho.
     weighs_where m A R ok _ _ _ (eqb (next_joint_row m p t i o) j)
-    (weighs_same m A R ok _ _ _ _ _ (scale_of_next m t) refl (weights_after_enclosed m A R ok _ _ _ (joint_row_action m p t i) o s (λ u hu. row_weight_enclosed m A R ok p t i u)))))
+    (weighs_same m A R ok _ _ _ _ _ (scale_of_next m t) refl
+    (weights_after_enclosed m A R ok _ _ _ (joint_row_action m p t i) o s
+    (λ u hu. row_weight_enclosed m A R ok p t i u)))))
 
 -- what they earn
-rows_earn_enclosed : (m : Model) (A : Arithmetic) (R : Enclosure) → IsSound m.scales A R → (p : SharedPolicy) (h f : ℕ) → f ≤ h
+rows_earn_enclosed : (m : Model) (A : Arithmetic) (R : Enclosure) → IsSound m.scales A R
+    → (p : SharedPolicy) (h f : ℕ) → f ≤ h
     → R.Earns (value_scale m h) (rows_earn m p h f) (rows_earn_in A m p h f)
 rows_earn_enclosed m A R ok p h zero le = ok.no_gain _
 rows_earn_enclosed m A R ok p h (suc f) le =
     ok.more_gain _ _ _ _ _ (rows_earn_enclosed m A R ok p h f (omega arith))
     (earns_sum m A R ok _ (joint_row_count p f) _ _ (λ j hj.
-    earns_same m A R ok _ _ _ _ (scale_at_stage m f (suc (h - suc f)) ∙ ap (λ (n : ℕ). value_scale m n) (omega arith))
-    (weighted_reward_enclosed m A R ok _ (h - suc f) _ _ (joint_row_action m p f j) (λ s hs. row_weight_enclosed m A R ok p f j s))))
+    earns_same m A R ok _ _ _ _ (scale_at_stage m f (suc (h - suc f))
+    ∙ ap (λ (n : ℕ). value_scale m n) (omega arith))
+    (weighted_reward_enclosed m A R ok _ (h - suc f) _ _ (joint_row_action m p f j)
+    (λ s hs. row_weight_enclosed m A R ok p f j s))))
 
 -- ---- sums by what a pair leads to
 
@@ -71,11 +81,12 @@ at_place k i f =
       | inr ne ↦ rw (ite_other k i (f i) (pos 0) ne, ite_other k i (f k) (pos 0) ne)
     ]
 
--- the weights of all pairs that lead to J, against a function of J, are the weights of all pairs against that function
--- of where they lead
+-- the weights of all pairs that lead to J, against a function of J, are the weights of all pairs against that
+-- function of where they lead
 sum_by_target : (K I O S : ℕ) (next : ℕ → ℕ → ℕ) (w : ℕ → ℕ → ℕ → ℕ) (B : ℕ → ℕ → ℤ)
     → ((i o : ℕ) → i < I → o < O → next i o < K) →
-    int_sum K (λ J. int_sum S (λ s. pos (nat_sum I (λ i. nat_sum O (λ o. cond (eqb (next i o) J) (w i o s) 0))) *ℤ B J s))
+    int_sum K (λ J. int_sum S (λ s. pos (nat_sum I (λ i. nat_sum O (λ o. cond (eqb (next i o) J) (w i o s) 0)))
+    *ℤ B J s))
     ≡ int_sum I (λ i. int_sum O (λ o. int_sum S (λ s. pos (w i o s) *ℤ B (next i o) s)))
 sum_by_target K I O S next w B below =
     let X = λ (i : ℕ) (o : ℕ) (s : ℕ). pos (w i o s) *ℤ B (next i o) s in
@@ -84,7 +95,8 @@ sum_by_target K I O S next w B below =
     (λ J s hJ hs.
     sym (int_sum_weigh I (λ i. nat_sum O (λ o. cond (eqb (next i o) J) (w i o s) 0)) (B J s))
     ∙ int_sum_ext I _ _ (λ i hi. sym (int_sum_weigh O (λ o. cond (eqb (next i o) J) (w i o s) 0) (B J s))
-    ∙ int_sum_ext O _ _ (λ o ho. cond_times (eqb (next i o) J) (w i o s) (B J s) ∙ at_place (next i o) J (λ k. pos (w i o s) *ℤ B k s))))
+    ∙ int_sum_ext O _ _ (λ o ho. cond_times (eqb (next i o) J) (w i o s) (B J s)
+    ∙ at_place (next i o) J (λ k. pos (w i o s) *ℤ B k s))))
     ∙ int_sum_ext K _ _ (λ J hJ. int_sum_swap S I (λ s i. int_sum O (λ o. Y i o s J)))
     ∙ int_sum_swap K I (λ J i. int_sum S (λ s. int_sum O (λ o. Y i o s J)))
     ∙ int_sum_ext I _ _ (λ i hi.
@@ -107,7 +119,8 @@ module _ (m : Model) (h : ℕ) (p : SharedPolicy) (are : AreRowsOfAgents h m.act
   pub next_below : (t j o : ℕ) → suc t < h → j < joint_row_count p t → o < joint_observations m
       → next_joint_row m p t j o < joint_row_count p (suc t)
   unfolding next_joint_row joint_observations
-  next_below t j o step hj ho = joint_number_below _ _ (rows_after_below are t _ _ step (parts_below _ j hj) (parts_below _ o ho))
+  next_below t j o step hj ho = joint_number_below _ _ (rows_after_below are t _ _ step (parts_below _ j hj)
+      (parts_below _ o ho))
 
   -- what remains of the trees of a joint row are those of the joint row after it
   pub trees_after_row : (t j o : ℕ) → suc t < h → j < joint_row_count p t → o < joint_observations m
@@ -117,15 +130,18 @@ module _ (m : Model) (h : ℕ) (p : SharedPolicy) (are : AreRowsOfAgents h m.act
       let rows = parts_below (row_counts p t) j hj in
       let seen = parts_below m.observations o ho in
       row_trees_go_on are t _ _ step rows seen
-      ∙ ap (row_trees p (suc t)) (sym (parts_of-joint_number (row_counts p (suc t)) _ (rows_after_below are t _ _ step rows seen)))
+      ∙ ap (row_trees p (suc t)) (sym (parts_of-joint_number (row_counts p (suc t)) _
+      (rows_after_below are t _ _ step rows seen)))
 
   -- the weights of joint rows of stage f against the values of their trees over r steps
   abbrev rows_left : ℕ → ℕ → ℤ
-  rows_left f r = int_sum (joint_row_count p f) (λ j. int_sum m.states (λ s. pos (row_weight m p f j s) *ℤ backward_value m r s (trees_at_row f j)))
+  rows_left f r = int_sum (joint_row_count p f) (λ j. int_sum m.states
+      (λ s. pos (row_weight m p f j s) *ℤ backward_value m r s (trees_at_row f j)))
 
   -- the rewards of the joint rows of stage f
   abbrev rows_reward : ℕ → ℕ → ℤ
-  rows_reward f r = int_sum (joint_row_count p f) (λ j. weighted_reward m r (row_weight m p f j) (joint_row_action m p f j))
+  rows_reward f r = int_sum (joint_row_count p f) (λ j. weighted_reward m r (row_weight m p f j)
+      (joint_row_action m p f j))
 
   -- the weights one step on
   abbrev row_update : ℕ → ℕ → ℕ → ℕ → ℕ
@@ -133,11 +149,15 @@ module _ (m : Model) (h : ℕ) (p : SharedPolicy) (are : AreRowsOfAgents h m.act
 
   -- one step from the joint rows of a stage
   rows_step : (f r : ℕ) → rows_left f (suc r)
-      ≡ rows_reward f r +ℤ int_sum (joint_row_count p f) (λ j. int_sum (joint_observations m) (λ o. int_sum m.states (λ s. pos (row_update f j o s) *ℤ backward_value m r s (trees_after m (trees_at_row f j) o))))
+      ≡ rows_reward f r +ℤ int_sum (joint_row_count p f) (λ j. int_sum (joint_observations m)
+      (λ o. int_sum m.states (λ s. pos (row_update f j o s) *ℤ backward_value m r s
+      (trees_after m (trees_at_row f j) o))))
   rows_step f r =
       int_sum_ext (joint_row_count p f) _ _ (λ j hj.
       one_step m r (row_weight m p f j) (trees_at_row f j)
-      ∙ ap (λ (a : ℕ). weighted_reward m r (row_weight m p f j) a +ℤ int_sum (joint_observations m) (λ o. int_sum m.states (λ s. pos (weights_after m (row_weight m p f j) a o s) *ℤ backward_value m r s (trees_after m (trees_at_row f j) o)))) (row_trees_do f j))
+      ∙ ap (λ (a : ℕ). weighted_reward m r (row_weight m p f j) a +ℤ int_sum (joint_observations m)
+      (λ o. int_sum m.states (λ s. pos (weights_after m (row_weight m p f j) a o s) *ℤ backward_value m r s
+      (trees_after m (trees_at_row f j) o)))) (row_trees_do f j))
       ∙ int_sum_add (joint_row_count p f) _ _
 
   -- it leads to the joint rows of the next stage
@@ -146,28 +166,37 @@ module _ (m : Model) (h : ℕ) (p : SharedPolicy) (are : AreRowsOfAgents h m.act
       rows_step f r
       ∙ ap (λ x. rows_reward f r +ℤ x)
       (int_sum_ext (joint_row_count p f) _ _ (λ j hj. int_sum_ext (joint_observations m) _ _ (λ o ho.
-      ap (λ (qs : List PolicyTree). int_sum m.states (λ s. pos (row_update f j o s) *ℤ backward_value m r s qs)) (trees_after_row f j o step hj ho)))
-      ∙ sym (sum_by_target (joint_row_count p (suc f)) (joint_row_count p f) (joint_observations m) m.states (next_joint_row m p f) (row_update f) (λ J s. backward_value m r s (trees_at_row (suc f) J)) (λ i o hi ho. next_below f i o step hi ho)))
+      ap (λ (qs : List PolicyTree). int_sum m.states (λ s. pos (row_update f j o s) *ℤ backward_value m r s qs))
+      (trees_after_row f j o step hj ho)))
+      ∙ sym (sum_by_target (joint_row_count p (suc f)) (joint_row_count p f) (joint_observations m) m.states
+      (next_joint_row m p f) (row_update f) (λ J s. backward_value m r s (trees_at_row (suc f) J))
+      (λ i o hi ho. next_below f i o step hi ho)))
 
   -- at the last stage nothing is left after it
   rows_end : (f : ℕ) → rows_left f 1 ≡ rows_reward f 0
   rows_end f =
       rows_step f 0
       ∙ ap (λ x. rows_reward f 0 +ℤ x)
-      (ext_two (joint_row_count p f) (joint_observations m) _ (λ j o. pos 0) (λ j o hj ho. weighted_zeros m.states (row_update f j o))
-      ∙ int_sum_ext (joint_row_count p f) _ (λ j. pos 0) (λ j hj. int_sum_zero (joint_observations m)) ∙ int_sum_zero (joint_row_count p f))
+      (ext_two (joint_row_count p f) (joint_observations m) _ (λ j o. pos 0)
+      (λ j o hj ho. weighted_zeros m.states (row_update f j o))
+      ∙ int_sum_ext (joint_row_count p f) _ (λ j. pos 0) (λ j hj. int_sum_zero (joint_observations m))
+      ∙ int_sum_zero (joint_row_count p f))
       ∙ omega (arith, ints)
 
   -- the value is what the joint rows before stage f earn, and the values of the trees of its joint rows
-  value_at_stage : (f r : ℕ) → f + suc r ≡ h → policy_value m h (unfolded p) ≡ rows_earn m p h f +ℤ rows_left f (suc r)
+  value_at_stage : (f r : ℕ) → f + suc r ≡ h → policy_value m h (unfolded p)
+      ≡ rows_earn m p h f +ℤ rows_left f (suc r)
   unfolding policy_value
   value_at_stage zero r e =
       let e' : suc r ≡ h = omega arith in
       sym
       (+ℤ_idl _
-      ∙ ap (λ (n : ℕ). int_sum n (λ j. int_sum m.states (λ s. pos (start_at m s) *ℤ backward_value m (suc r) s (trees_at_row 0 j)))) (one_joint_row are)
+      ∙ ap (λ (n : ℕ). int_sum n (λ j. int_sum m.states (λ s. pos (start_at m s) *ℤ backward_value m (suc r) s
+      (trees_at_row 0 j)))) (one_joint_row are)
       ∙ +ℤ_idl _
-      ∙ ap (λ (qs : List PolicyTree). int_sum m.states (λ s. pos (start_at m s) *ℤ backward_value m (suc r) s qs)) (row_trees-start are)
+      ∙ ap (λ (qs : List PolicyTree). int_sum m.states (λ s. pos (start_at m s) *ℤ backward_value m (suc r)
+      s qs))
+      (row_trees-start are)
       ∙ ap (λ (n : ℕ). int_sum m.states (λ s. pos (start_at m s) *ℤ backward_value m n s (unfolded p))) e')
   value_at_stage (suc f) r e =
       value_at_stage f (suc r) (omega arith)
@@ -191,9 +220,11 @@ value_of_unfolded m zero p shared = weighted_zeros m.states (start_at m)
 value_of_unfolded m (suc f) p shared = value_is_rows_earn m (suc f) p shared.agents f refl
 
 -- the worth of a shared policy encloses the value of the joint policy that its rows mean
-pub shared_worth_enclosed : (m : Model) (A : Arithmetic) (R : Enclosure) → IsSound m.scales A R → (h : ℕ) (p : SharedPolicy)
+pub shared_worth_enclosed : (m : Model) (A : Arithmetic) (R : Enclosure) → IsSound m.scales A R
+    → (h : ℕ) (p : SharedPolicy)
     → IsSharedOf m h p → R.Earns (value_scale m h) (policy_value m h (unfolded p)) (shared_worth_in A m h p)
 unfolding shared_worth_in
 shared_worth_enclosed m A R ok h p shared =
-    subst (λ (x : ℤ). R.Earns (value_scale m h) x (rows_earn_in A m p h h)) (sym (value_of_unfolded m h p shared))
+    subst (λ (x : ℤ). R.Earns (value_scale m h) x (rows_earn_in A m p h h))
+    (sym (value_of_unfolded m h p shared))
     (rows_earn_enclosed m A R ok p h h (omega arith))

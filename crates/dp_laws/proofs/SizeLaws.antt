@@ -23,7 +23,8 @@ use Rattle.dp_spec.specs.SizesOfTable.{CanTabulate}
 
 -- ---- up to a horizon of 24
 -- weights can be updated
-pub mode_can_update_weights : (m : Model) → IsModel m → (h : ℕ) → 0 < h → h ≤ 24 → (e : Bool) → e ≡ is_exact_mode m h
+pub mode_can_update_weights : (m : Model) → IsModel m → (h : ℕ) → 0 < h → h ≤ 24 → (e : Bool)
+    → e ≡ is_exact_mode m h
     → CanUpdateWeights (arithmetic e m.scales) (calls_in e m.scales) m h
 mode_can_update_weights m is h some le true mode = exact_can_update_weights m is h some mode
 mode_can_update_weights m is h some le false mode = outward_can_update_weights m is h le
@@ -41,28 +42,34 @@ mode_can_tabulate m is h some le true mode = exact_can_tabulate m is h some mode
 mode_can_tabulate m is h some le false mode = outward_can_tabulate m is h le
 
 -- look-ahead can be computed
-pub mode_can_look_ahead : (m : Model) → IsModel m → (h : ℕ) → 0 < h → h ≤ 24 → (e : Bool) → e ≡ is_exact_mode m h
+pub mode_can_look_ahead : (m : Model) → IsModel m → (h : ℕ) → 0 < h → h ≤ 24 → (e : Bool)
+    → e ≡ is_exact_mode m h
     → CanLookAhead (arithmetic e m.scales) (calls_in e m.scales) m h
 mode_can_look_ahead m is h some le true mode = exact_can_look_ahead m is h some mode
 mode_can_look_ahead m is h some le false mode = outward_can_look_ahead m is h le
 
 -- weights of joint histories in exact mode
 exact_weights : (m : Model) → IsModel m → (h : ℕ) → 0 < h → true ≡ is_exact_mode m h
-    → (act : List ℕ → ℕ) (t : ℕ) (H : List ℕ) → t ≤ h → IsActing m t act → IsJointHistory (joint_observations m) t H
+    → (act : List ℕ → ℕ) (t : ℕ) (H : List ℕ) → t ≤ h → IsActing m t act
+    → IsJointHistory (joint_observations m) t H
     → AreWeights true m t (history_weight_in (exact m.scales) m act H)
 unfolding exact
-exact_weights m is h some mode = history_weights (exact m.scales) (exact_calls m.scales) m h (exact_can_update_weights m is h some mode)
+exact_weights m is h some mode = history_weights (exact m.scales) (exact_calls m.scales) m h
+    (exact_can_update_weights m is h some mode)
 
 -- and in outward mode
 outward_weights : (m : Model) → IsModel m → (h : ℕ) → h ≤ 24 → (act : List ℕ → ℕ) (t : ℕ) (H : List ℕ) → t ≤ h
     → IsActing m t act → IsJointHistory (joint_observations m) t H
     → AreWeights false m t (history_weight_in (outward m.scales) m act H)
 unfolding outward
-outward_weights m is h le = history_weights (outward m.scales) (outward_calls m.scales) m h (outward_can_update_weights m is h le)
+outward_weights m is h le = history_weights (outward m.scales) (outward_calls m.scales) m h
+    (outward_can_update_weights m is h le)
 
 -- the weights of a joint history are within the sum bound
-pub mode_history_weights : (m : Model) → IsModel m → (h : ℕ) → 0 < h → h ≤ 24 → (e : Bool) → e ≡ is_exact_mode m h
-    → (act : List ℕ → ℕ) (t : ℕ) (H : List ℕ) → t ≤ h → IsActing m t act → IsJointHistory (joint_observations m) t H
+pub mode_history_weights : (m : Model) → IsModel m → (h : ℕ) → 0 < h → h ≤ 24 → (e : Bool)
+    → e ≡ is_exact_mode m h
+    → (act : List ℕ → ℕ) (t : ℕ) (H : List ℕ) → t ≤ h → IsActing m t act
+    → IsJointHistory (joint_observations m) t H
     → AreWeights e m t (history_weight_in (arithmetic e m.scales) m act H)
 mode_history_weights m is h some le true mode = exact_weights m is h some mode
 mode_history_weights m is h some le false mode = outward_weights m is h le
@@ -84,7 +91,9 @@ mode_can_evaluate m is h some le false mode cells = outward_can_evaluate m is h 
 
 -- a front can be refined
 pub mode_can_refine : (m : Model) → IsModel m → (h : ℕ) → 0 < h → h ≤ 24 → (e : Bool) → e ≡ is_exact_mode m h
-    → (F : Front) → IsFront m h F → F.stage < h → (e ≡ false → m.states * joint_observations m ^ F.stage ≤ 2 ^ 22)
+    → (F : Front) → IsFront m h F → F.stage < h → (e ≡ false
+    → m.states * joint_observations m ^ F.stage ≤ 2 ^ 22)
     → CanRefine (arithmetic e m.scales) m h F
 mode_can_refine m is h some le true mode F front lt cells = exact_can_refine m is h some mode F front lt
-mode_can_refine m is h some le false mode F front lt cells = outward_can_refine m is h le F.stage (cells refl) F front lt (omega arith)
+mode_can_refine m is h some le false mode F front lt cells = outward_can_refine m is h le F.stage (cells refl)
+    F front lt (omega arith)

@@ -44,7 +44,8 @@ size_add a b = let low = abs_add a.low b.low in let high = abs_add a.high b.high
 -- a sum of spans is no larger than its parts
 pub span_sum_size : (n : ℕ) (f : ℕ → Span) → size (span_sum n f) ≤ nat_sum n (λ i. size (f i))
 span_sum_size zero f = omega arith
-span_sum_size (suc n) f = let here = size_add (span_sum n f) (f n) in let rest = span_sum_size n f in omega arith
+span_sum_size (suc n) f = let here = size_add (span_sum n f) (f n) in let rest = span_sum_size n f in
+    omega arith
 
 -- the same over joint histories
 pub span_history_sum_size : (n t : ℕ) (v : List ℕ → Span)
@@ -52,7 +53,8 @@ pub span_history_sum_size : (n t : ℕ) (v : List ℕ → Span)
 span_history_sum_size n zero v = omega arith
 span_history_sum_size n (suc t) v =
     let outer = span_history_sum_size n t (λ H. span_sum n (λ o. v (o ∷ H))) in
-    let inner = nat_history_sum_le n t (λ H. size (span_sum n (λ o. v (o ∷ H)))) (λ H. nat_sum n (λ o. size (v (o ∷ H)))) (λ H p. span_sum_size n (λ o. v (o ∷ H))) in omega arith
+    let inner = nat_history_sum_le n t (λ H. size (span_sum n (λ o. v (o ∷ H))))
+    (λ H. nat_sum n (λ o. size (v (o ∷ H)))) (λ H p. span_sum_size n (λ o. v (o ∷ H))) in omega arith
 
 -- a reward is no larger than its parts
 pub reward_size_le : (A : Arithmetic) (m : Model) (r : ℕ) (ws : ℕ → Span) (a : ℕ)
@@ -61,10 +63,15 @@ unfolding weighted_reward_in reward_size
 reward_size_le A m r ws a =
     let S = m.states in
     let O = joint_observations m in
-    let G = λ (s t o : ℕ). A.gain (A.chance (ws s) (trans_at m a s t) (obs_at m a t o)) (reward_at m a s t o) r in
+    let G = λ (s t o : ℕ). A.gain (A.chance (ws s) (trans_at m a s t) (obs_at m a t o)) (reward_at m a s t o)
+    r in
     let first = span_sum_size S (λ s. span_sum S (λ t. span_sum O (λ o. G s t o))) in
-    let second = nat_sum_le S (λ s. size (span_sum S (λ t. span_sum O (λ o. G s t o)))) (λ s. nat_sum S (λ t. size (span_sum O (λ o. G s t o)))) (λ s p. span_sum_size S (λ t. span_sum O (λ o. G s t o))) in
-    let third = nat_sum_le S (λ s. nat_sum S (λ t. size (span_sum O (λ o. G s t o)))) (λ s. nat_sum S (λ t. nat_sum O (λ o. size (G s t o)))) (λ s p. nat_sum_le S _ _ (λ t q. span_sum_size O (λ o. G s t o))) in
+    let second = nat_sum_le S (λ s. size (span_sum S (λ t. span_sum O (λ o. G s t o))))
+    (λ s. nat_sum S (λ t. size (span_sum O (λ o. G s t o))))
+    (λ s p. span_sum_size S (λ t. span_sum O (λ o. G s t o))) in
+    let third = nat_sum_le S (λ s. nat_sum S (λ t. size (span_sum O (λ o. G s t o))))
+    (λ s. nat_sum S (λ t. nat_sum O (λ o. size (G s t o))))
+    (λ s p. nat_sum_le S _ _ (λ t q. span_sum_size O (λ o. G s t o))) in
     omega arith
 
 -- a next weight is no larger than its parts
@@ -72,7 +79,8 @@ pub updated_size_le : (A : Arithmetic) (m : Model) (ws : ℕ → Span) (a o t : 
     → size (weights_after_in A m ws a o t)
     ≤ nat_sum m.states (λ s. size (A.later (A.chance (ws s) (trans_at m a s t) (obs_at m a t o))))
 unfolding weights_after_in
-updated_size_le A m ws a o t = span_sum_size m.states (λ s. A.later (A.chance (ws s) (trans_at m a s t) (obs_at m a t o)))
+updated_size_le A m ws a o t = span_sum_size m.states (λ s. A.later
+    (A.chance (ws s) (trans_at m a s t) (obs_at m a t o)))
 
 -- what is earned is no larger than its parts
 pub earned_size_le : (A : Arithmetic) (m : Model) (act : List ℕ → ℕ) (h f : ℕ)
@@ -83,12 +91,15 @@ earned_size_le A m act h (suc f) =
     let V = λ (H : List ℕ). weighted_reward_in A m (h - suc f) (history_weight_in A m act H) (act H) in
     let before = earned_size_le A m act h f in
     let now = span_history_sum_size O f V in
-    let parts = nat_history_sum_le O f (λ H. size (V H)) (λ H. reward_size A m (h - suc f) (history_weight_in A m act H) (act H)) (λ H p. reward_size_le A m (h - suc f) (history_weight_in A m act H) (act H)) in
+    let parts = nat_history_sum_le O f (λ H. size (V H)) (λ H. reward_size A m (h - suc f)
+    (history_weight_in A m act H) (act H)) (λ H p. reward_size_le A m (h - suc f) (history_weight_in A m act H)
+    (act H)) in
     let both = size_add (earned_reward_in A m act h f) (span_history_sum O f V) in omega arith
 
 -- look-ahead of a joint action is no larger than its parts
 pub action_look_le : (A : Arithmetic) (m : Model) (r : ℕ) (ws : ℕ → Span) (a k : ℕ)
-    → unsigned_abs (action_look_ahead_in A m r ws a k) ≤ reward_size A m r ws a + next_look_size A m r ws a (k - 1)
+    → unsigned_abs (action_look_ahead_in A m r ws a k) ≤ reward_size A m r ws a + next_look_size A m r ws a
+    (k - 1)
 unfolding action_look_ahead_in next_look_size
 action_look_le A m r ws a k =
     let V = λ (o : ℕ). look_ahead_in A m r (weights_after_in A m ws a o) (k - 1) in
@@ -99,11 +110,14 @@ action_look_le A m r ws a k =
 -- a joint action that agrees with a joint class exists
 pub agreeing_below : (m : Model) (F : Front) (C a : ℕ) → IsIn a (agreeing_actions m F C) → a < joint_actions m
 unfolding agreeing_actions
-agreeing_below m F C a h = below-IsIn (joint_actions m) a (filter-IsIn _ a (numbers_below (joint_actions m)) h).0
+agreeing_below m F C a h = below-IsIn (joint_actions m) a (filter-IsIn _ a (numbers_below (joint_actions m))
+    h).0
 
 -- a value of the table is no larger than its parts
 pub table_action_le : (A : Arithmetic) (m : Model) (r a s : ℕ) →
-    unsigned_abs ((span_sum m.states (λ t. span_sum (joint_observations m) (λ o. A.gain (A.chance A.one (trans_at m a s t) (obs_at m a t o)) (reward_at m a s t o) r))).high +ℤ int_sum m.states (λ t. A.carry (mdp_table_in A m r t) (trans_at m a s t)))
+    unsigned_abs ((span_sum m.states (λ t. span_sum (joint_observations m)
+    (λ o. A.gain (A.chance A.one (trans_at m a s t) (obs_at m a t o)) (reward_at m a s t o) r))).high +ℤ
+    int_sum m.states (λ t. A.carry (mdp_table_in A m r t) (trans_at m a s t)))
     ≤ table_reward_size A m r a s + table_later_size A m r a s
 unfolding table_reward_size table_later_size
 table_action_le A m r a s =
@@ -112,7 +126,8 @@ table_action_le A m r a s =
     let G = λ (t o : ℕ). A.gain (A.chance A.one (trans_at m a s t) (obs_at m a t o)) (reward_at m a s t o) r in
     let V = λ (t : ℕ). A.carry (mdp_table_in A m r t) (trans_at m a s t) in
     let first = span_sum_size S (λ t. span_sum O (λ o. G t o)) in
-    let second = nat_sum_le S (λ t. size (span_sum O (λ o. G t o))) (λ t. nat_sum O (λ o. size (G t o))) (λ t p. span_sum_size O (λ o. G t o)) in
+    let second = nat_sum_le S (λ t. size (span_sum O (λ o. G t o))) (λ t. nat_sum O (λ o. size (G t o)))
+    (λ t p. span_sum_size O (λ o. G t o)) in
     let third = int_sum_abs S V in
     let both = abs_add (span_sum S (λ t. span_sum O (λ o. G t o))).high (int_sum S V) in
     omega arith
@@ -121,24 +136,37 @@ table_action_le A m r a s =
 
 -- a partial sum of spans
 pub span_sum_part : (k n : ℕ) (f : ℕ → Span) → k ≤ n → size (span_sum k f) ≤ nat_sum n (λ i. size (f i))
-span_sum_part k n f le = let part = span_sum_size k f in let more = nat_sum_part k n (λ i. size (f i)) le in omega arith
+span_sum_part k n f le = let part = span_sum_size k f in let more = nat_sum_part k n (λ i. size (f i)) le in
+    omega arith
 
 -- a partial sum of numbers
-pub int_sum_part : (k n : ℕ) (f : ℕ → ℤ) → k ≤ n → unsigned_abs (int_sum k f) ≤ nat_sum n (λ i. unsigned_abs (f i))
-int_sum_part k n f le = let part = int_sum_abs k f in let more = nat_sum_part k n (λ i. unsigned_abs (f i)) le in omega arith
+pub int_sum_part : (k n : ℕ) (f : ℕ → ℤ) → k ≤ n → unsigned_abs (int_sum k f)
+    ≤ nat_sum n (λ i. unsigned_abs (f i))
+int_sum_part k n f le = let part = int_sum_abs k f in let more = nat_sum_part k n (λ i. unsigned_abs (f i))
+    le in
+    omega arith
 
 -- the parts of a reward from one state, and those for one next state
 pub reward_state_le : (A : Arithmetic) (m : Model) (r : ℕ) (ws : ℕ → Span) (a s : ℕ) → s < m.states →
-    nat_sum m.states (λ t. nat_sum (joint_observations m) (λ o. size (A.gain (A.chance (ws s) (trans_at m a s t) (obs_at m a t o)) (reward_at m a s t o) r))) ≤ reward_size A m r ws a
+    nat_sum m.states (λ t. nat_sum (joint_observations m) (λ o. size
+    (A.gain (A.chance (ws s) (trans_at m a s t) (obs_at m a t o)) (reward_at m a s t o) r)))
+    ≤ reward_size A m r ws a
 unfolding reward_size
-reward_state_le A m r ws a s p = nat_sum_at m.states (λ s. nat_sum m.states (λ t. nat_sum (joint_observations m) (λ o. size (A.gain (A.chance (ws s) (trans_at m a s t) (obs_at m a t o)) (reward_at m a s t o) r)))) s p
+reward_state_le A m r ws a s p = nat_sum_at m.states (λ s. nat_sum m.states
+    (λ t. nat_sum (joint_observations m) (λ o. size (A.gain (A.chance (ws s) (trans_at m a s t)
+    (obs_at m a t o))
+    (reward_at m a s t o) r)))) s p
 
 -- those of one next state
-pub reward_next_le : (A : Arithmetic) (m : Model) (r : ℕ) (ws : ℕ → Span) (a s t : ℕ) → s < m.states → t < m.states →
-    nat_sum (joint_observations m) (λ o. size (A.gain (A.chance (ws s) (trans_at m a s t) (obs_at m a t o)) (reward_at m a s t o) r)) ≤ reward_size A m r ws a
+pub reward_next_le : (A : Arithmetic) (m : Model) (r : ℕ) (ws : ℕ → Span) (a s t : ℕ) → s < m.states
+    → t < m.states →
+    nat_sum (joint_observations m) (λ o. size (A.gain (A.chance (ws s) (trans_at m a s t) (obs_at m a t o))
+    (reward_at m a s t o) r)) ≤ reward_size A m r ws a
 reward_next_le A m r ws a s t p q =
     let state = reward_state_le A m r ws a s p in
-    let next = nat_sum_at m.states (λ t. nat_sum (joint_observations m) (λ o. size (A.gain (A.chance (ws s) (trans_at m a s t) (obs_at m a t o)) (reward_at m a s t o) r))) t q in omega arith
+    let next = nat_sum_at m.states (λ t. nat_sum (joint_observations m)
+    (λ o. size (A.gain (A.chance (ws s) (trans_at m a s t) (obs_at m a t o)) (reward_at m a s t o) r))) t q in
+    omega arith
 
 -- the worth of a joint policy is no larger than its parts
 pub worth_size_le : (A : Arithmetic) (m : Model) (r : ℕ) (ws : ℕ → Span) (qs : List PolicyTree)
@@ -150,5 +178,6 @@ worth_size_le A m (suc r) ws qs =
     let V = λ (o : ℕ). recursive_worth_in A m r (weights_after_in A m ws a o) (trees_after m qs o) in
     let now = reward_size_le A m r ws a in
     let after = span_sum_size O V in
-    let parts = nat_sum_le O (λ o. size (V o)) (λ o. worth_size A m r (weights_after_in A m ws a o) (trees_after m qs o)) (λ o p. worth_size_le A m r (weights_after_in A m ws a o) (trees_after m qs o)) in
+    let parts = nat_sum_le O (λ o. size (V o)) (λ o. worth_size A m r (weights_after_in A m ws a o)
+    (trees_after m qs o)) (λ o p. worth_size_le A m r (weights_after_in A m ws a o) (trees_after m qs o)) in
     let both = size_add (weighted_reward_in A m r ws a) (span_sum O V) in omega arith

@@ -26,7 +26,8 @@ use Rattle.dp_spec.specs.WellFormed.{IsFront}
 -- ---- from below
 
 -- the bound of a horizon does not grow by choosing
-pub chosen_front_bound_le : (A : Arithmetic) (m : Model) → IsModel m → (h look : ℕ) (F : Front) (i c a : ℕ) → IsFront m h F
+pub chosen_front_bound_le : (A : Arithmetic) (m : Model) → IsModel m → (h look : ℕ) (F : Front) (i c a : ℕ)
+    → IsFront m h F
     → F.stage < h → IsUnassigned i c F.agents → a < get_or m.actions i 0 →
     front_bound A m h look (chosen_front F i c a) ≤ℤ front_bound A m h look F
 unfolding front_bound
@@ -60,11 +61,13 @@ bound_in_abs : (A : Arithmetic) (m : Model) (h r look : ℕ) (F : Front) → Can
     → unsigned_abs (bound_in A m (suc r) F look) ≤ 2 ^ 126
 unfolding class_look_size
 bound_in_abs A m h r look F can e =
-    let best = λ (C : ℕ). greatest (λ a. action_look_ahead_in A m r (class_weight_in A m F C) a look) (agreeing_actions m F C) in
+    let best = λ (C : ℕ). greatest (λ a. action_look_ahead_in A m r (class_weight_in A m F C) a look)
+    (agreeing_actions m F C) in
     let n = product (class_counts F.agents) in
     let E = (earned_reward_in A m (fixed_joint_action m F) (F.stage + suc r) F.stage).high in
     let earned : unsigned_abs E ≤ earned_size A m (fixed_joint_action m F) h F.stage =
-    subst (λ (k : ℕ). unsigned_abs (earned_reward_in A m (fixed_joint_action m F) k F.stage).high ≤ earned_size A m (fixed_joint_action m F) h F.stage) (sym e) (high_abs A m F h) in
+    subst (λ (k : ℕ). unsigned_abs (earned_reward_in A m (fixed_joint_action m F) k F.stage).high
+    ≤ earned_size A m (fixed_joint_action m F) h F.stage) (sym e) (high_abs A m F h) in
     let looks = int_sum_abs n best in
     let both = abs_add E (int_sum n best) in
     let room = can.bound r look e in
@@ -86,7 +89,8 @@ together : (b g : ℤ) → unsigned_abs b ≤ 2 ^ 126 → unsigned_abs g ≤ 2 ^
 together b g p q = omega (arith, ints)
 
 -- a choice lowers the bound by at most 2^127
-pub spread_to : (m : Model) → IsModel m → (h : ℕ) → 0 < h → h ≤ 24 → (e : Bool) → e ≡ is_exact_mode m h → (look : ℕ) (F : Front)
+pub spread_to : (m : Model) → IsModel m → (h : ℕ) → 0 < h → h ≤ 24 → (e : Bool) → e ≡ is_exact_mode m h
+    → (look : ℕ) (F : Front)
     (i c : ℕ) → IsFront m h F → F.stage < h → IsUnassigned i c F.agents
     → (e ≡ false → m.states * joint_observations m ^ F.stage ≤ 2 ^ 22)
     → spread_of (arithmetic e m.scales) m h look F i c ≤ℤ pos (2 ^ 127)
@@ -98,6 +102,8 @@ spread_to m is h some le e mode look F i c front lt free cells =
     let here = front_bound_abs A m h look F (mode_can_refine m is h some le e mode F front lt cells) lt in
     let chosen : (a : ℕ) → a < n → unsigned_abs (B a) ≤ 2 ^ 126 =
     λ a p. front_bound_abs A m h look (chosen_front F i c a)
-    (mode_can_refine m is h some le e mode (chosen_front F i c a) (chosen_is_front m h F i c a front lt free p) lt cells) lt in
-    let least = greatest_abs (λ a. neg_ℤ (B a)) (2 ^ 126) (numbers_below n) (λ a p. neg_abs (B a) (2 ^ 126) (chosen a (below-IsIn n a p))) in
+    (mode_can_refine m is h some le e mode (chosen_front F i c a) (chosen_is_front m h F i c a front lt free p)
+    lt cells) lt in
+    let least = greatest_abs (λ a. neg_ℤ (B a)) (2 ^ 126) (numbers_below n)
+    (λ a p. neg_abs (B a) (2 ^ 126) (chosen a (below-IsIn n a p))) in
     together (front_bound A m h look F) (greatest (λ a. neg_ℤ (B a)) (numbers_below n)) here least

@@ -16,7 +16,8 @@ root_action_below b n (suc r) (node a ks) h = h.0
 pub joint_root_action_below : {r : ℕ} {bs ns : List ℕ} {qs : List PolicyTree} → IsJointPolicy (suc r) bs ns qs
     → joint_number bs (map root_action qs) < product bs
 joint_root_action_below no_agents = omega arith
-joint_root_action_below (and_agent {b = b} h hs) = row_below _ b _ _ (root_action_below _ _ _ _ h) (joint_root_action_below hs)
+joint_root_action_below (and_agent {b = b} h hs) = row_below _ b _ _ (root_action_below _ _ _ _ h)
+    (joint_root_action_below hs)
 
 -- each tree of a list of trees is one
 pub nth_tree_fits : (b n r c : ℕ) (ks : PolicyTrees) (o : ℕ) → o < c → ArePolicyTrees b n r c ks

@@ -16,10 +16,12 @@ use Rattle.dp_laws.proofs.ClassCounts.{joint_classes_within_histories}
 
 -- ---- fits
 
-pub true_fit_of_version : (m : Model) (h version : ℕ) → IsWithinVersion m h version → IsTrueFit m h (is_exact_mode m h) (pos (unit_of m h))
+pub true_fit_of_version : (m : Model) (h version : ℕ) → IsWithinVersion m h version
+    → IsTrueFit m h (is_exact_mode m h) (pos (unit_of m h))
 true_fit_of_version m h version within = record {
   horizon = elim within.known [
-    | inl one ↦ let first = within.first one in let some = first.some_step in let most = first.horizon in (omega arith, omega arith)
+    | inl one ↦ let first = within.first one in let some = first.some_step in let most = first.horizon in
+        (omega arith, omega arith)
     | inr two ↦ within.second two
   ];
   mode = refl;
@@ -34,19 +36,23 @@ AreWithin m n = (m.states * n ≤ 2 ^ 22) × (joint_actions m * n ≤ 2 ^ 24)
 
 room_decides : (m : Model) (n : ℕ) → Decides (is_room m n) (AreWithin m n)
 unfolding is_room
-room_decides m n = Decides-and (leb (m.states * n) (2 ^ 22)) (leb (joint_actions m * n) (2 ^ 24)) (most_decides (m.states * n) (2 ^ 22)) (most_decides (joint_actions m * n) (2 ^ 24))
+room_decides m n = Decides-and (leb (m.states * n) (2 ^ 22)) (leb (joint_actions m * n) (2 ^ 24))
+    (most_decides (m.states * n) (2 ^ 22)) (most_decides (joint_actions m * n) (2 ^ 24))
   where
     most_decides : (a b : ℕ) → Decides (leb a b) (a ≤ b)
     most_decides a b = (λ e. grind (arith, nat_tests), λ le. grind (arith, nat_tests))
 
 pub room_is_within : (m : Model) (h : ℕ) (F : Front) → (has_room m h F ≡ true)
-    ↔ ((F.stage ≡ h) ⊎ ((m.states * product (class_counts F.agents) ≤ 2 ^ 22) × (joint_actions m * product (class_counts F.agents) ≤ 2 ^ 24)))
+    ↔ ((F.stage ≡ h) ⊎ ((m.states * product (class_counts F.agents) ≤ 2 ^ 22)
+    × (joint_actions m * product (class_counts F.agents) ≤ 2 ^ 24)))
 unfolding has_room
 room_is_within m h F =
-    Decides-or (eqb F.stage h) (is_room m (product (class_counts F.agents))) (Decides-eqb F.stage h) (room_decides m (product (class_counts F.agents)))
+    Decides-or (eqb F.stage h) (is_room m (product (class_counts F.agents))) (Decides-eqb F.stage h)
+    (room_decides m (product (class_counts F.agents)))
 
 -- within the limits of version 1 every front has room
-pub version_one_has_room : (m : Model) (h : ℕ) (F : Front) → IsModel m → IsWithinLimits m h → IsFront m h F → has_room m h F ≡ true
+pub version_one_has_room : (m : Model) (h : ℕ) (F : Front) → IsModel m → IsWithinLimits m h → IsFront m h F
+    → has_room m h F ≡ true
 version_one_has_room m h F is limits front =
     elim (cases_eq F.stage h) [
       | inl full ↦ (room_is_within m h F).1 (inl full)

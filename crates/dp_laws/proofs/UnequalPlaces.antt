@@ -43,18 +43,25 @@ module _ (test : ℕ → Bool) where
     before = λ q le lt. same_or_later a q le fails (λ later. rest.before q later lt);
   }
 
-  first_by : (a n p : ℕ) (b : Bool) → test a ≡ b → (find test (range_with_len (a + 1) n) ≡ Some p → IsFirstFrom (a + 1) n p)
+  first_by : (a n p : ℕ) (b : Bool) → test a ≡ b → (find test (range_with_len (a + 1) n) ≡ Some p
+      → IsFirstFrom (a + 1) n p)
       → cond b (Some a) (find test (range_with_len (a + 1) n)) ≡ Some p → IsFirstFrom a (suc n) p
   first_by a n p true t rest e =
       let same : a ≡ p = ap (λ (o : Option ℕ). unwrap_or o a) e in
-      subst (IsFirstFrom a (suc n)) same (record { from = omega arith; below = omega arith; passes = t; before = λ q le lt. absurd (omega arith) })
+      subst (IsFirstFrom a (suc n)) same (record {
+        from = omega arith;
+        below = omega arith;
+        passes = t;
+        before = λ q le lt. absurd (omega arith);
+      })
   first_by a n p false t rest e = later_first a n p t (rest e)
 
   found_is_first : (n a p : ℕ) → find test (range_with_len a n) ≡ Some p → IsFirstFrom a n p
   found_is_first zero a p e = absurd (let no : true ≡ false = ap is_none e in cc)
   found_is_first (suc n) a p e = first_by a n p (test a) refl (found_is_first n (a + 1) p) e
 
-  none_by : (a n : ℕ) (b : Bool) → test a ≡ b → (find test (range_with_len (a + 1) n) ≡ None → NonePasses (a + 1) n)
+  none_by : (a n : ℕ) (b : Bool) → test a ≡ b → (find test (range_with_len (a + 1) n) ≡ None
+      → NonePasses (a + 1) n)
       → cond b (Some a) (find test (range_with_len (a + 1) n)) ≡ None → NonePasses a (suc n)
   none_by a n true t rest e = absurd (let no : false ≡ true = ap is_none e in cc)
   none_by a n false t rest e = λ q le lt. same_or_later a q le t (λ later. rest e q later (omega arith))
@@ -77,7 +84,8 @@ module _ (test : ℕ → Bool) where
   found_by a n p true t first rest =
       elim (cases_eq a p) [
         | inl e ↦ ap Some e
-        | inr ne ↦ absurd (let no : test a ≡ false = first.before a (omega arith) (let le = first.from in omega arith) in let both : true ≡ false = sym t ∙ no in cc)
+        | inr ne ↦ absurd (let no : test a ≡ false = first.before a (omega arith)
+            (let le = first.from in omega arith) in let both : true ≡ false = sym t ∙ no in cc)
       ]
   found_by a n p false t first rest =
       elim (cases_eq a p) [
@@ -92,8 +100,10 @@ module _ (test : ℕ → Bool) where
   none_is_found : (n a : ℕ) → NonePasses a n → find test (range_with_len a n) ≡ None
   none_is_found zero a none = refl
   none_is_found (suc n) a none =
-      let here : cond (test a) (Some a) (find test (range_with_len (a + 1) n)) ≡ find test (range_with_len (a + 1) n) =
-      ap (λ (b : Bool). cond b (Some a) (find test (range_with_len (a + 1) n))) (none a (omega arith) (omega arith)) in
+      let here : cond (test a) (Some a) (find test (range_with_len (a + 1) n))
+      ≡ find test (range_with_len (a + 1) n) =
+      ap (λ (b : Bool). cond b (Some a) (find test (range_with_len (a + 1) n)))
+      (none a (omega arith) (omega arith)) in
       here ∙ none_is_found n (a + 1) (λ q le lt. none q (omega arith) (omega arith))
 
 -- ---- places
@@ -143,9 +153,12 @@ module _ (m : Model) (F : Front) (i c c' : ℕ) where
       same = λ x s x_in s_in.
           let row : (x * m.states + s) / m.states ≡ x = div-mul-add x m.states s s_in in
           let rest : (x * m.states + s) % m.states ≡ s = mod-mul-add x m.states s s_in in
-          let here = agree (x * m.states + s) (row_below x (product (without i (class_counts F.agents))) m.states s x_in s_in) in
-          subst (λ y. place_weight m F i c y s * class_total m F i c' ≡ place_weight m F i c' y s * class_total m F i c) row
-          (subst (λ t. place_weight m F i c ((x * m.states + s) / m.states) t * class_total m F i c' ≡ place_weight m F i c' ((x * m.states + s) / m.states) t * class_total m F i c) rest here);
+          let here = agree (x * m.states + s) (row_below x (product (without i (class_counts F.agents)))
+          m.states s x_in s_in) in
+          subst (λ y. place_weight m F i c y s * class_total m F i c'
+          ≡ place_weight m F i c' y s * class_total m F i c) row
+          (subst (λ t. place_weight m F i c ((x * m.states + s) / m.states) t * class_total m F i c'
+          ≡ place_weight m F i c' ((x * m.states + s) / m.states) t * class_total m F i c) rest here);
     },
     λ equivalent p p_in. equivalent.same (p / m.states) (p % m.states)
         (part_below (product (without i (class_counts F.agents))) m.states p p_in)
@@ -155,14 +168,19 @@ module _ (m : Model) (F : Front) (i c c' : ℕ) where
   pub none_unequal_is : (first_unequal m F i c c' ≡ None) ↔ AreEquivalent m F i c c'
   unfolding first_unequal left_at right_at
   none_unequal_is = (
-    λ e. agreement_is.0 (λ p p_in. agreeing (left_at p) (right_at p) (none_found (λ q. not (eqb (left_at q) (right_at q))) (place_count m F i) 0 e p (omega arith) (omega arith))),
-    λ equivalent. none_is_found (λ q. not (eqb (left_at q) (right_at q))) (place_count m F i) 0 (λ p le lt. fails_where_equal (left_at p) (right_at p) (agreement_is.1 equivalent p (omega arith))),
+    λ e. agreement_is.0 (λ p p_in. agreeing (left_at p) (right_at p)
+        (none_found (λ q. not (eqb (left_at q) (right_at q))) (place_count m F i) 0 e p (omega arith)
+        (omega arith))),
+    λ equivalent. none_is_found (λ q. not (eqb (left_at q) (right_at q))) (place_count m F i) 0
+        (λ p le lt. fails_where_equal (left_at p) (right_at p) (agreement_is.1 equivalent p (omega arith))),
   )
 
 -- ---- pairs
 
 -- two least pairs are the same
-pub least_pair_unique : (m : Model) (F : Front) (i c c' d d' : ℕ) → IsLeastPair m F i c c' → IsLeastPair m F i d d' → (c ≡ d) × (c' ≡ d')
+pub least_pair_unique : (m : Model) (F : Front) (i c c' d d' : ℕ) → IsLeastPair m F i c c'
+    → IsLeastPair m F i d d'
+    → (c ≡ d) × (c' ≡ d')
 least_pair_unique m F i c c' d d' one other = both (one.least d d' other.pair) (other.least c c' one.pair)
   where
     both : (c < d) ⊎ ((c ≡ d) × (c' ≤ d')) → (d < c) ⊎ ((d ≡ c) × (d' ≤ c')) → (c ≡ d) × (c' ≡ d')
@@ -175,5 +193,6 @@ least_pair_unique m F i c c' d d' one other = both (one.least d d' other.pair) (
 pub no_pair_is : (m : Model) (F : Front) (i : ℕ) → HasNoPair m F i ↔ ((c c' : ℕ) → ¬ IsPair m F i c c')
 no_pair_is m F i = (
   λ none c c' pair. none c c' pair.order pair.first pair.second pair.equivalent,
-  λ none c c' order first second equivalent. none c c' (record { order = order; first = first; second = second; equivalent = equivalent }),
+  λ none c c' order first second equivalent. none c c' (record
+      { order = order; first = first; second = second; equivalent = equivalent }),
 )

@@ -59,9 +59,22 @@ either_sign (negsuc r) x = refl
 pub outward_keeps_zero : (c : Scales) → KeepsZero (outward c)
 unfolding outward
 outward_keeps_zero c = record {
-  no_weight = λ p z. rw (down_zero (pos p) c.trans, down_zero (pos z) c.obs, up_zero (pos p) c.trans, up_zero (pos z) c.obs) refl;
-  no_next = λ w z. rw (down_none w.low c.trans, down_zero (pos z) c.obs, up_none w.high c.trans, up_zero (pos z) c.obs) refl;
-  no_seen = λ w p. rw (down_none (mul_down w.low (pos p) c.trans) c.obs, up_none (mul_up w.high (pos p) c.trans) c.obs) refl;
+  no_weight = λ p z. rw (
+    down_zero (pos p) c.trans,
+    down_zero (pos z) c.obs,
+    up_zero (pos p) c.trans,
+    up_zero (pos z) c.obs,
+  ) refl;
+  no_next = λ w z. rw (
+    down_none w.low c.trans,
+    down_zero (pos z) c.obs,
+    up_none w.high c.trans,
+    up_zero (pos z) c.obs,
+  ) refl;
+  no_seen = λ w p. rw (
+    down_none (mul_down w.low (pos p) c.trans) c.obs,
+    up_none (mul_up w.high (pos p) c.trans) c.obs,
+  ) refl;
   later = rw (down_zero (pos c.gain) c.discount, up_zero (pos c.gain) c.discount) refl;
   gain = λ r rest. rw (either_sign r (pos 0), down_zero r (1000 * c.reward), up_zero r (1000 * c.reward)) refl;
   carry = λ v. rw (up_none v c.trans, up_zero (pos c.gain) c.discount) refl;

@@ -44,7 +44,8 @@ WeighEach m R T w spans = (s : ℕ) → s < m.states → R.Weighs T (w s) (spans
 -- number; under `containment` a span round it or a number above it, weights in 10^-12 and values in 10^-9.)
 pub record EnclosesQuantities (m : Model) (A : Arithmetic) (R : Enclosure) : Type 0 where
   -- weights of joint histories and of joint classes, and the weights one step on
-  pub history_weights : (act : List ℕ → ℕ) (t : ℕ) (H : List ℕ) (s : ℕ) → IsJointHistory (joint_observations m) t H
+  pub history_weights : (act : List ℕ → ℕ) (t : ℕ) (H : List ℕ) (s : ℕ)
+      → IsJointHistory (joint_observations m) t H
       → R.Weighs (m.scales.start * step_scale m ^ t) (history_weight m act H s) (history_weight_in A m act H s)
   pub class_weights : (F : Front) (C s : ℕ)
       → R.Weighs (m.scales.start * step_scale m ^ F.stage) (class_weight m F C s) (class_weight_in A m F C s)
@@ -52,15 +53,18 @@ pub record EnclosesQuantities (m : Model) (A : Arithmetic) (R : Enclosure) : Typ
       → R.Weighs (T * step_scale m) (weights_after m w a o t) (weights_after_in A m spans a o t)
   -- the reward of a joint action, what is earned before a stage, and the worth of a joint policy
   pub rewards : (T r : ℕ) (w : ℕ → ℕ) (spans : ℕ → Span) (a : ℕ) → WeighEach m R T w spans
-      → R.Earns (T * (m.scales.reward * step_scale m ^ suc r)) (weighted_reward m r w a) (weighted_reward_in A m r spans a)
+      → R.Earns (T * (m.scales.reward * step_scale m ^ suc r)) (weighted_reward m r w a)
+      (weighted_reward_in A m r spans a)
   pub earned_rewards : (act : List ℕ → ℕ) (h f : ℕ) → f ≤ h
       → R.Earns (value_scale m h) (earned_reward m act h f) (earned_reward_in A m act h f)
   pub worths : (h : ℕ) (qs : List PolicyTree)
       → R.Earns (value_scale m h) (policy_value m h qs) (forward_worth_in A m h qs)
   -- the table, look-ahead, look-ahead of a joint action, and the bound of a front
-  pub tables : (r s : ℕ) → R.IsUpperBound (m.scales.reward * step_scale m ^ r) (mdp_table m r s) (mdp_table_in A m r s)
+  pub tables : (r s : ℕ) → R.IsUpperBound (m.scales.reward * step_scale m ^ r) (mdp_table m r s)
+      (mdp_table_in A m r s)
   pub look_aheads : (T r k : ℕ) (w : ℕ → ℕ) (spans : ℕ → Span) → WeighEach m R T w spans
-      → R.IsUpperBound (T * (m.scales.reward * step_scale m ^ r)) (look_ahead m r w k) (look_ahead_in A m r spans k)
+      → R.IsUpperBound (T * (m.scales.reward * step_scale m ^ r)) (look_ahead m r w k)
+      (look_ahead_in A m r spans k)
   pub action_look_aheads : (T r k : ℕ) (w : ℕ → ℕ) (spans : ℕ → Span) (a : ℕ) → WeighEach m R T w spans
       → R.IsUpperBound (T * (m.scales.reward * step_scale m ^ suc r)) (action_look_ahead m r w a k)
       (action_look_ahead_in A m r spans a k)
@@ -73,7 +77,8 @@ ExactArithmeticGivesTheNumbers = (m : Model) → IsModel m → EnclosesQuantitie
 
 -- the outward arithmetic encloses the number of each exact definition
 abbrev pub OutwardArithmeticEnclosesTheNumbers : Type 0
-OutwardArithmeticEnclosesTheNumbers = (m : Model) → IsModel m → EnclosesQuantities m (outward m.scales) containment
+OutwardArithmeticEnclosesTheNumbers = (m : Model) → IsModel m
+    → EnclosesQuantities m (outward m.scales) containment
 
 -- the same of either mode
 abbrev pub ArithmeticEnclosesTheNumbers : Type 0

@@ -10,7 +10,8 @@ use Rattle.dp_spec.specs.Merge.{AreEquivalent, place_weight, class_total}
 -- two fronts have the same joint actions behind them, earn the same there, and give every class the same weight
 pub record WeighAlike (m : Model) (F G : Front) : Type 0 where
   pub actions : (H : List ℕ) → fixed_joint_action m F H ≡ fixed_joint_action m G H
-  pub earned : (h t : ℕ) → earned_reward m (fixed_joint_action m F) h t ≡ earned_reward m (fixed_joint_action m G) h t
+  pub earned : (h t : ℕ) → earned_reward m (fixed_joint_action m F) h t
+      ≡ earned_reward m (fixed_joint_action m G) h t
   pub joint_classes : (C s : ℕ) → class_weight m F C s ≡ class_weight m G C s
   pub places : (i c x s : ℕ) → place_weight m F i c x s ≡ place_weight m G i c x s
   pub totals : (i c : ℕ) → class_total m F i c ≡ class_total m G i c

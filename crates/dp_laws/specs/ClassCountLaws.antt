@@ -12,4 +12,5 @@ ClassesAreAtMostOwnHistories = (b n f : ℕ) (d : AgentFront) → IsAgentFront b
 -- a well-formed front has at most one joint class for each joint history of the stage
 abbrev pub JointClassesAreAtMostJointHistories : Type 0
 JointClassesAreAtMostJointHistories =
-    (m : Model) (h : ℕ) (F : Front) → IsFront m h F → product (class_counts F.agents) ≤ joint_observations m ^ F.stage
+    (m : Model) (h : ℕ) (F : Front) → IsFront m h F → product (class_counts F.agents)
+    ≤ joint_observations m ^ F.stage

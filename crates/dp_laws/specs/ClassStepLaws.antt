@@ -27,7 +27,8 @@ ClassesStepAsHistories =
 -- in any arithmetic, where no two own histories share a class
 abbrev pub ApartClassesStepAsHistories : Type 0
 ApartClassesStepAsHistories =
-    (m : Model) (h : ℕ) (F : Front) → IsFront m h F → (A : Arithmetic) → KeepsHistoriesApart m F → StepsByClass A m F
+    (m : Model) (h : ℕ) (F : Front) → IsFront m h F → (A : Arithmetic) → KeepsHistoriesApart m F
+    → StepsByClass A m F
 
 -- each joint class of a well-formed front holds a joint history of its stage
 abbrev pub JointClassesHoldHistories : Type 0
@@ -37,8 +38,8 @@ JointClassesHoldHistories =
 
 -- ---- advancing
 
--- the weights of a joint class of the advanced front are those after the joint class and the joint observation that lead
--- to it
+-- the weights of a joint class of the advanced front are those after the joint class and the joint observation that
+-- lead to it
 abbrev pub AdvancedWeightsAreNextWeights : Type 0
 AdvancedWeightsAreNextWeights =
     (A : Arithmetic) (m : Model) (h : ℕ) (F : Front) → IsFront m h F → StepsByClass A m F → (C o s : ℕ) →
@@ -63,7 +64,8 @@ abbrev pub KeptClassesKeepWeights : Type 0
 KeptClassesKeepWeights =
     (m : Model) → IsModel m → (h : ℕ) (F : Front) → IsFront m h F → F.stage < h → (i a b : ℕ) → a < b →
     IsUnassigned i a F.agents → IsUnassigned i b F.agents → (c x s : ℕ) →
-    c < get_or (class_counts (merged_agents i a b F.agents)) i 0 → a ≢ c → x < product (without i (class_counts F.agents)) →
+    c < get_or (class_counts (merged_agents i a b F.agents)) i 0 → a ≢ c
+    → x < product (without i (class_counts F.agents)) →
     class_weight_in (exact m.scales) m (merged_front F i a b)
     (placed_number i (class_counts (merged_agents i a b F.agents)) c x) s
     ≡ class_weight_in (exact m.scales) m F (placed_number i (class_counts F.agents) (kept_class b c) x) s
@@ -72,7 +74,8 @@ KeptClassesKeepWeights =
 abbrev pub JoinedClassesHaveBothWeights : Type 0
 JoinedClassesHaveBothWeights =
     (m : Model) → IsModel m → (h : ℕ) (F : Front) → IsFront m h F → F.stage < h → (i a b : ℕ) → a < b →
-    IsUnassigned i a F.agents → IsUnassigned i b F.agents → (x s : ℕ) → x < product (without i (class_counts F.agents)) →
+    IsUnassigned i a F.agents → IsUnassigned i b F.agents → (x s : ℕ)
+    → x < product (without i (class_counts F.agents)) →
     class_weight_in (exact m.scales) m (merged_front F i a b)
     (placed_number i (class_counts (merged_agents i a b F.agents)) a x) s
     ≡ span_add (class_weight_in (exact m.scales) m F (placed_number i (class_counts F.agents) a x) s)
@@ -83,7 +86,8 @@ JoinedClassesHaveBothWeights =
 -- class c of agent i, in row `high` of the agents before it and at place `low` of those behind it
 abbrev pub PlacedNumbersAreByRow : Type 0
 PlacedNumbersAreByRow =
-    (i : ℕ) (ns : List ℕ) (c high low : ℕ) → i < length ns → high < product (take i ns) → low < product (drop (suc i) ns) →
+    (i : ℕ) (ns : List ℕ) (c high low : ℕ) → i < length ns → high < product (take i ns)
+    → low < product (drop (suc i) ns) →
     placed_number i ns c (high * product (drop (suc i) ns) + low)
     ≡ (high * get_or ns i 0 + c) * product (drop (suc i) ns) + low
 
@@ -100,7 +104,8 @@ PlaceWeightsAreClassWeights =
 abbrev pub PlaceWeightsAddToTotal : Type 0
 PlaceWeightsAddToTotal =
     (m : Model) (h : ℕ) (F : Front) → IsFront m h F → (i c : ℕ) → i < length (class_counts F.agents) →
-    nat_sum (product (without i (class_counts F.agents))) (λ x. nat_sum m.states (λ s. place_weight m F i c x s))
+    nat_sum (product (without i (class_counts F.agents))) (λ x. nat_sum m.states
+    (λ s. place_weight m F i c x s))
     ≡ class_total m F i c
 
 -- ---- sizes

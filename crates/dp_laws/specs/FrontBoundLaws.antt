@@ -18,12 +18,13 @@ use Rattle.dp_spec.specs.Merge.{merged_front}
 -- no policy that keeps a front from whose stage on r steps are left is worth more than its bound, with any look
 abbrev pub NoKeepingPolicyAboveBound : Type 0
 NoKeepingPolicyAboveBound =
-    (m : Model) → IsModel m → (h r look : ℕ) (F : Front) (qs : List PolicyTree) → IsFront m h F → F.stage + r ≡ h →
+    (m : Model) → IsModel m → (h r look : ℕ) (F : Front) (qs : List PolicyTree) → IsFront m h F
+    → F.stage + r ≡ h →
     IsPolicyOf m h qs → KeepsFront m F qs →
     policy_value m h qs ≤ℤ bound_of m r F look
 
--- The same of the bound that is computed in the arithmetic of either mode: over the value scale the value is at most the
--- bound in the unit of the mode, which is the value scale in exact mode and 10^9 in outward mode.
+-- The same of the bound that is computed in the arithmetic of either mode: over the value scale the value is at most
+-- the bound in the unit of the mode, which is the value scale in exact mode and 10^9 in outward mode.
 abbrev pub NoKeepingPolicyAboveComputedBound : Type 0
 NoKeepingPolicyAboveComputedBound =
     (m : Model) → IsModel m → (h look : ℕ) (F : Front) (qs : List PolicyTree) (e : Bool) → IsFront m h F →
@@ -41,20 +42,23 @@ ChoosingNeverRaisesBound =
 -- nor does the bound that is computed in any arithmetic
 abbrev pub ChoosingNeverRaisesComputedBound : Type 0
 ChoosingNeverRaisesComputedBound =
-    (A : Arithmetic) (m : Model) → IsModel m → (h look : ℕ) (F : Front) (i c a : ℕ) → IsFront m h F → F.stage < h →
+    (A : Arithmetic) (m : Model) → IsModel m → (h look : ℕ) (F : Front) (i c a : ℕ) → IsFront m h F
+    → F.stage < h →
     IsUnassigned i c F.agents → a < get_or m.actions i 0 →
     front_bound A m h look (chosen_front F i c a) ≤ℤ front_bound A m h look F
 
 -- so in any arithmetic the spread of an unassigned class is never negative
 abbrev pub SpreadsAreNeverNegative : Type 0
 SpreadsAreNeverNegative =
-    (A : Arithmetic) (m : Model) → IsModel m → (h look : ℕ) (F : Front) (i c : ℕ) → IsFront m h F → F.stage < h →
+    (A : Arithmetic) (m : Model) → IsModel m → (h look : ℕ) (F : Front) (i c : ℕ) → IsFront m h F
+    → F.stage < h →
     IsUnassigned i c F.agents → pos 0 ≤ℤ spread_of A m h look F i c
 
 -- in the arithmetic of the mode it is at most 2^127, in outward mode where the front's stage is within stage cells
 abbrev pub SpreadsAreLimited : Type 0
 SpreadsAreLimited =
-    (m : Model) → IsModel m → (h : ℕ) → 0 < h → h ≤ 24 → (e : Bool) → e ≡ is_exact_mode m h → (look : ℕ) (F : Front)
+    (m : Model) → IsModel m → (h : ℕ) → 0 < h → h ≤ 24 → (e : Bool) → e ≡ is_exact_mode m h
+    → (look : ℕ) (F : Front)
     (i c : ℕ) → IsFront m h F → F.stage < h → IsUnassigned i c F.agents →
     (e ≡ false → m.states * joint_observations m ^ F.stage ≤ 2 ^ 22) →
     spread_of (arithmetic e m.scales) m h look F i c ≤ℤ pos (2 ^ 127)
@@ -62,7 +66,8 @@ SpreadsAreLimited =
 -- a bound with a look of at least 1 does not grow where a complete front goes on to the next stage (exact numbers)
 abbrev pub AdvancingNeverRaisesBound : Type 0
 AdvancingNeverRaisesBound =
-    (m : Model) → IsModel m → (h r look : ℕ) (F : Front) → IsFront m h F → F.stage < h → is_complete F.agents ≡ true →
+    (m : Model) → IsModel m → (h r look : ℕ) (F : Front) → IsFront m h F → F.stage < h
+    → is_complete F.agents ≡ true →
     0 < look →
     bound_of m r (advanced_front m F) look ≤ℤ bound_of m (suc r) F look
 

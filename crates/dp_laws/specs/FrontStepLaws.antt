@@ -24,7 +24,8 @@ AdvancingKeepsWellFormed =
 -- a well-formed front stays so where two unassigned classes of one agent are merged
 abbrev pub MergingKeepsWellFormed : Type 0
 MergingKeepsWellFormed =
-    (m : Model) (h : ℕ) (F : Front) (i a b : ℕ) → IsFront m h F → F.stage < h → a < b → IsUnassigned i a F.agents →
+    (m : Model) (h : ℕ) (F : Front) (i a b : ℕ) → IsFront m h F → F.stage < h → a < b
+    → IsUnassigned i a F.agents →
     IsUnassigned i b F.agents →
     IsFront m h (merged_front F i a b)
 

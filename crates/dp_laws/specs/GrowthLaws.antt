@@ -33,7 +33,8 @@ root_nodes A m h look T = nodes_of A m h look 0 T (root_front m) (front_bound A 
 
 -- the promises of a search on its tree and its lower end
 pub record IsPromised (A : Arithmetic) (m : Model) (h look budget : ℕ) (merging : Bool)
-    (May : List Place → ℕ → Type 0) (worth : Front → ℤ) (constants lower : ℤ) (inner : ℕ) (T : BoundTree) : Type 0 where
+    (May : List Place → ℕ → Type 0) (worth : Front → ℤ) (constants lower : ℤ) (inner : ℕ)
+    (T : BoundTree) : Type 0 where
   -- the tree fits the root front, and has at most so many branches and merges
   pub fits : FitsRoot A m h look T
   pub counted : inner ≡ inner_count T
@@ -43,8 +44,8 @@ pub record IsPromised (A : Arithmetic) (m : Model) (h look budget : ℕ) (mergin
   pub lean :
       All (λ n. All (λ k. IfInner n.tree (IfNarrowLeaf m h k (λ x. lower <ℤ x → x ≤ℤ n.cap)))
       (root_nodes A m h look T)) (root_nodes A m h look T)
-  -- where it merges, and the arithmetic is exact, no branch stands where two classes could be merged; else there is no
-  -- merge
+  -- where it merges, and the arithmetic is exact, no branch stands where two classes could be merged; else there is
+  -- no merge
   pub merged : merging ≡ true → IsTrue A.is_exact
       → All (λ n. IfBranch n.tree (λ i c. HasNoEquivalent m n.front)) (root_nodes A m h look T)
   pub unmerged : merging ≡ false → HasNoMerge T
@@ -53,7 +54,8 @@ pub record IsPromised (A : Arithmetic) (m : Model) (h look budget : ℕ) (mergin
   pub constants_below : constants ≤ℤ lower
   -- each branch stands where the rule may say
   pub ruled :
-      All (λ n. IfBranch n.tree (λ i c. IsPicked May (places_of A m h look n.front) i c)) (root_nodes A m h look T)
+      All (λ n. IfBranch n.tree (λ i c. IsPicked May (places_of A m h look n.front) i c))
+      (root_nodes A m h look T)
   -- the lower end is at least the worth of the policy of each full leaf
   pub full_leaves :
       All (λ n. IfLeaf n.tree (λ x. h ≤ n.front.stage → worth n.front ≤ℤ lower)) (root_nodes A m h look T)
@@ -61,15 +63,17 @@ pub record IsPromised (A : Arithmetic) (m : Model) (h look budget : ℕ) (mergin
 -- a search over the fronts of a model keeps them
 abbrev pub SearchKeepsItsPromises : Type 0
 SearchKeepsItsPromises =
-    (A : Arithmetic) (m : Model) (h look budget : ℕ) (merging : Bool) (constants lower : ℤ) (inner : ℕ) (T : BoundTree) →
+    (A : Arithmetic) (m : Model) (h look budget : ℕ) (merging : Bool) (constants lower : ℤ) (inner : ℕ)
+    (T : BoundTree) →
     ((May : List Place → ℕ → Bool) (worth : Front → ℤ) →
-    IsSearched (front_space A m h look merging (λ ps x. IsTrue (May ps x)) worth) budget constants lower inner T →
+    IsSearched (front_space A m h look merging (λ ps x. IsTrue (May ps x)) worth)
+    budget constants lower inner T →
     IsPromised A m h look budget merging (λ ps x. IsTrue (May ps x)) worth constants lower inner T)
 
 -- ---- its certificate
 
--- what stands in a certificate besides what the search found: as asked, in the mode and the unit of the horizon, with a
--- policy of the version whose worth is the lower end, and the greatest leaf as the upper end
+-- what stands in a certificate besides what the search found: as asked, in the mode and the unit of the horizon,
+-- with a policy of the version whose worth is the lower end, and the greatest leaf as the upper end
 pub record StatesSearch (m : Model) (h : ℕ) (asked : PlanOptions) (best : ℕ) (c : Certificate) : Type 0 where
   pub version : c.version ≡ asked.version
   pub horizon : c.horizon ≡ h
@@ -103,8 +107,8 @@ FullBoundsAreValues =
     (m : Model) (h look : ℕ) (F : Front) → IsModel m → IsFront m h F → F.stage ≡ h →
     front_bound (exact m.scales) m h look F ≡ policy_value m h (full_policy m F)
 
--- where each leaf that is not full is at most the lower end, and so is the value of the policy of each full one, every
--- leaf is
+-- where each leaf that is not full is at most the lower end, and so is the value of the policy of each full one,
+-- every leaf is
 abbrev pub LowTreesAreClosed : Type 0
 LowTreesAreClosed =
     (m : Model) → IsModel m → (h look : ℕ) (lower : ℤ) (T : BoundTree) → FitsRoot (exact m.scales) m h look T →

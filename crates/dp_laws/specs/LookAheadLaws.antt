@@ -57,11 +57,14 @@ ActionLookAheadScales =
 abbrev pub ExactLookAheadScales : Type 0
 ExactLookAheadScales =
     (m : Model) → IsModel m → (r look k : ℕ) (w : ℕ → ℕ) (ws vs : ℕ → Span) →
-    ((s : ℕ) → s < m.states → ws s ≡ point (pos (w s))) → ((s : ℕ) → s < m.states → vs s ≡ point (pos (k * w s))) →
+    ((s : ℕ) → s < m.states → ws s ≡ point (pos (w s))) → ((s : ℕ) → s < m.states
+    → vs s ≡ point (pos (k * w s))) →
     look_ahead_in (exact m.scales) m r vs look ≡ pos k *ℤ look_ahead_in (exact m.scales) m r ws look
 
 abbrev pub ExactActionLookAheadScales : Type 0
 ExactActionLookAheadScales =
     (m : Model) → IsModel m → (r look k a : ℕ) (w : ℕ → ℕ) (ws vs : ℕ → Span) →
-    ((s : ℕ) → s < m.states → ws s ≡ point (pos (w s))) → ((s : ℕ) → s < m.states → vs s ≡ point (pos (k * w s))) →
-    action_look_ahead_in (exact m.scales) m r vs a look ≡ pos k *ℤ action_look_ahead_in (exact m.scales) m r ws a look
+    ((s : ℕ) → s < m.states → ws s ≡ point (pos (w s))) → ((s : ℕ) → s < m.states
+    → vs s ≡ point (pos (k * w s))) →
+    action_look_ahead_in (exact m.scales) m r vs a look ≡ pos k *ℤ action_look_ahead_in (exact m.scales)
+    m r ws a look

@@ -15,7 +15,8 @@ use Rattle.dp_spec.specs.Merge.{AreEquivalent, class_members, class_total, kept_
 -- the classes: they may be 0.)
 abbrev pub MergingLosesNothing : Type 0
 MergingLosesNothing =
-    (m : Model) (h : ℕ) (F : Front) (i a b : ℕ) → IsFront m h F → F.stage < h → a < b → IsUnassigned i a F.agents →
+    (m : Model) (h : ℕ) (F : Front) (i a b : ℕ) → IsFront m h F → F.stage < h → a < b
+    → IsUnassigned i a F.agents →
     IsUnassigned i b F.agents → AreEquivalent m F i a b →
     (qs : List PolicyTree) → IsPolicyOf m h qs → KeepsFront m F qs →
     (new : List PolicyTree) × IsPolicyOf m h new × KeepsFront m (merged_front F i a b) new
@@ -38,7 +39,8 @@ abbrev pub MergingJoinsMembers : Type 0
 MergingJoinsMembers =
     (d : AgentFront) (a b : ℕ) → a < b →
     class_members (merged_agent a b d) a
-    ≡ filter (λ x. get_or d.class_of x 0 == a || get_or d.class_of x 0 == b) (range_with_len 0 (length d.class_of))
+    ≡ filter (λ x. get_or d.class_of x 0 == a || get_or d.class_of x 0 == b)
+    (range_with_len 0 (length d.class_of))
 
 -- .. and every other class keeps its own, under its old number those from b on
 abbrev pub MergingKeepsOtherMembers : Type 0

@@ -1,5 +1,5 @@
--- Why a certificate is not valid: a tree fits where nothing is wrong at any of its nodes, there is no reason exactly where
--- the certificate is valid, and the first reason names what the definitions give.
+-- Why a certificate is not valid: a tree fits where nothing is wrong at any of its nodes, there is no reason exactly
+-- where the certificate is valid, and the first reason names what the definitions give.
 use Rattle.std.specs.Prelude.{◌≡◌, ◌↔◌, ℕ, Some, None}
 use Rattle.dp_spec.specs.Model.{Model}
 use Rattle.dp_spec.specs.Mode.{IsWithinVersion}
@@ -28,4 +28,5 @@ NoReasonWhereValid =
 
 -- a reason is the first exactly where the definitions find what it says
 abbrev pub FirstReasonIsFound : Type 0
-FirstReasonIsFound = (m : Model) (c : Certificate) (r : Reason) → (first_reason m c ≡ Some r) ↔ IsFirstReason m c r
+FirstReasonIsFound = (m : Model) (c : Certificate) (r : Reason)
+    → (first_reason m c ≡ Some r) ↔ IsFirstReason m c r

@@ -21,7 +21,8 @@ use Rattle.dp_spec.specs.JointNumbers.{product}
 abbrev pub WideningIsWantOfRoom : Type 0
 WideningIsWantOfRoom =
     (m : Model) (h : ℕ) (F : Front) (i c a : ℕ) →
-    (widens m h F ≡ true) ↔ ((suc F.stage < h) × (has_room m h (advanced_front m (chosen_front F i c a)) ≡ false))
+    (widens m h F ≡ true) ↔ ((suc F.stage < h) × (has_room m h (advanced_front m (chosen_front F i c a))
+    ≡ false))
 
 -- the root front has room
 abbrev pub RootFrontHasRoom : Type 0
@@ -45,7 +46,8 @@ RootFrontKeepsApart = (m : Model) → KeepsHistoriesApart m (root_front m)
 
 abbrev pub ChoiceKeepsApart : Type 0
 ChoiceKeepsApart =
-    (m : Model) (F : Front) (i c a : ℕ) → KeepsHistoriesApart m F → KeepsHistoriesApart m (front_after_choice m F i c a)
+    (m : Model) (F : Front) (i c a : ℕ) → KeepsHistoriesApart m F
+    → KeepsHistoriesApart m (front_after_choice m F i c a)
 
 -- the single steps too
 abbrev pub ChoosingKeepsApart : Type 0
@@ -53,7 +55,8 @@ ChoosingKeepsApart =
     (m : Model) (F : Front) (i c a : ℕ) → KeepsHistoriesApart m F → KeepsHistoriesApart m (chosen_front F i c a)
 
 abbrev pub AdvancingKeepsApart : Type 0
-AdvancingKeepsApart = (m : Model) (F : Front) → KeepsHistoriesApart m F → KeepsHistoriesApart m (advanced_front m F)
+AdvancingKeepsApart = (m : Model) (F : Front) → KeepsHistoriesApart m F
+    → KeepsHistoriesApart m (advanced_front m F)
 
 -- a front that keeps histories apart has as many joint classes as there are joint histories of its stage
 abbrev pub ApartFrontsHaveAClassEach : Type 0
@@ -64,7 +67,8 @@ ApartFrontsHaveAClassEach =
 -- a front with room that keeps histories apart is within the limit of stage cells
 abbrev pub ApartFrontsAreWithinStageCells : Type 0
 ApartFrontsAreWithinStageCells =
-    (m : Model) (h : ℕ) (F : Front) → IsFront m h F → F.stage < h → KeepsHistoriesApart m F → has_room m h F ≡ true →
+    (m : Model) (h : ℕ) (F : Front) → IsFront m h F → F.stage < h → KeepsHistoriesApart m F
+    → has_room m h F ≡ true →
     m.states * joint_observations m ^ F.stage ≤ 2 ^ 22
 
 -- ---- the nodes of a tree that fits
@@ -79,13 +83,15 @@ NodesHaveRoom =
 -- where nothing may be merged each node's front keeps histories apart
 abbrev pub NodesKeepApartWithoutMerges : Type 0
 NodesKeepApartWithoutMerges =
-    (A : Arithmetic) (m : Model) (h look : ℕ) (T : BoundTree) → IsModel m → FitsRoot A m h look T → A.is_exact ≡ false →
+    (A : Arithmetic) (m : Model) (h look : ℕ) (T : BoundTree) → IsModel m → FitsRoot A m h look T
+    → A.is_exact ≡ false →
     All (λ n. KeepsHistoriesApart m n.front)
     (nodes_of A m h look 0 T (root_front m) (front_bound A m h look (root_front m)))
 
 -- within the limits of version 1 no node is wide
 abbrev pub NoNodeIsWideInVersionOne : Type 0
 NoNodeIsWideInVersionOne =
-    (A : Arithmetic) (m : Model) (h look : ℕ) (T : BoundTree) → IsModel m → IsWithinLimits m h → FitsRoot A m h look T →
+    (A : Arithmetic) (m : Model) (h look : ℕ) (T : BoundTree) → IsModel m → IsWithinLimits m h
+    → FitsRoot A m h look T →
     All (λ n. is_wide m h n.above n.front ≡ false)
     (nodes_of A m h look 0 T (root_front m) (front_bound A m h look (root_front m)))

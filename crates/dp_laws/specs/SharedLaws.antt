@@ -25,13 +25,15 @@ abbrev pub HistoriesReachTheirRows : Type 0
 HistoriesReachTheirRows =
     (b n h : ℕ) (stages : AgentRows) → AreAgentRows b n h stages → (t x : ℕ) → t < h → x < n ^ t →
     (row_of_history n stages t x < row_count stages t)
-    × (root_action (tree_at n (unfolded_tree stages 0) t x) ≡ (row_at stages t (row_of_history n stages t x)).action)
+    × (root_action (tree_at n (unfolded_tree stages 0) t x) ≡ (row_at stages t
+    (row_of_history n stages t x)).action)
 
 -- at each stage of a shared policy there is a joint row, and there are at most 2^22, so that no agent has more rows
 abbrev pub RowsAreFew : Type 0
 RowsAreFew =
     (m : Model) → IsModel m → (h : ℕ) (p : SharedPolicy) → IsSharedOf m h p → (t : ℕ) → t < h →
-    (0 < product (row_counts p t)) × (product (row_counts p t) ≤ 2 ^ 22) × ((i : ℕ) → get_or (row_counts p t) i 0 ≤ 2 ^ 22)
+    (0 < product (row_counts p t)) × (product (row_counts p t) ≤ 2 ^ 22)
+    × ((i : ℕ) → get_or (row_counts p t) i 0 ≤ 2 ^ 22)
 
 -- the cells of the stages of a shared policy pass no limit
 abbrev pub SharedCellsPassNoLimit : Type 0
@@ -49,14 +51,16 @@ ExactSharedWorthIsTheValue =
 abbrev pub SharedWorthEnclosesTheValue : Type 0
 SharedWorthEnclosesTheValue =
     (m : Model) → IsModel m → (e : Bool) (h : ℕ) (p : SharedPolicy) → IsSharedOf m h p →
-    (enclosure e).Earns (value_scale m h) (policy_value m h (unfolded p)) (shared_worth_in (arithmetic e m.scales) m h p)
+    (enclosure e).Earns (value_scale m h) (policy_value m h (unfolded p))
+    (shared_worth_in (arithmetic e m.scales) m h p)
 
 -- ---- plain forms
 
 -- within the limit of stage cells the plain form of a joint policy is a shared policy, is plain, and means the policy
 abbrev pub PlainFormMeansThePolicy : Type 0
 PlainFormMeansThePolicy =
-    (m : Model) (h : ℕ) (qs : List PolicyTree) → IsModel m → 0 < h → m.states * joint_observations m ^ (h - 1) ≤ 2 ^ 22 →
+    (m : Model) (h : ℕ) (qs : List PolicyTree) → IsModel m → 0 < h
+    → m.states * joint_observations m ^ (h - 1) ≤ 2 ^ 22 →
     IsPolicyOf m h qs →
     IsSharedOf m h (plain_form m h qs) × IsPlain m h (plain_form m h qs) × (unfolded (plain_form m h qs) ≡ qs)
 
@@ -73,8 +77,8 @@ PlainWorthIsForwardWorth =
 
 -- ---- shared forms
 
--- the shared form of the joint policy that the rows of a shared policy mean is a shared policy, means the same, and is
--- a shared form
+-- the shared form of the joint policy that the rows of a shared policy mean is a shared policy, means the same, and
+-- is a shared form
 abbrev pub SharedFormMeansThePolicy : Type 0
 SharedFormMeansThePolicy =
     (m : Model) (h : ℕ) (p : SharedPolicy) → IsModel m → 0 < h → IsSharedOf m h p →

@@ -1,4 +1,5 @@
--- That no number of either mode leaves its type: in exact mode by the mode's condition, in outward mode by the limits.
+-- That no number of either mode leaves its type: in exact mode by the mode's condition, in outward mode by the
+-- limits.
 use Rattle.std.specs.Prelude.{ℕ, ◌*◌, ◌-◌, ◌^◌, ◌<◌, ◌≤◌, ◌≡◌, Bool, false, List}
 use Rattle.dp_spec.specs.Arithmetic.{arithmetic}
 use Rattle.dp_spec.specs.Calls.{calls_in}
@@ -45,7 +46,8 @@ ModeAllowsLookAhead =
 abbrev pub HistoryWeightsAreWithinBound : Type 0
 HistoryWeightsAreWithinBound =
     (m : Model) → IsModel m → (h : ℕ) → 0 < h → h ≤ 24 → (e : Bool) → e ≡ is_exact_mode m h →
-    (act : List ℕ → ℕ) (t : ℕ) (H : List ℕ) → t ≤ h → IsActing m t act → IsJointHistory (joint_observations m) t H →
+    (act : List ℕ → ℕ) (t : ℕ) (H : List ℕ) → t ≤ h → IsActing m t act
+    → IsJointHistory (joint_observations m) t H →
     AreWeights e m t (history_weight_in (arithmetic e m.scales) m act H)
 
 -- the worth of a shared policy is computed from weights within the sum bound, and can be added up
@@ -69,5 +71,6 @@ ModeAllowsWorth =
 abbrev pub ModeAllowsRefining : Type 0
 ModeAllowsRefining =
     (m : Model) → IsModel m → (h : ℕ) → 0 < h → h ≤ 24 → (e : Bool) → e ≡ is_exact_mode m h →
-    (F : Front) → IsFront m h F → F.stage < h → (e ≡ false → m.states * joint_observations m ^ F.stage ≤ 2 ^ 22) →
+    (F : Front) → IsFront m h F → F.stage < h → (e ≡ false → m.states * joint_observations m ^ F.stage
+    ≤ 2 ^ 22) →
     CanRefine (arithmetic e m.scales) m h F

@@ -35,4 +35,5 @@ PathsOfValidTreesAreShort = (m : Model) (c : Certificate) → IsValid m c → de
 -- each branch of a tree that fits the root front has from 1 to 256 children
 abbrev pub FittingBranchesAreSmall : Type 0
 FittingBranchesAreSmall =
-    (A : Arithmetic) (m : Model) (h look : ℕ) (T : BoundTree) → IsModel m → FitsRoot A m h look T → HasSmallBranches T
+    (A : Arithmetic) (m : Model) (h look : ℕ) (T : BoundTree) → IsModel m → FitsRoot A m h look T
+    → HasSmallBranches T

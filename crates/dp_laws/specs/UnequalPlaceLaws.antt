@@ -1,5 +1,5 @@
--- The places at which two classes are compared: the first at which they differ, and that there is none exactly where the
--- classes are equivalent.
+-- The places at which two classes are compared: the first at which they differ, and that there is none exactly where
+-- the classes are equivalent.
 use Rattle.std.specs.Prelude.{◌≡◌, ◌↔◌, ℕ, Some, None}
 use Rattle.dp_spec.specs.Model.{Model}
 use Rattle.dp_spec.specs.Front.{Front}
@@ -20,7 +20,8 @@ NoneIsUnequalWhereEquivalent =
 -- two least pairs are the same
 abbrev pub LeastPairIsUnique : Type 0
 LeastPairIsUnique =
-    (m : Model) (F : Front) (i c c' d d' : ℕ) → IsLeastPair m F i c c' → IsLeastPair m F i d d' → (c ≡ d) × (c' ≡ d')
+    (m : Model) (F : Front) (i c c' d d' : ℕ) → IsLeastPair m F i c c' → IsLeastPair m F i d d' → (c ≡ d)
+    × (c' ≡ d')
 
 -- where an agent has no pair, no two of its classes are one
 abbrev pub NoPairIsNone : Type 0

@@ -24,15 +24,18 @@ grown_sum : (n : ℕ) (f g : ℕ → Span) (c : ℤ) → ((i : ℕ) → i < n �
     → (span_sum n f).high ≡ (span_sum n g).high *ℤ c
 grown_sum zero f g c h = sym (zero-*ℤ c)
 grown_sum (suc n) f g c h =
-    rw (grown_sum n f g c (λ i p. h i (omega arith)), h n (omega arith)) (into_sum (span_sum n g).high (g n).high c)
+    rw (grown_sum n f g c (λ i p. h i (omega arith)), h n (omega arith))
+    (into_sum (span_sum n g).high (g n).high c)
 
 -- a reward is so many times that of the last step
-grown_reward : (A : Arithmetic) (C : Calls) (m : Model) (h k : ℕ) → IsTabulating A C m h k → (r : ℕ) (w : Span) (a s : ℕ)
+grown_reward : (A : Arithmetic) (C : Calls) (m : Model) (h k : ℕ) → IsTabulating A C m h k
+    → (r : ℕ) (w : Span) (a s : ℕ)
     → (state_reward A m r w a s).high ≡ (state_reward A m 0 w a s).high *ℤ pos (k ^ r)
 unfolding state_reward
 grown_reward A C m h k is r w a s =
     grown_sum m.states (arrival_reward A m r w a s) (arrival_reward A m 0 w a s) (pos (k ^ r)) (λ t p.
-    grown_sum (joint_observations m) (reward_part A m r w a s t) (reward_part A m 0 w a s t) (pos (k ^ r)) (λ o q.
+    grown_sum (joint_observations m) (reward_part A m r w a s t) (reward_part A m 0 w a s t) (pos (k ^ r))
+    (λ o q.
     is.grows (A.chance w (trans_at m a s t) (obs_at m a t o)) (reward_at m a s t o) r))
 
 -- each row can be computed
@@ -48,7 +51,8 @@ row_allowed A C m h k is r lt = record {
 -- all parts of a reward of the last step
 last_room : (A : Arithmetic) (C : Calls) (m : Model) (h k : ℕ) → IsTabulating A C m h k → 0 < h → (a s : ℕ)
     → a < joint_actions m → s < m.states
-    → nat_sum m.states (λ t. nat_sum (joint_observations m) (λ o. size (reward_part A m 0 A.one a s t o))) < 2 ^ 127
+    → nat_sum m.states (λ t. nat_sum (joint_observations m) (λ o. size (reward_part A m 0 A.one a s t o)))
+    < 2 ^ 127
 unfolding table_reward_size
 last_room A C m h k is some a s pa ps = let all = is.can.add 0 a s some pa ps in omega arith
 
@@ -76,16 +80,21 @@ next_power p k r e = rw e (sym (pow-suc k r))
 -- ---- lists of rows
 
 -- an element that is read is the one at its place
-pub element_is : {X : Type 0} (xs : List X) (i : ℕ) (x d : X) → i < length xs → x ≡ get_or xs i x → x ≡ get_or xs i d
+pub element_is : {X : Type 0} (xs : List X) (i : ℕ) (x d : X) → i < length xs → x ≡ get_or xs i x
+    → x ≡ get_or xs i d
 element_is xs i x d lt e = e ∙ get_or_default xs i x d lt
 
 -- what is appended is the last
 last_at : (xs ys : List (List ℤ)) (n : ℕ) (x : List ℤ) → ys ≡ xs ++ x ∷ [] → length xs ≡ n → get_or ys n [] ≡ x
-last_at xs ys n x e len = rw e (subst (λ (k : ℕ). get_or (xs ++ x ∷ []) k [] ≡ x) len (get_or-append_seam xs x [] []))
+last_at xs ys n x e len = rw e (subst (λ (k : ℕ). get_or (xs ++ x ∷ []) k [] ≡ x) len
+    (get_or-append_seam xs x [] []))
 
 -- what holds of each row holds of one more
 pub one_more_row : (P : ℕ → List ℤ → Type 0) (xs ys : List (List ℤ)) (n : ℕ) (x : List ℤ) → ys ≡ xs ++ x ∷ []
-    → length xs ≡ n → ((r : ℕ) → r < n → P r (get_or xs r [])) → P n x → (r : ℕ) → r < suc n → P r (get_or ys r [])
+    → length xs ≡ n → ((r : ℕ) → r < n → P r (get_or xs r [])) → P n x → (r : ℕ) → r < suc n
+    → P r (get_or ys r [])
 one_more_row P xs ys n x e len before here r lt =
-    ⊎_elim (λ is. subst (λ (k : ℕ). P k (get_or ys k [])) (sym is) (subst (P n) (sym (last_at xs ys n x e len)) here))
-    (λ less. subst (P r) (sym (rw e (get_or_append_left xs (x ∷ []) [] r (rw len less)))) (before r less)) (last_or_before r n lt)
+    ⊎_elim (λ is. subst (λ (k : ℕ). P k (get_or ys k [])) (sym is)
+    (subst (P n) (sym (last_at xs ys n x e len)) here))
+    (λ less. subst (P r) (sym (rw e (get_or_append_left xs (x ∷ []) [] r (rw len less)))) (before r less))
+    (last_or_before r n lt)

@@ -25,9 +25,11 @@ exact_grows m w r rest =
     let k = step_scale m ^ rest in
     regrouped w.high r d (m.scales.trans * m.scales.obs * m.scales.discount) rest
   where
-    regrouped : (w r : ℤ) (d k rest : ℕ) → w *ℤ (r *ℤ pos (d * k ^ rest)) ≡ w *ℤ (r *ℤ pos (d * k ^ 0)) *ℤ pos (k ^ rest)
+    regrouped : (w r : ℤ) (d k rest : ℕ) → w *ℤ (r *ℤ pos (d * k ^ rest))
+        ≡ w *ℤ (r *ℤ pos (d * k ^ 0)) *ℤ pos (k ^ rest)
     regrouped w r d k rest =
-        rw (pow-zero k) (by_ring (v w ⊗ (v r ⊗ nat (d * k ^ rest))) (v w ⊗ (v r ⊗ nat (d * 1)) ⊗ nat (k ^ rest)) (omega arith))
+        rw (pow-zero k) (by_ring (v w ⊗ (v r ⊗ nat (d * k ^ rest))) (v w ⊗ (v r ⊗ nat (d * 1)) ⊗ nat (k ^ rest))
+        (omega arith))
 
 times_one : (x : ℤ) → x *ℤ pos 1 ≡ x
 times_one x = omega (arith, ints)

@@ -28,7 +28,8 @@ same_sum k f next total is e none = rw add-one (skip_zero k f next (is ∙ e) no
 
 -- ---- products and sums of two
 
-pub times_fits : (x y a b v : ℤ) → x ≡ a → y ≡ b → a *ℤ b ≡ v → unsigned_abs v < 2 ^ 127 → FitsSigned w128 (x *ℤ y)
+pub times_fits : (x y a b v : ℤ) → x ≡ a → y ≡ b → a *ℤ b ≡ v → unsigned_abs v < 2 ^ 127
+    → FitsSigned w128 (x *ℤ y)
 times_fits x y a b v e f is small = rw (e, f, is) (fits_signed_from_abs w128 v small)
 
 pub times_is : (x y a b v : ℤ) → x ≡ a → y ≡ b → a *ℤ b ≡ v → unsigned_abs v < 2 ^ 127
@@ -38,7 +39,8 @@ times_is x y a b v e f is small = rw (e, f) (read_back _ _ is small)
 pub plus_fits : (x y a b : ℤ) → x ≡ a → y ≡ b → unsigned_abs (a +ℤ b) < 2 ^ 127 → FitsSigned w128 (x +ℤ y)
 plus_fits x y a b e f small = rw (e, f) (fits_signed_from_abs w128 (a +ℤ b) small)
 
-pub plus_is : (x y a b : ℤ) → x ≡ a → y ≡ b → unsigned_abs (a +ℤ b) < 2 ^ 127 → to_z w128 (of_z w128 (x +ℤ y)) ≡ a +ℤ b
+pub plus_is : (x y a b : ℤ) → x ≡ a → y ≡ b → unsigned_abs (a +ℤ b) < 2 ^ 127
+    → to_z w128 (of_z w128 (x +ℤ y)) ≡ a +ℤ b
 plus_is x y a b e f small = rw (e, f) (read_back _ _ refl small)
 
 -- ---- the running greatest

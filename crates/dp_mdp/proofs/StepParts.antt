@@ -35,9 +35,11 @@ none_gained : (A : Arithmetic) → KeepsZero A → (w : Span) (p z : ℕ) (x : �
 none_gained A k w p z x r e = rw (e, k.no_next w z, k.gain x r) refl
 
 -- a next state of chance 0 earns nothing
-pub no_arrival : (A : Arithmetic) → KeepsZero A → (m : Model) (r : ℕ) (w : Span) (a s t : ℕ) → trans_at m a s t ≡ 0
+pub no_arrival : (A : Arithmetic) → KeepsZero A → (m : Model) (r : ℕ) (w : Span) (a s t : ℕ)
+    → trans_at m a s t ≡ 0
     → arrival_reward A m r w a s t ≡ nothing
-no_arrival A z m r w a s t e = span_sum_none (joint_observations m) (reward_part A m r w a s t) (λ o p. none_gained A z w (trans_at m a s t) (obs_at m a t o) (reward_at m a s t o) r e)
+no_arrival A z m r w a s t e = span_sum_none (joint_observations m) (reward_part A m r w a s t)
+    (λ o p. none_gained A z w (trans_at m a s t) (obs_at m a t o) (reward_at m a s t o) r e)
 
 -- and carries nothing
 pub no_carry : (A : Arithmetic) → KeepsZero A → (v : ℤ) (p : ℕ) → p ≡ 0 → A.carry v p ≡ pos 0
@@ -45,20 +47,25 @@ no_carry A z v p e = rw (e, z.carry v) refl
 
 -- ---- sizes of partial sums
 
-module _ (A : Arithmetic) (C : Calls) (m : Model) (r : ℕ) (w : Span) (a s : ℕ) (h : AllowsReward A C m r w a s) where
+module _ (A : Arithmetic) (C : Calls) (m : Model) (r : ℕ) (w : Span) (a s : ℕ)
+    (h : AllowsReward A C m r w a s) where
   -- the first parts of one next state
   pub arrival_part_fits : (t k : ℕ) → t < m.states → k ≤ joint_observations m
       → size (span_sum k (reward_part A m r w a s t)) < 2 ^ 127
   arrival_part_fits t k p le =
       let part = span_sum_part k (joint_observations m) (reward_part A m r w a s t) le in
-      let one = nat_sum_at m.states (λ t. nat_sum (joint_observations m) (λ o. size (reward_part A m r w a s t o))) t p in
+      let one = nat_sum_at m.states (λ t. nat_sum (joint_observations m)
+      (λ o. size (reward_part A m r w a s t o)))
+      t p in
       let all = h.add in omega arith
 
   -- the first next states
   pub state_part_fits : (k : ℕ) → k ≤ m.states → size (span_sum k (arrival_reward A m r w a s)) < 2 ^ 127
   state_part_fits k le =
       let part = span_sum_part k m.states (arrival_reward A m r w a s) le in
-      let each = nat_sum_le m.states (λ t. size (arrival_reward A m r w a s t)) (λ t. nat_sum (joint_observations m) (λ o. size (reward_part A m r w a s t o))) (λ t p. span_sum_size (joint_observations m) (reward_part A m r w a s t)) in
+      let each = nat_sum_le m.states (λ t. size (arrival_reward A m r w a s t))
+      (λ t. nat_sum (joint_observations m) (λ o. size (reward_part A m r w a s t o)))
+      (λ t p. span_sum_size (joint_observations m) (reward_part A m r w a s t)) in
       let all = h.add in omega arith
 
 -- the first parts of a later value
@@ -79,7 +86,8 @@ unfolding state_reward
 sum_is_reward A m r w a s k total is all = rw (is, all) refl
 
 -- what is carried
-pub carried_is : (A : Arithmetic) (x v v2 : ℤ) (p p2 : ℕ) → x ≡ A.carry v p → v ≡ v2 → p ≡ p2 → x ≡ A.carry v2 p2
+pub carried_is : (A : Arithmetic) (x v v2 : ℤ) (p p2 : ℕ) → x ≡ A.carry v p → v ≡ v2 → p ≡ p2
+    → x ≡ A.carry v2 p2
 carried_is A x v v2 p p2 e f g = rw (sym f, sym g) e
 
 -- a later value is the sum over all next states
@@ -90,16 +98,20 @@ sum_is_later A m r a s k total is all = rw (is, all) refl
 
 -- ---- the value of a joint action
 
-module _ (A : Arithmetic) (C : Calls) (m : Model) (r : ℕ) (power : ℤ) (h : AllowsRow A C m r power) (a s : ℕ) (pa : a < joint_actions m) (ps : s < m.states) where
+module _ (A : Arithmetic) (C : Calls) (m : Model) (r : ℕ) (power : ℤ) (h : AllowsRow A C m r power) (a s : ℕ)
+    (pa : a < joint_actions m) (ps : s < m.states) where
   -- its reward from that of the last step
-  pub now_is : (x : ℤ) → x ≡ (state_reward A m 0 A.one a s).high → x *ℤ power ≡ (state_reward A m r A.one a s).high
+  pub now_is : (x : ℤ) → x ≡ (state_reward A m 0 A.one a s).high
+      → x *ℤ power ≡ (state_reward A m r A.one a s).high
   now_is x e = rw e (sym (h.reward a s pa ps))
 
   pub now_small : unsigned_abs (state_reward A m r A.one a s).high < 2 ^ 127
   unfolding state_reward table_reward_size
   now_small =
       let first = span_sum_size m.states (arrival_reward A m r A.one a s) in
-      let each = nat_sum_le m.states (λ t. size (arrival_reward A m r A.one a s t)) (λ t. nat_sum (joint_observations m) (λ o. size (reward_part A m r A.one a s t o))) (λ t p. span_sum_size (joint_observations m) (reward_part A m r A.one a s t)) in
+      let each = nat_sum_le m.states (λ t. size (arrival_reward A m r A.one a s t))
+      (λ t. nat_sum (joint_observations m) (λ o. size (reward_part A m r A.one a s t o)))
+      (λ t p. span_sum_size (joint_observations m) (reward_part A m r A.one a s t)) in
       let all = h.add a s pa ps in omega arith
 
   -- it fits

@@ -20,13 +20,16 @@ value_le_computed : (e : Bool) (m : Model) → IsModel m → (r s : ℕ) (qs : L
     (backward_value m r s qs *ℤ pos ((enclosure e).unit (state_scale m r)))
     ≤ℤ (mdp_table_in (arithmetic e m.scales) m r s *ℤ pos (state_scale m r))
 value_le_computed e m is r s qs state policy =
-    let true_table = mul_le_right ((enclosure e).unit (state_scale m r)) _ _ (value_le_table m is r s qs state policy) in
+    let true_table = mul_le_right ((enclosure e).unit (state_scale m r)) _ _
+    (value_le_table m is r s qs state policy) in
     let above = (mode_quantities m is e).tables r s in
-    zle_trans _ _ _ true_table ((model_arithmetic_sound m is e).reads (state_scale m r) (mdp_table m r s) _ above)
+    zle_trans _ _ _ true_table ((model_arithmetic_sound m is e).reads (state_scale m r) (mdp_table m r s)
+    _ above)
 
 pub table_bounds : (e : Bool) (m : Model) → IsModel m → (h : ℕ) (rows : List (List ℤ))
     → IsTable (arithmetic e m.scales) m h rows → BoundsEachValue e m h rows
 table_bounds e m is h rows table r s qs steps state policy =
     subst
-    (λ (v : ℤ). (backward_value m r s qs *ℤ pos ((enclosure e).unit (state_scale m r))) ≤ℤ (v *ℤ pos (state_scale m r)))
+    (λ (v : ℤ). (backward_value m r s qs *ℤ pos ((enclosure e).unit (state_scale m r)))
+    ≤ℤ (v *ℤ pos (state_scale m r)))
     (sym ((table.each r steps).values s state)) (value_le_computed e m is r s qs state policy)

@@ -25,4 +25,5 @@ pub record AllowsReward (A : Arithmetic) (C : Calls) (m : Model) (r : ℕ) (w : 
   pub chance : (t o : ℕ) → IsStep m a s t o → C.Chance w (trans_at m a s t) (obs_at m a t o)
   pub gain : (t o : ℕ) → IsStep m a s t o
       → C.Gain (A.chance w (trans_at m a s t) (obs_at m a t o)) (reward_at m a s t o) r
-  pub add : nat_sum m.states (λ t. nat_sum (joint_observations m) (λ o. size (reward_part A m r w a s t o))) < 2 ^ 127
+  pub add : nat_sum m.states (λ t. nat_sum (joint_observations m) (λ o. size (reward_part A m r w a s t o)))
+      < 2 ^ 127

@@ -1,4 +1,5 @@
--- The rows of a table, as contracts see them: one for each number of steps that are left, with a value for each state.
+-- The rows of a table, as contracts see them: one for each number of steps that are left, with a value for each
+-- state.
 use Rattle.std.specs.Prelude.{ℕ, ◌*◌, ◌^◌, ◌<◌, ◌≤◌, ◌≡◌, Bool, ℤ, pos, ◌*ℤ◌, ◌≤ℤ◌, List, [], length, get_or}
 use Rattle.dp_spec.specs.Model.{Model, step_scale}
 use Rattle.dp_spec.specs.PolicyTree.{IsPolicyOf, PolicyTree}
@@ -25,9 +26,10 @@ pub record IsTable (A : Arithmetic) (m : Model) (h : ℕ) (rows : List (List ℤ
 abbrev pub state_scale : Model → ℕ → ℕ
 state_scale m r = m.scales.reward * step_scale m ^ r
 
--- No joint policy of r steps, r at most h, is worth more from a state than the table says in the unit of the mode (which
--- is the scale itself in exact mode, and 10^9 in outward mode).
+-- No joint policy of r steps, r at most h, is worth more from a state than the table says in the unit of the mode
+-- (which is the scale itself in exact mode, and 10^9 in outward mode).
 abbrev pub BoundsEachValue : Bool → Model → ℕ → List (List ℤ) → Type 0
 BoundsEachValue e m h rows =
     (r s : ℕ) (qs : List PolicyTree) → r ≤ h → s < m.states → IsPolicyOf m r qs →
-    (backward_value m r s qs *ℤ pos ((enclosure e).unit (state_scale m r))) ≤ℤ (value_at rows r s *ℤ pos (state_scale m r))
+    (backward_value m r s qs *ℤ pos ((enclosure e).unit (state_scale m r)))
+    ≤ℤ (value_at rows r s *ℤ pos (state_scale m r))

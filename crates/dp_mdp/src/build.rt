@@ -155,7 +155,8 @@ fn reward_now<A: Arith>(
     requires sizes { AllowsRow (A.operations arith.now) (A.calls arith.now) model.now.model rest power }
     requires action { action < joint_actions model.now.model }
     requires state { state < model.now.model.states }
-    ensures { result ≡ (state_reward (A.operations arith.now) model.now.model rest (A.operations arith.now).one action state).high }
+    ensures { result
+        ≡ (state_reward (A.operations arith.now) model.now.model rest (A.operations arith.now).one action state).high }
 {
     last_reward(rewards, action, state) * power
 }
@@ -213,7 +214,8 @@ fn carried<A: Arith>(
     requires state { state < model.now.model.states }
     requires next { next < model.now.model.states }
     requires chance { chance ≡ trans_at model.now.model action state next }
-    ensures { result ≡ (A.operations arith.now).carry (mdp_table_in (A.operations arith.now) model.now.model rest next)
+    ensures { result ≡ (A.operations arith.now).carry
+        (mdp_table_in (A.operations arith.now) model.now.model rest next)
         (trans_at model.now.model action state next) }
 {
     arith.carry(row[next as usize], chance)

@@ -35,7 +35,8 @@ impl MdpTable {
     /// only error is want of memory.
     pub fn build(alloc: Global, model: &Model, fit: Fit) -> Result<MdpTable, Memory>
         requires fit { IsTrueFit model.now.model fit.horizon fit.exact fit.unit }
-        ensures table { IfOk result (IsTable (arithmetic fit.exact model.now.model.scales) model.now.model fit.horizon) }
+        ensures table { IfOk result
+            (IsTable (arithmetic fit.exact model.now.model.scales) model.now.model fit.horizon) }
         ensures sound { IfOk result (BoundsEachValue fit.exact model.now.model fit.horizon) }
     {
         model.invariant();

@@ -19,7 +19,8 @@ unfolding reward_factor
 no_step c = rw pow-zero (omega arith)
 
 -- each step left multiplies it by the scale of a step
-pub one_step : (c : Scales) (k : ℕ) → reward_factor c (suc k) ≡ reward_factor c k * (c.trans * c.obs * c.discount)
+pub one_step : (c : Scales) (k : ℕ) → reward_factor c (suc k)
+    ≡ reward_factor c k * (c.trans * c.obs * c.discount)
 unfolding reward_factor
 one_step c k = regroup c.discount (c.trans * c.obs * c.discount) _ _ (pow-suc (c.trans * c.obs * c.discount) k)
   where
@@ -31,13 +32,15 @@ pub one_step_mod : (c : Scales) (k x a b d n : ℕ) → x ≡ reward_factor c k 
     → d ≡ c.discount → (x * ((a * b * d) % n)) % n ≡ reward_factor c (k + 1) % n
 one_step_mod c k x a b d n e p q r =
     let step : a * b * d ≡ c.trans * c.obs * c.discount = cc in
-    rw (e, step, add-one) (sym (mul-mod (reward_factor c k) (c.trans * c.obs * c.discount) n) ∙ ap (λ (x : ℕ). x % n) (sym (one_step c k)))
+    rw (e, step, add-one) (sym (mul-mod (reward_factor c k) (c.trans * c.obs * c.discount) n)
+    ∙ ap (λ (x : ℕ). x % n) (sym (one_step c k)))
 
 -- it is at least 1
 pub some_factor : (c : Scales) → AreInRange c → (k : ℕ) → 0 < reward_factor c k
 some_factor c are zero = let e = no_step c in let some = are.discount.0 in omega arith
 some_factor c are (suc k) =
-    let rest = some_factor c are k in rw (one_step c k) (mul-pos rest (mul-pos (mul-pos are.trans.0 are.obs.0) are.discount.0))
+    let rest = some_factor c are k in rw (one_step c k) (mul-pos rest
+    (mul-pos (mul-pos are.trans.0 are.obs.0) are.discount.0))
 
 -- the first place of the table
 pub first_factor : (c : Scales) → AreInRange c → (x : ℕ) → x ≡ c.discount → x ≡ reward_factor c 0 % 2 ^ 128
@@ -47,7 +50,8 @@ first_factor c are x e =
     e ∙ sym (no_step c) ∙ sym (mod-eq_of_lt small)
 
 -- a place of the table before step n + 1 is written
-pub one_more_factor : (c : Scales) (n : ℕ) (factors : List ℕ) (f : ℕ) → HoldsFactors c n factors → n < length factors
+pub one_more_factor : (c : Scales) (n : ℕ) (factors : List ℕ) (f : ℕ) → HoldsFactors c n factors
+    → n < length factors
     → f ≡ reward_factor c n % 2 ^ 128 → HoldsFactors c (n + 1) (slice_set factors n f)
 one_more_factor c n factors f holds inside e = grind (arith, common_steps)
 
@@ -93,21 +97,25 @@ factor_at c are rest place x room at e =
 -- a factor of a number that is not 0 is no greater than the product
 factor_fits : (x : ℤ) (n : ℕ) → (x ≡ pos 0 → ⊥) → unsigned_abs (x *ℤ pos n) < 2 ^ 127 → n < 2 ^ 127
 factor_fits (pos zero) n some room = absurd (some refl)
-factor_fits (pos (suc k)) n some room = let e : unsigned_abs (pos (suc k) *ℤ pos n) ≡ suc k * n = unsigned_abs-mul (pos (suc k)) (pos n) in omega arith
-factor_fits (negsuc k) n some room = let e : unsigned_abs (negsuc k *ℤ pos n) ≡ suc k * n = unsigned_abs-mul (negsuc k) (pos n) in omega arith
+factor_fits (pos (suc k)) n some room = let e : unsigned_abs (pos (suc k) *ℤ pos n)
+    ≡ suc k * n = unsigned_abs-mul (pos (suc k)) (pos n) in omega arith
+factor_fits (negsuc k) n some room = let e : unsigned_abs (negsuc k *ℤ pos n)
+    ≡ suc k * n = unsigned_abs-mul (negsuc k) (pos n) in omega arith
 
 -- so the product in the signed type is the true one
 pub scaled_is : (x : ℤ) (n : ℕ) → SFits w128 x → (of_z w128 x ≡ 0 → ⊥) → unsigned_abs (x *ℤ pos n) < 2 ^ 127
     → to_z w128 (of_z w128 (to_z w128 (of_z w128 x) *ℤ to_z w128 n)) ≡ x *ℤ pos n
 scaled_is x n fits some room =
     let product : SFits w128 (x *ℤ pos n) = fits_signed_from_abs w128 (x *ℤ pos n) room in
-    rw (to_z-of_z w128 x fits, to_z_pos w128 n (factor_fits x n (λ e. some (ap (of_z w128) e)) room)) (to_z-of_z w128 _ product)
+    rw (to_z-of_z w128 x fits, to_z_pos w128 n (factor_fits x n (λ e. some (ap (of_z w128) e)) room))
+    (to_z-of_z w128 _ product)
 
 -- a value times a chance and the gain fits where the product with a scale does
 pub carry_fits : (x : ℤ) (p o g q : ℕ) → 0 < o → q ≡ p * g → unsigned_abs (x *ℤ pos (p * o * g)) < 2 ^ 127
     → unsigned_abs (x *ℤ pos q) < 2 ^ 127
 carry_fits x p o g q some e room =
-    let whole : unsigned_abs (x *ℤ pos (p * o * g)) ≡ unsigned_abs x * (p * o * g) = unsigned_abs-mul x (pos (p * o * g)) in
+    let whole : unsigned_abs (x *ℤ pos (p * o * g)) ≡ unsigned_abs x * (p * o * g) = unsigned_abs-mul x
+    (pos (p * o * g)) in
     let part : unsigned_abs (x *ℤ pos q) ≡ unsigned_abs x * q = unsigned_abs-mul x (pos q) in
     let grown = le-mul_of_pos_right (unsigned_abs x * (p * g)) some in
     let swapped = ap (λ (k : ℕ). unsigned_abs x * k) (mul_right_comm p g o) in
@@ -115,19 +123,24 @@ carry_fits x p o g q some e room =
     omega arith
 
 -- the product in this order is the true one
-pub carry_is : (x : ℤ) (p o g q : ℕ) (y f : ℤ) → y ≡ x *ℤ pos q → q ≡ p * g → f ≡ pos o → y *ℤ f ≡ x *ℤ pos (p * o * g)
+pub carry_is : (x : ℤ) (p o g q : ℕ) (y f : ℤ) → y ≡ x *ℤ pos q → q ≡ p * g → f ≡ pos o
+    → y *ℤ f ≡ x *ℤ pos (p * o * g)
 carry_is x p o g q y f part e is =
-    ap (λ (y : ℤ). y *ℤ f) part ∙ ap (λ (f : ℤ). x *ℤ pos q *ℤ f) is ∙ zmul_assoc x (pos q) (pos o) ∙ ap (λ (k : ℕ). x *ℤ pos k) (ap (λ (k : ℕ). k * o) e ∙ mul_right_comm p g o)
+    ap (λ (y : ℤ). y *ℤ f) part ∙ ap (λ (f : ℤ). x *ℤ pos q *ℤ f) is ∙ zmul_assoc x (pos q) (pos o)
+    ∙ ap (λ (k : ℕ). x *ℤ pos k) (ap (λ (k : ℕ). k * o) e ∙ mul_right_comm p g o)
 
 -- so it fits
 pub carry_all_fits : (x : ℤ) (p o g q : ℕ) (y f : ℤ) → y ≡ x *ℤ pos q → q ≡ p * g → f ≡ pos o
     → unsigned_abs (x *ℤ pos (p * o * g)) < 2 ^ 127 → unsigned_abs (y *ℤ f) < 2 ^ 127
-carry_all_fits x p o g q y f part e is room = subst (λ (z : ℤ). unsigned_abs z < 2 ^ 127) (sym (carry_is x p o g q y f part e is)) room
+carry_all_fits x p o g q y f part e is room = subst (λ (z : ℤ). unsigned_abs z < 2 ^ 127)
+    (sym (carry_is x p o g q y f part e is)) room
 
 -- a weight times a reward fits where the product with the factor does
-pub part_fits : (x y : ℤ) (n : ℕ) → 0 < n → unsigned_abs (x *ℤ (y *ℤ pos n)) < 2 ^ 127 → unsigned_abs (x *ℤ y) < 2 ^ 127
+pub part_fits : (x y : ℤ) (n : ℕ) → 0 < n → unsigned_abs (x *ℤ (y *ℤ pos n)) < 2 ^ 127
+    → unsigned_abs (x *ℤ y) < 2 ^ 127
 part_fits x y n some room =
-    let whole : unsigned_abs (x *ℤ (y *ℤ pos n)) ≡ unsigned_abs x * (unsigned_abs y * n) = unsigned_abs-mul x (y *ℤ pos n) ∙ ap (λ (k : ℕ). unsigned_abs x * k) (unsigned_abs-mul y (pos n)) in
+    let whole : unsigned_abs (x *ℤ (y *ℤ pos n)) ≡ unsigned_abs x * (unsigned_abs y * n) = unsigned_abs-mul x
+    (y *ℤ pos n) ∙ ap (λ (k : ℕ). unsigned_abs x * k) (unsigned_abs-mul y (pos n)) in
     let part : unsigned_abs (x *ℤ y) ≡ unsigned_abs x * unsigned_abs y = unsigned_abs-mul x y in
     let grown = le-mul_of_pos_right (unsigned_abs x * unsigned_abs y) some in
     let regroup = mul_assoc (unsigned_abs x) (unsigned_abs y) n in
@@ -136,4 +149,5 @@ part_fits x y n some room =
 -- and so does what is multiplied last
 pub gain_fits : (x y : ℤ) (n : ℕ) (z : ℤ) → z ≡ x *ℤ y → unsigned_abs (x *ℤ (y *ℤ pos n)) < 2 ^ 127
     → unsigned_abs (z *ℤ pos n) < 2 ^ 127
-gain_fits x y n z e room = subst (λ (z : ℤ). unsigned_abs z < 2 ^ 127) (sym (ap (λ (z : ℤ). z *ℤ pos n) e ∙ zmul_assoc x y (pos n))) room
+gain_fits x y n z e room = subst (λ (z : ℤ). unsigned_abs z < 2 ^ 127)
+    (sym (ap (λ (z : ℤ). z *ℤ pos n) e ∙ zmul_assoc x y (pos n))) room

@@ -1,3 +1,5 @@
 pub mod ExactSteps
 pub mod Parts
+pub mod Fractions
+mod FractionRows
 pub mod VectorLaws

@@ -10,7 +10,8 @@ pub part_down_most : (a : ℤ) (p d : ℕ) (q e r : ℤ) → pos 0 ≤ℤ a → 
     → r ≡ floor_of (a *ℤ q) (unsigned_abs e) → r ≤ℤ a
 unfolding mul_down
 part_down_most (pos n) p d q e r from some le part whole is =
-    let same : r ≡ mul_down (pos n) (pos p) d = is ∙ ap (λ (q : ℤ). floor_of (pos n *ℤ q) (unsigned_abs e)) part ∙ ap (λ (e : ℤ). floor_of (pos n *ℤ pos p) (unsigned_abs e)) whole in
+    let same : r ≡ mul_down (pos n) (pos p) d = is ∙ ap (λ (q : ℤ). floor_of (pos n *ℤ q) (unsigned_abs e)) part
+    ∙ ap (λ (e : ℤ). floor_of (pos n *ℤ pos p) (unsigned_abs e)) whole in
     zle_trans _ _ _ (zle_of _ _ same) (part_down n p d some le).1
 part_down_most (negsuc n) p d q e r from some le part whole is = absurd (omega (arith, ints))
 
@@ -19,7 +20,8 @@ pub part_up_most : (a : ℤ) (p d : ℕ) (q e r : ℤ) → pos 0 ≤ℤ a → 0 
     → r ≡ ceiling_of (a *ℤ q) (unsigned_abs e) → r ≤ℤ a
 unfolding mul_up
 part_up_most (pos n) p d q e r from some le part whole is =
-    let same : r ≡ mul_up (pos n) (pos p) d = is ∙ ap (λ (q : ℤ). ceiling_of (pos n *ℤ q) (unsigned_abs e)) part ∙ ap (λ (e : ℤ). ceiling_of (pos n *ℤ pos p) (unsigned_abs e)) whole in
+    let same : r ≡ mul_up (pos n) (pos p) d = is ∙ ap (λ (q : ℤ). ceiling_of (pos n *ℤ q) (unsigned_abs e)) part
+    ∙ ap (λ (e : ℤ). ceiling_of (pos n *ℤ pos p) (unsigned_abs e)) whole in
     zle_trans _ _ _ (zle_of _ _ same) (part_up n p d some le).1
 part_up_most (negsuc n) p d q e r from some le part whole is = absurd (omega (arith, ints))
 
@@ -28,6 +30,7 @@ pub value_part_most : (a : ℤ) (p d : ℕ) (q e r : ℤ) → 0 < d → p ≤ d 
     → r ≡ ceiling_of (a *ℤ q) (unsigned_abs e) → unsigned_abs r ≤ unsigned_abs a
 unfolding mul_up
 value_part_most a p d q e r some le part whole is =
-    let same : r ≡ mul_up a (pos p) d = is ∙ ap (λ (q : ℤ). ceiling_of (a *ℤ q) (unsigned_abs e)) part ∙ ap (λ (e : ℤ). ceiling_of (a *ℤ pos p) (unsigned_abs e)) whole in
+    let same : r ≡ mul_up a (pos p) d = is ∙ ap (λ (q : ℤ). ceiling_of (a *ℤ q) (unsigned_abs e)) part
+    ∙ ap (λ (e : ℤ). ceiling_of (a *ℤ pos p) (unsigned_abs e)) whole in
     let size = ap unsigned_abs same in
     let most = part_abs a p d some le in omega arith

@@ -28,7 +28,8 @@ all_last P (y ∷ ys) x all = all_last P ys x (All-tail P y (ys ++ x ∷ []) all
 gcd_push : (xs : List ℕ) (x g k : ℕ) → IsGcdOf xs g → IsGcd g x k → IsGcdOf (xs ++ x ∷ []) k
 gcd_push xs x g k is both = record {
   divides =
-      let of_all = All-weaker (λ y. g ∣ y) (λ y. k ∣ y) (λ y divides. dvd_trans k both.0 divides) xs is.divides in
+      let of_all = All-weaker (λ y. g ∣ y) (λ y. k ∣ y) (λ y divides. dvd_trans k both.0 divides)
+      xs is.divides in
       All-push (λ y. k ∣ y) xs x of_all both.1;
   greatest = λ d all.
       both.2 d (is.greatest d (all_front (λ y. d ∣ y) xs (x ∷ []) all)) (all_last (λ y. d ∣ y) xs x all);
@@ -37,7 +38,8 @@ gcd_push xs x g k is both = record {
 gcd_more : (xs : List ℕ) (i g k : ℕ) → i < length xs → IsGcdOf (take i xs) g → IsGcd g (get_or xs i 0) k
     → IsGcdOf (take (i + 1) xs) k
 gcd_more xs i g k lt is both =
-    subst (λ (l : List ℕ). IsGcdOf l k) (sym (take_more xs i 0 lt)) (gcd_push (take i xs) (get_or xs i 0) g k is both)
+    subst (λ (l : List ℕ). IsGcdOf l k) (sym (take_more xs i 0 lt))
+    (gcd_push (take i xs) (get_or xs i 0) g k is both)
 
 -- the same for numbers with a sign, of which the next is r without it
 pub gcd_next : (vs : List ℤ) (i g k r : ℕ) → i < length vs → r ≡ unsigned_abs (get_or vs i (pos 0))

@@ -6,3 +6,4 @@ pub use Rattle.dp_base.specs.Divisors
 pub use Rattle.dp_base.specs.Names
 pub use Rattle.dp_base.specs.Rounding
 pub mod RewardFactors
+pub mod FractionTexts

@@ -3,6 +3,7 @@
 
 mod arith;
 mod exact;
+mod fraction;
 mod outward;
 mod spans;
 mod vectors;
@@ -13,6 +14,7 @@ pub use dp_base::{
 };
 pub use dp_spec::{Scales, Span};
 pub use exact::Exact;
+pub use fraction::fraction_text;
 pub use outward::Outward;
 pub use spans::add_spans;
 pub use vectors::primitive;

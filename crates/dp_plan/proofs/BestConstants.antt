@@ -44,10 +44,12 @@ first_of_one f = record {
 }
 
 -- the next number is greater than all before
-pub next_is_first : (f : ℕ → ℤ) (n first : ℕ) → IsFirstGreatest f n first → f first <ℤ f n → IsFirstGreatest f (suc n) n
+pub next_is_first : (f : ℕ → ℤ) (n first : ℕ) → IsFirstGreatest f n first → f first <ℤ f n
+    → IsFirstGreatest f (suc n) n
 next_is_first f n first h more = record {
   below = omega arith;
-  greatest = λ k p. ⊎_elim (λ is. rw is (omega (arith, ints))) (λ lt. let le = h.greatest k lt in omega (arith, ints)) (last_or_before k n p);
+  greatest = λ k p. ⊎_elim (λ is. rw is (omega (arith, ints)))
+      (λ lt. let le = h.greatest k lt in omega (arith, ints)) (last_or_before k n p);
   least = λ k p. let le = h.greatest k p in omega (arith, ints);
 }
 
@@ -63,9 +65,11 @@ next_is_no_first f n first h less = record {
 -- ---- the greatest value
 
 -- the first greatest has the greatest value
-greatest_is_first : (f : ℕ → ℤ) (n first : ℕ) → IsFirstGreatest f n first → greatest f (numbers_below n) ≡ f first
+greatest_is_first : (f : ℕ → ℤ) (n first : ℕ) → IsFirstGreatest f n first
+    → greatest f (numbers_below n) ≡ f first
 greatest_is_first f n first h =
-    equal_of_le _ _ (greatest_below_at_most f (f first) n (let lt = h.below in omega arith) h.greatest) (le_greatest_below f n first h.below)
+    equal_of_le _ _ (greatest_below_at_most f (f first) n (let lt = h.below in omega arith) h.greatest)
+    (le_greatest_below f n first h.below)
 
 -- ---- the certificate
 
@@ -74,7 +78,8 @@ root_bound_is_best : (m : Model) (look a : ℕ) → IsModel m → IsBestConstant
     → constant_value m a ≡ front_bound (exact m.scales) m 1 look (root_front m)
 unfolding front_bound constant_value root_front
 root_bound_is_best m look a ok best =
-    sym ((exact_quantities m ok).bounds 1 (root_front m) look ∙ root_bound_at_one m ok look ∙ greatest_is_first (constant_value m) (joint_actions m) a best)
+    sym ((exact_quantities m ok).bounds 1 (root_front m) look ∙ root_bound_at_one m ok look
+    ∙ greatest_is_first (constant_value m) (joint_actions m) a best)
 
 -- in exact arithmetic the worth of a constant policy is its value
 lower_is_value : (m : Model) (a : ℕ) → IsModel m → a < joint_actions m
@@ -83,14 +88,20 @@ unfolding constant_value
 lower_is_value m a ok lt =
     sym
     (ap (λ (s : Span). s.low)
-    (constant_plain_worth (exact m.scales) m a ok lt ∙ worth_enclosed m (exact m.scales) equality (exact_sound m.scales) 1 (constant_policy m 1 a)))
+    (constant_plain_worth (exact m.scales) m a ok lt ∙ worth_enclosed m (exact m.scales) equality
+    (exact_sound m.scales) 1 (constant_policy m 1 a)))
 
 -- one step is within the limits of version 1
 within_version_one : (m : Model) → IsModel m → IsWithinVersion m 1 1
-within_version_one m ok = record { known = inl refl; first = λ one. within_one_step m ok; second = λ two. absurd (omega arith) }
+within_version_one m ok = record {
+  known = inl refl;
+  first = λ one. within_one_step m ok;
+  second = λ two. absurd (omega arith);
+}
 
 -- in exact mode the certificate of the best constant policy is valid
-pub best_constant_is_valid : (m : Model) (look a : ℕ) → IsModel m → is_exact_mode m 1 ≡ true → IsBestConstant m a
+pub best_constant_is_valid : (m : Model) (look a : ℕ) → IsModel m → is_exact_mode m 1 ≡ true
+    → IsBestConstant m a
     → IsValid m (constant_certificate m look a)
 best_constant_is_valid m look a ok exact_mode best = record {
   within = within_version_one m ok;
@@ -104,6 +115,8 @@ best_constant_is_valid m look a ok exact_mode best = record {
 }
 
 -- and what it claims is so
-pub best_constant_claims_hold : (m : Model) (look a : ℕ) → IsModel m → is_exact_mode m 1 ≡ true → IsBestConstant m a
+pub best_constant_claims_hold : (m : Model) (look a : ℕ) → IsModel m → is_exact_mode m 1 ≡ true
+    → IsBestConstant m a
     → ClaimsHold m (constant_certificate m look a)
-best_constant_claims_hold m look a ok exact_mode best = claims_hold m (constant_certificate m look a) ok (best_constant_is_valid m look a ok exact_mode best)
+best_constant_claims_hold m look a ok exact_mode best = claims_hold m (constant_certificate m look a) ok
+    (best_constant_is_valid m look a ok exact_mode best)

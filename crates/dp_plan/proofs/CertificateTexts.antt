@@ -20,7 +20,8 @@ unit_fits m ok e =
     let limit : unit_of m 1 ≤ 2 ^ 126 = omega arith in
     record { sfits = omega arith }
 
-numbers : (m : Model) (look a : ℕ) → IsModel m → 1 ≤ look → look ≤ 16 → is_exact_mode m 1 ≡ true → IsBestConstant m a
+numbers : (m : Model) (look a : ℕ) → IsModel m → 1 ≤ look → look ≤ 16 → is_exact_mode m 1 ≡ true
+    → IsBestConstant m a
     → HasTextNumbers (constant_certificate m look a)
 numbers m look a ok some few e best =
     let value = constant_value_fits m ok e a best.below in
@@ -35,7 +36,11 @@ numbers m look a ok some few e best =
     }
 
 -- The certificate of the best constant policy has a text.
-pub best_constant_has_text : (m : Model) (look a : ℕ) → IsModel m → 1 ≤ look → look ≤ 16 → is_exact_mode m 1 ≡ true → IsBestConstant m a
-    → IsCertificateText m (certificate_text m.actions m.observations (constant_certificate m look a)) (constant_certificate m look a)
+pub best_constant_has_text : (m : Model) (look a : ℕ) → IsModel m → 1 ≤ look → look ≤ 16
+    → is_exact_mode m 1 ≡ true
+    → IsBestConstant m a
+    → IsCertificateText m (certificate_text m.actions m.observations (constant_certificate m look a))
+    (constant_certificate m look a)
 best_constant_has_text m look a ok some few e best =
-    certificate_has_text m ok (constant_certificate m look a) (numbers m look a ok some few e best) (has_policy_of_version_one m look a ok best.below)
+    certificate_has_text m ok (constant_certificate m look a) (numbers m look a ok some few e best)
+    (has_policy_of_version_one m look a ok best.below)

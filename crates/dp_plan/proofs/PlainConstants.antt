@@ -19,7 +19,8 @@ pub constant_plain_form : (m : Model) (a : ℕ) → IsModel m → a < joint_acti
     → let p = plain_form m 1 (constant_policy m 1 a) in
     IsSharedOf m 1 p × IsPlain m 1 p × (unfolded p ≡ constant_policy m 1 a)
 constant_plain_form m a ok lt =
-    plain_form_is m 1 (constant_policy m 1 a) ok (omega arith) (within_one_step m ok).stage_cells (constant_policy_fits m ok 1 a lt)
+    plain_form_is m 1 (constant_policy m 1 a) ok (omega arith) (within_one_step m ok).stage_cells
+    (constant_policy_fits m ok 1 a lt)
 
 -- so the certificate of a constant policy has a policy of version 1
 pub has_policy_of_version_one : (m : Model) (look a : ℕ) → IsModel m → a < joint_actions m
@@ -30,6 +31,8 @@ has_policy_of_version_one m look a ok lt =
 
 -- its worth is the forward worth of the constant policy
 pub constant_plain_worth : (A : Arithmetic) (m : Model) (a : ℕ) → IsModel m → a < joint_actions m
-    → shared_worth_in A m 1 (plain_form m 1 (constant_policy m 1 a)) ≡ forward_worth_in A m 1 (constant_policy m 1 a)
+    → shared_worth_in A m 1 (plain_form m 1 (constant_policy m 1 a))
+    ≡ forward_worth_in A m 1 (constant_policy m 1 a)
 constant_plain_worth A m a ok lt =
-    plain_form_worth A m 1 (constant_policy m 1 a) ok (omega arith) (within_one_step m ok).stage_cells (constant_policy_fits m ok 1 a lt)
+    plain_form_worth A m 1 (constant_policy m 1 a) ok (omega arith) (within_one_step m ok).stage_cells
+    (constant_policy_fits m ok 1 a lt)

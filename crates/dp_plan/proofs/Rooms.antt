@@ -32,8 +32,10 @@ rooms : (m : Model) → IsModel m → is_exact_mode m 1 ≡ true
     → HaveRoom m.scales.start m.scales.trans m.scales.obs m.scales.discount (reward_most m)
 unfolding step_scale
 rooms m ok e =
-    have_room m.scales.start m.scales.trans m.scales.obs m.scales.discount (reward_most m) ok.scales.start ok.scales.trans ok.scales.discount
-    (subst (λ (n : ℕ). m.scales.start * n * 1 * reward_most m ≤ 2 ^ 126) (power_one (step_scale m)) (exact_condition m 1 (sym e)))
+    have_room m.scales.start m.scales.trans m.scales.obs m.scales.discount (reward_most m)
+    ok.scales.start ok.scales.trans ok.scales.discount
+    (subst (λ (n : ℕ). m.scales.start * n * 1 * reward_most m ≤ 2 ^ 126) (power_one (step_scale m))
+    (exact_condition m 1 (sym e)))
 
 -- a factor that is a first power, and a factor of 1
 times_power : (b s : ℕ) → b * s ^ 1 * 1 ≡ b * s
@@ -59,8 +61,10 @@ unfolding step_scale reward_most
 unit_has_room m ok e =
     let le : m.scales.reward ≤ reward_most m = omega arith in
     let limit : m.scales.start * step_scale m * reward_most m ≤ 2 ^ 126 =
-    subst (λ (n : ℕ). n * reward_most m ≤ 2 ^ 126) (times_power m.scales.start (step_scale m)) (exact_condition m 1 (sym e)) in
-    let all = unit_products m.scales.start (step_scale m) m.scales.reward (reward_most m) ok.scales.start ok.scales.reward le limit in
+    subst (λ (n : ℕ). n * reward_most m ≤ 2 ^ 126) (times_power m.scales.start (step_scale m))
+    (exact_condition m 1 (sym e)) in
+    let all = unit_products m.scales.start (step_scale m) m.scales.reward (reward_most m)
+    ok.scales.start ok.scales.reward le limit in
     record { step = all.0; reward = all.1; whole = all.2 }
 
 -- the unit, factor by factor
@@ -79,11 +83,13 @@ module _ (m : Model) (ok : IsModel m) (e : is_exact_mode m 1 ≡ true) (a : ℕ)
     room = rw (ok.rows.obs a t act next) (rooms m ok e).obs;
   }
 
-  arrival_small : (s t : ℕ) → t < m.states → unsigned_abs (reward_on_arrival m a s t) ≤ m.scales.obs * reward_most m
+  arrival_small : (s t : ℕ) → t < m.states → unsigned_abs (reward_on_arrival m a s t)
+      ≤ m.scales.obs * reward_most m
   unfolding reward_on_arrival
   arrival_small s t next =
       subst (λ (n : ℕ). unsigned_abs (reward_on_arrival m a s t) ≤ n * reward_most m) (ok.rows.obs a t act next)
-      (weighed_abs (joint_observations m) (reward_most m) (obs_at m a t) (reward_at m a s t) (λ o p. reward_at_most m a s t o))
+      (weighed_abs (joint_observations m) (reward_most m) (obs_at m a t) (reward_at m a s t)
+      (λ o p. reward_at_most m a s t o))
 
   -- over the next states
   pub state_room : (s : ℕ) → s < m.states
@@ -97,11 +103,14 @@ module _ (m : Model) (ok : IsModel m) (e : is_exact_mode m 1 ≡ true) (a : ℕ)
       → unsigned_abs (reward_in_state m a s) ≤ m.scales.trans * (m.scales.obs * reward_most m)
   unfolding reward_in_state
   state_small s here =
-      subst (λ (n : ℕ). unsigned_abs (reward_in_state m a s) ≤ n * (m.scales.obs * reward_most m)) (ok.rows.trans a s act here)
-      (weighed_abs m.states (m.scales.obs * reward_most m) (trans_at m a s) (reward_on_arrival m a s) (λ t p. arrival_small s t p))
+      subst (λ (n : ℕ). unsigned_abs (reward_in_state m a s) ≤ n * (m.scales.obs * reward_most m))
+      (ok.rows.trans a s act here)
+      (weighed_abs m.states (m.scales.obs * reward_most m) (trans_at m a s) (reward_on_arrival m a s)
+      (λ t p. arrival_small s t p))
 
   -- over the states
-  pub start_room : HasRoom m.states (m.scales.trans * (m.scales.obs * reward_most m)) (start_at m) (reward_in_state m a)
+  pub start_room : HasRoom m.states (m.scales.trans * (m.scales.obs * reward_most m)) (start_at m)
+      (reward_in_state m a)
   start_room = record {
     small = λ s p. state_small s p;
     room = rw (ok.rows.start) (rooms m ok e).start;
@@ -111,15 +120,18 @@ module _ (m : Model) (ok : IsModel m) (e : is_exact_mode m 1 ≡ true) (a : ℕ)
       ≤ m.scales.start * (m.scales.trans * (m.scales.obs * reward_most m))
   unfolding reward_from_start
   start_small =
-      subst (λ (n : ℕ). unsigned_abs (reward_from_start m a) ≤ n * (m.scales.trans * (m.scales.obs * reward_most m))) ok.rows.start
-      (weighed_abs m.states (m.scales.trans * (m.scales.obs * reward_most m)) (start_at m) (reward_in_state m a) (λ s p. state_small s p))
+      subst (λ (n : ℕ). unsigned_abs (reward_from_start m a)
+      ≤ n * (m.scales.trans * (m.scales.obs * reward_most m))) ok.rows.start
+      (weighed_abs m.states (m.scales.trans * (m.scales.obs * reward_most m)) (start_at m) (reward_in_state m a)
+      (λ s p. state_small s p))
 
   -- the value
   pub value_fits : FitsSigned w128 (pos m.scales.discount *ℤ reward_from_start m a)
   value_fits =
       let small = mul-le-mul_left m.scales.discount start_small in
       let room = (rooms m ok e).whole in
-      let abs : unsigned_abs (pos m.scales.discount *ℤ reward_from_start m a) ≤ 2 ^ 126 = rw unsigned_abs-mul (omega arith) in
+      let abs : unsigned_abs (pos m.scales.discount *ℤ reward_from_start m a)
+      ≤ 2 ^ 126 = rw unsigned_abs-mul (omega arith) in
       fits_signed_from_abs w128 _ (omega arith)
 
   pub constant_value_fits : FitsSigned w128 (constant_value m a)

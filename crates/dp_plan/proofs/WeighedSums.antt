@@ -25,9 +25,14 @@ pub weighed_abs : (n most : ℕ) (w : ℕ → ℕ) (x : ℕ → ℤ) → ((i : �
     → unsigned_abs (int_sum n (λ i. pos (w i) *ℤ x i)) ≤ nat_sum n w * most
 weighed_abs zero most w x h = omega arith
 weighed_abs (suc n) most w x h =
-    let rest : unsigned_abs (int_sum n (λ i. pos (w i) *ℤ x i)) ≤ nat_sum n w * most = weighed_abs n most w x (λ i p. h i (omega arith)) in
+    let rest : unsigned_abs (int_sum n (λ i. pos (w i) *ℤ x i))
+    ≤ nat_sum n w * most = weighed_abs n most w x (λ i p. h i (omega arith)) in
     let here = abs_weighed (w n) most (x n) (h n (omega arith)) in
-    omega (arith, abs_add (int_sum n (λ i. pos (w i) *ℤ x i)) (pos (w n) *ℤ x n), more_terms _ _ most (nat_sum n w) (w n) rest here)
+    omega (
+      arith,
+      abs_add (int_sum n (λ i. pos (w i) *ℤ x i)) (pos (w n) *ℤ x n),
+      more_terms _ _ most (nat_sum n w) (w n) rest here,
+    )
 
 -- the first terms of a sum that has room fit
 pub sum_fits : (n most i : ℕ) (w : ℕ → ℕ) (x : ℕ → ℤ) → HasRoom n most w x → i ≤ n
@@ -39,7 +44,8 @@ sum_fits n most i w x h le =
     fits_signed_from_abs w128 _ (omega arith)
 
 -- each of its terms fits
-pub term_fits : (n most i : ℕ) (w : ℕ → ℕ) (x : ℕ → ℤ) → HasRoom n most w x → i < n → FitsSigned w128 (pos (w i) *ℤ x i)
+pub term_fits : (n most i : ℕ) (w : ℕ → ℕ) (x : ℕ → ℤ) → HasRoom n most w x → i < n
+    → FitsSigned w128 (pos (w i) *ℤ x i)
 term_fits n most i w x h lt =
     let here = abs_weighed (w i) most (x i) (h.small i lt) in
     let part = mul-le-mul_right most (nat_sum_at n w i lt) in
@@ -57,7 +63,8 @@ pub next_fits : (n most i : ℕ) (w : ℕ → ℕ) (x : ℕ → ℤ) (total term
     → total ≡ int_sum i (λ k. pos (w k) *ℤ x k) → term ≡ pos (w i) *ℤ x i
     → FitsSigned w128 (total +ℤ term)
 next_fits n most i w x total term room lt e f =
-    let fits : FitsSigned w128 (int_sum i (λ k. pos (w k) *ℤ x k) +ℤ pos (w i) *ℤ x i) = sum_fits n most (suc i) w x room (omega arith) in
+    let fits : FitsSigned w128 (int_sum i (λ k. pos (w k) *ℤ x k) +ℤ pos (w i) *ℤ x i) = sum_fits n most (suc i)
+    w x room (omega arith) in
     rw (e, f) fits
 
 -- and it is the sum of one term more

@@ -23,8 +23,10 @@ BestConstantCertificateHolds =
 -- and with a look in its range it has a text
 abbrev pub BestConstantCertificateHasText : Type 0
 BestConstantCertificateHasText =
-    (m : Model) (look a : ℕ) → IsModel m → 1 ≤ look → look ≤ 16 → is_exact_mode m 1 ≡ true → IsBestConstant m a →
-    IsCertificateText m (certificate_text m.actions m.observations (constant_certificate m look a)) (constant_certificate m look a)
+    (m : Model) (look a : ℕ) → IsModel m → 1 ≤ look → look ≤ 16 → is_exact_mode m 1 ≡ true
+    → IsBestConstant m a →
+    IsCertificateText m (certificate_text m.actions m.observations (constant_certificate m look a))
+    (constant_certificate m look a)
 
 -- every model keeps the limits of a horizon of one step
 abbrev pub OneStepIsWithin : Type 0

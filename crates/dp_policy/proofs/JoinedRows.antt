@@ -160,7 +160,7 @@ nexts_few b n (rows ∷ (later ∷ stages)) are few zero r = elim (cases_lt r (l
 ]
 nexts_few b n (rows ∷ (later ∷ stages)) are few (suc t) r = nexts_few b n (later ∷ stages) are.2 few t r
 
-size_most : (ns : List ℕ) (i : ℕ) → 0 < product ns → product ns ≤ 256 → get_or ns i 0 ≤ 256
+pub size_most : (ns : List ℕ) (i : ℕ) → 0 < product ns → product ns ≤ 256 → get_or ns i 0 ≤ 256
 size_most [] i some few = omega arith
 size_most (n ∷ ns) zero some few = let rest = positive_right n (product ns) 0 some in let le = le_times n (product ns) rest in omega arith
 size_most (n ∷ ns) (suc i) some few =

@@ -1,12 +1,12 @@
 -- Plain rows that are tested, agent by agent and stage by stage.
-use Rattle.std.proofs.Common.{◌≡◌, ℕ, zero, suc, ◌+◌, ◌*◌, ◌^◌, ◌<◌, ◌≤◌, List, [], ◌∷◌, inl, inr, length, get_or, drop, refl, sym, ap, ◌∙◌, subst, arith}
+use Rattle.std.proofs.Common.{◌≡◌, ℕ, zero, suc, ◌+◌, ◌*◌, ◌^◌, ◌<◌, ◌≤◌, List, [], ◌∷◌, inl, inr, length, get_or, drop, sym, ap, ◌∙◌, subst, arith}
 use Rattle.std.specs.Prelude.{◌↔◌}
 use Rattle.std.proofs.Math.Nat.{mul-le-mul_left, pow-suc}
 use Rattle.std.proofs.Math.Seq.{drop-cons}
 use Rattle.std.proofs.lemmas.Bool.{cases_lt}
 use Rattle.dp_spec.specs.PlainForm.{ArePlain, ArePlainRows}
 use Rattle.dp_spec.specs.PlainForm.ArePlain.{and_agent, no_agents}
-use Rattle.dp_spec.specs.SharedPolicy.{AgentRows, SharedPolicy, row_at, row_count}
+use Rattle.dp_spec.specs.SharedPolicy.{AgentRows, SharedPolicy}
 use Rattle.dp_policy.specs.SharedRows.{IsPlainStage}
 use Rattle.dp_policy.proofs.Lists.{drop_all, iff_trans}
 

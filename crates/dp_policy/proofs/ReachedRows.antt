@@ -1,8 +1,8 @@
 -- The rows that own histories reach.
-use Rattle.std.proofs.Common.{◌≡◌, ℕ, zero, suc, ◌<◌, ◌≤◌, List, [], ◌∷◌, length, get_or, drop, refl, sym, ap, ◌∙◌, arith}
+use Rattle.std.proofs.Common.{◌≡◌, ℕ, suc, ◌<◌, ◌≤◌, List, length, get_or, drop, sym, ap, ◌∙◌}
 use Rattle.std.proofs.Math.Seq.{drop-cons}
 use Rattle.dp_spec.specs.PolicyTree.{PolicyTree, root_action}
-use Rattle.dp_spec.specs.SharedPolicy.{AgentRows, row_at, unfolded_tree}
+use Rattle.dp_spec.specs.SharedPolicy.{AgentRows, row_at}
 use Rattle.dp_laws.proofs.SharedTrees.{rows_tree, rows_tree_is, subtree_of_row}
 use Rattle.dp_policy.specs.SharedRows.{remaining_after}
 use Rattle.dp_policy.proofs.Lists.{drop_all}

@@ -4,7 +4,7 @@ ghost use Rattle.dp_spec.specs.SharedPolicy.{IsSharedOf, row_at, row_count, unfo
 ghost use Rattle.dp_policy.specs.SharedRows.{AreKept, remaining_after};
 
 use crate::Row;
-use crate::join::is_shared;
+use crate::joined_rows::is_shared;
 
 /// A shared policy: for each agent and each stage its rows, over a horizon. Own histories after which
 /// an agent goes on alike may share one row.
@@ -37,6 +37,14 @@ impl Shared {
         ensures { result ≡ record { horizon = horizon; rows = map (λ s. map (λ r. r.items) s.items) rows.items } }
     {
         Shared { horizon, rows }
+    }
+
+    /// What holds of all shared policies. It does nothing.
+    #[inline]
+    pub fn invariant(&self)
+        ensures { AreKept self.now.horizon self.now.rows }
+    {
+        let _ = &self.horizon;
     }
 
     /// How many agents there are.

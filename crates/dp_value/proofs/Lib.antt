@@ -4,3 +4,5 @@ pub mod RewardSums
 pub mod RowUpdates
 pub mod TwoStates
 pub mod WeightUpdates
+pub mod JointTreeLists
+pub mod TreeWorths

@@ -1,3 +1,4 @@
+pub mod JointTrees
 pub mod Rewards
 pub mod Rooms
 pub mod RowWeights

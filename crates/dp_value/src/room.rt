@@ -85,7 +85,7 @@ pub fn worth_shared(model: &Model, policy: &Shared, room: &mut SharedRoom) -> Wo
 }
 
 // The worth with these ends.
-fn worth_of(ends: Span, unit: i128) -> Worth
+pub(crate) fn worth_of(ends: Span, unit: i128) -> Worth
     ensures ends { ends_of result ≡ ends }
     ensures unit { result.unit ≡ unit }
 {
@@ -139,7 +139,7 @@ fn most_joint_rows(model: &Model, policy: &Shared) -> usize
 }
 
 // So many zeros.
-fn zeros(alloc: Global, count: usize) -> Result<Vec<Span>, Memory>
+pub(crate) fn zeros(alloc: Global, count: usize) -> Result<Vec<Span>, Memory>
     ensures { IfOk result (λ v. length v.items ≡ count) }
 {
     let mut all = Vec::new(alloc);

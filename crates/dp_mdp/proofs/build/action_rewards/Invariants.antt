@@ -5,5 +5,7 @@ use Rattle.dp_mdp.proofs.build.action_rewards.Given as goal
 abbrev pub invariant-loop-state : goal.invariant-loop-state
 invariant-loop-state g l = record {
   filled : length l.row.items ≡ l.state;
-  values : (s : ℕ) → s < l.state → get_or l.row.items s (pos 0) ≡ (state_reward (g.A.Arith.operations l.arith) l.model.model 0 ((g.A.Arith.operations l.arith).one) l.action s).high;
+  values : (s : ℕ) → s < l.state → get_or l.row.items s (pos 0)
+      ≡ (state_reward (g.A.Arith.operations l.arith) l.model.model 0 ((g.A.Arith.operations l.arith).one)
+      l.action s).high;
 }

@@ -10,12 +10,14 @@ pub overflow_add-result : goal.overflow_add-result
 overflow_add-result g c =
     let fits : SFits w128 c.reward_now-now.result = search rules in
     let fits-later : SFits w128 c.later_value.result = search rules in
-    plus_fits _ _ _ _ (to_z-of_z w128 _ fits ∙ c.reward_now-now.ensures) (to_z-of_z w128 _ fits-later ∙ c.later_value.ensures)
+    plus_fits _ _ _ _ (to_z-of_z w128 _ fits ∙ c.reward_now-now.ensures)
+    (to_z-of_z w128 _ fits-later ∙ c.later_value.ensures)
     (value_small _ _ _ _ _ c.requires.sizes _ _ c.requires.action c.requires.state)
 
 pub returns : goal.returns
 returns g c =
     let fits : SFits w128 c.reward_now-now.result = search rules in
     let fits-later : SFits w128 c.later_value.result = search rules in
-    plus_is _ _ _ _ (to_z-of_z w128 _ fits ∙ c.reward_now-now.ensures) (to_z-of_z w128 _ fits-later ∙ c.later_value.ensures)
+    plus_is _ _ _ _ (to_z-of_z w128 _ fits ∙ c.reward_now-now.ensures)
+    (to_z-of_z w128 _ fits-later ∙ c.later_value.ensures)
     (value_small _ _ _ _ _ c.requires.sizes _ _ c.requires.action c.requires.state)

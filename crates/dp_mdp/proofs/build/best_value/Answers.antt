@@ -17,9 +17,14 @@ pub loop-action-preserved : goal.loop-action-preserved
 loop-action-preserved g c =
     let fits : SFits w128 c.action_value-value.result = search rules in
     let fits-max : SFits w128 c.max-best.result = search rules in
-    next_greatest c.loop-action.action (action_value (g.A.Arith.operations c.args.arith.now) c.args.model.now.model c.args.rest c.args.state) _ _ _ (omega arith) (to_z-of_z w128 _ fits-max ∙ c.max-best.ensures.value) (to_z-of_z w128 _ fits ∙ c.action_value-value.ensures) c.loop-action.invariant
+    next_greatest c.loop-action.action (action_value (g.A.Arith.operations c.args.arith.now)
+    c.args.model.now.model c.args.rest c.args.state) _ _ _ (omega arith)
+    (to_z-of_z w128 _ fits-max ∙ c.max-best.ensures.value)
+    (to_z-of_z w128 _ fits ∙ c.action_value-value.ensures) c.loop-action.invariant
 
 pub returns : goal.returns
 returns g c =
-    let all : c.loop-action.action ≡ joint_actions c.args.model.now.model = let some = c.invariant.ensures.model.sizes.some_action in omega arith in
-    greatest_is_table (g.A.Arith.operations c.args.arith.now) c.args.model.now.model c.args.rest c.args.state c.loop-action.action _ all c.loop-action.invariant
+    let all : c.loop-action.action ≡ joint_actions c.args.model.now.model = let some =
+    c.invariant.ensures.model.sizes.some_action in omega arith in
+    greatest_is_table (g.A.Arith.operations c.args.arith.now)
+    c.args.model.now.model c.args.rest c.args.state c.loop-action.action _ all c.loop-action.invariant

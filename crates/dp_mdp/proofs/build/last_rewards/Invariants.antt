@@ -5,5 +5,6 @@ use Rattle.dp_mdp.proofs.build.last_rewards.Given as goal
 abbrev pub invariant-loop-action : goal.invariant-loop-action
 invariant-loop-action g l = record {
   filled : length l.rewards.items ≡ l.action;
-  values : (a : ℕ) → a < l.action → IsLastReward (g.A.Arith.operations l.arith) l.model.model a (get_or l.rewards.items a []);
+  values : (a : ℕ) → a < l.action → IsLastReward (g.A.Arith.operations l.arith) l.model.model a
+      (get_or l.rewards.items a []);
 }

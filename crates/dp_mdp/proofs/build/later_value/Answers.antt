@@ -12,7 +12,8 @@ overflow_add-total g c =
     let more : suc c.loop-next.next ≤ c.args.model.now.model.states = omega arith in
     let fits : SFits w128 c.carried-total.result = search rules in
     sum_fits c.loop-next.next _ _ _ c.loop-next.invariant (to_z-of_z w128 _ fits ∙ c.carried-total.ensures)
-    (later_part_fits _ _ _ _ _ c.requires.sizes c.args.action c.args.state (suc c.loop-next.next) c.requires.action c.requires.state more)
+    (later_part_fits _ _ _ _ _ c.requires.sizes c.args.action c.args.state (suc c.loop-next.next)
+    c.requires.action c.requires.state more)
 
 pub loop-next-preserved : goal.loop-next-preserved
 loop-next-preserved g c =
@@ -20,12 +21,17 @@ loop-next-preserved g c =
     elim c.if-chance-ne0.branch [
       | then-chance-ne0 w ↦
           let fits : SFits w128 w.carried-total.result = search rules in
-          next_sum c.loop-next.next _ _ _ _ w.total-is c.loop-next.invariant (to_z-of_z w128 _ fits ∙ w.carried-total.ensures)
-          (later_part_fits _ _ _ _ _ c.requires.sizes c.args.action c.args.state (suc c.loop-next.next) c.requires.action c.requires.state more)
+          next_sum c.loop-next.next _ _ _ _ w.total-is c.loop-next.invariant
+          (to_z-of_z w128 _ fits ∙ w.carried-total.ensures)
+          (later_part_fits _ _ _ _ _ c.requires.sizes c.args.action c.args.state (suc c.loop-next.next)
+          c.requires.action c.requires.state more)
       | else-chance-ne0 w ↦
           let none : c.trans-chance.result ≡ 0 = omega arith in
-          same_sum c.loop-next.next _ _ _ w.total-is c.loop-next.invariant (no_carry _ c.requires.sizes.zero _ _ (sym c.trans-chance.ensures ∙ none))
+          same_sum c.loop-next.next _ _ _ w.total-is c.loop-next.invariant
+          (no_carry _ c.requires.sizes.zero _ _ (sym c.trans-chance.ensures ∙ none))
     ]
 
 pub returns : goal.returns
-returns g c = let all : c.loop-next.next ≡ c.args.model.now.model.states = omega arith in sum_is_later (g.A.Arith.operations c.args.arith.now) c.args.model.now.model c.args.rest c.args.action c.args.state c.loop-next.next _ c.loop-next.invariant all
+returns g c = let all : c.loop-next.next ≡ c.args.model.now.model.states = omega arith in
+    sum_is_later (g.A.Arith.operations c.args.arith.now) c.args.model.now.model c.args.rest c.args.action
+    c.args.state c.loop-next.next _ c.loop-next.invariant all

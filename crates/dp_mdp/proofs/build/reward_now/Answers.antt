@@ -11,7 +11,8 @@ overflow_mul-result g c =
     let fits : SFits w128 c.last_reward.result = search rules in
     let fits-power : SFits w128 c.args.power = c.ranges.power in
     times_fits _ _ _ _ _ (to_z-of_z w128 _ fits ∙ c.last_reward.ensures) (to_z-of_z w128 _ fits-power)
-    (now_is _ _ _ _ _ c.requires.sizes _ _ c.requires.action c.requires.state _ ((c.requires.rewards.values _ c.requires.action).values _ c.requires.state))
+    (now_is _ _ _ _ _ c.requires.sizes _ _ c.requires.action c.requires.state _
+    ((c.requires.rewards.values _ c.requires.action).values _ c.requires.state))
     (now_small _ _ _ _ _ c.requires.sizes _ _ c.requires.action c.requires.state)
 
 pub returns : goal.returns
@@ -19,5 +20,6 @@ returns g c =
     let fits : SFits w128 c.last_reward.result = search rules in
     let fits-power : SFits w128 c.args.power = c.ranges.power in
     times_is _ _ _ _ _ (to_z-of_z w128 _ fits ∙ c.last_reward.ensures) (to_z-of_z w128 _ fits-power)
-    (now_is _ _ _ _ _ c.requires.sizes _ _ c.requires.action c.requires.state _ ((c.requires.rewards.values _ c.requires.action).values _ c.requires.state))
+    (now_is _ _ _ _ _ c.requires.sizes _ _ c.requires.action c.requires.state _
+    ((c.requires.rewards.values _ c.requires.action).values _ c.requires.state))
     (now_small _ _ _ _ _ c.requires.sizes _ _ c.requires.action c.requires.state)

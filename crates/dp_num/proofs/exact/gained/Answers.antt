@@ -18,7 +18,10 @@ scaled-requires c =
     let fits_r : SFits w128 c.args.r = c.ranges.r in
     let fits_t : SFits w128 c.times.result = record { sfits = c.times.type_inv } in
     let part = simp to_z-of_z at c.times.ensures in
-    simp to_z-of_z (record { room = gain_fits c.args.c c.args.r c.args.factor c.times.result part c.requires.room })
+    simp to_z-of_z (record {
+      room = gain_fits c.args.c c.args.r c.args.factor c.times.result part
+          c.requires.room;
+    })
 
 pub returns : goal.returns
 returns c =
@@ -28,4 +31,5 @@ returns c =
     let fits_s : SFits w128 c.scaled.result = record { sfits = c.scaled.type_inv } in
     let part = simp to_z-of_z at c.times.ensures in
     let whole = simp to_z-of_z at c.scaled.ensures in
-    simp to_z-of_z (whole ∙ ap (λ (x : ℤ). x *ℤ pos c.args.factor) part ∙ zmul_assoc c.args.c c.args.r (pos c.args.factor))
+    simp to_z-of_z (whole ∙ ap (λ (x : ℤ). x *ℤ pos c.args.factor) part
+    ∙ zmul_assoc c.args.c c.args.r (pos c.args.factor))

@@ -12,5 +12,6 @@ returns-clause-to c =
     let fits_d : SFits w128 c.from-2.result = record { sfits = c.from-2.type_inv } in
     let fits_r : SFits w128 c.mul_down.result = record { sfits = c.mul_down.type_inv } in
     let is = simp to_z-of_z at c.mul_down.ensures.floor in
-    let most = part_down_most c.args.weight c.args.part c.args.whole c.from.result c.from-2.result c.mul_down.result c.requires.from c.requires.some c.requires.part c.from.ensures c.from-2.ensures is in
+    let most = part_down_most c.args.weight c.args.part c.args.whole c.from.result c.from-2.result
+    c.mul_down.result c.requires.from c.requires.some c.requires.part c.from.ensures c.from-2.ensures is in
     simp to_z-of_z (zle_trans _ _ _ most c.requires.to)

@@ -12,5 +12,7 @@ returns-clause-size c =
     let fits_d : SFits w128 c.from-2.result = record { sfits = c.from-2.type_inv } in
     let fits_r : SFits w128 c.mul_up.result = record { sfits = c.mul_up.type_inv } in
     let is = simp to_z-of_z at c.mul_up.ensures.ceiling in
-    let most = value_part_most c.args.value c.args.part c.args.whole c.from.result c.from-2.result c.mul_up.result c.requires.some c.requires.part c.from.ensures c.from-2.ensures is in
+    let most = value_part_most c.args.value c.args.part c.args.whole c.from.result c.from-2.result
+    c.mul_up.result
+    c.requires.some c.requires.part c.from.ensures c.from-2.ensures is in
     simp to_z-of_z (omega arith)

@@ -15,12 +15,17 @@ returns c =
     let a = c.best_constant-best.result.action in
     let best = c.best_constant-best.ensures.best in
     let value : to_z w128 (of_z w128 c.best_constant-best.result.value) ≡ constant_value m a =
-    read_back _ _ c.best_constant-best.ensures.value (constant_value_fits m c.invariant.ensures.model c.requires.exact a best.below) in record {
+    read_back _ _ c.best_constant-best.ensures.value (constant_value_fits m c.invariant.ensures.model
+    c.requires.exact a best.below) in record {
       action = a;
       best = best;
       spelled =
-          three_pushed _ _ _ _ (head_text c.args.look c.unit.result (to_z w128 (of_z w128 c.best_constant-best.result.value))) (agents_text 0 (parts_of m.actions a))
-          (tree_text (to_z w128 (of_z w128 c.best_constant-best.result.value))) c.new-text.ensures.items c.in_ok-push_head.ensures c.in_ok-push_agents.ensures c.in_ok-push_tree.ensures
-          ∙ (λ i. head_text c.args.look (c.unit.ensures i) (value i) ++ (agents_text 0 (parts_of m.actions a) ++ tree_text (value i)))
+          three_pushed _ _ _ _ (head_text c.args.look c.unit.result
+          (to_z w128 (of_z w128 c.best_constant-best.result.value))) (agents_text 0 (parts_of m.actions a))
+          (tree_text (to_z w128 (of_z w128 c.best_constant-best.result.value)))
+          c.new-text.ensures.items c.in_ok-push_head.ensures c.in_ok-push_agents.ensures
+          c.in_ok-push_tree.ensures
+          ∙ (λ i. head_text c.args.look (c.unit.ensures i) (value i)
+          ++ (agents_text 0 (parts_of m.actions a) ++ tree_text (value i)))
           ∙ sym (constant_text m c.args.look a c.invariant.ensures.model best.below c.requires.exact);
     }

@@ -13,7 +13,8 @@ loop-agent-preserved c =
     let test = c.loop-agent-test.true in
     let lt : i < length parts = omega (arith, length-parts_of c.args.model.now.model.actions c.args.a) in
     ap (λ (l : List ℕ). l ++ agents_text (i + 1) (drop (i + 1) parts)) c.in_ok-push_agent.ensures
-    ∙ ap (λ (p : ℕ). (c.loop-agent.text.items ++ agent_text i p) ++ agents_text (i + 1) (drop (i + 1) parts)) c.local_action.ensures
+    ∙ ap (λ (p : ℕ). (c.loop-agent.text.items ++ agent_text i p) ++ agents_text (i + 1) (drop (i + 1) parts))
+    c.local_action.ensures
     ∙ next_agent c.loop-agent.text.items parts i lt
     ∙ c.loop-agent.invariant
 
@@ -23,5 +24,8 @@ returns c =
     let is = c.agents-agent-end.ensures.is in
     let past = c.loop-agent-test.false in
     let within = c.loop-agent.auto.agent-end in
-    let end : c.loop-agent.agent ≡ length parts = omega (arith, length-parts_of c.args.model.now.model.actions c.args.a) in
+    let end : c.loop-agent.agent ≡ length parts = omega (
+      arith,
+      length-parts_of c.args.model.now.model.actions c.args.a,
+    ) in
     sym (no_agent_left c.loop-agent.text.items parts c.loop-agent.agent end) ∙ c.loop-agent.invariant

@@ -5,4 +5,5 @@ use Rattle.dp_plan.proofs.certificate_text.push_agents.Given as goal
 
 abbrev pub invariant-loop-agent : goal.invariant-loop-agent
 invariant-loop-agent l =
-    l.text.items ++ agents_text l.agent (drop l.agent (parts_of l.model.model.actions l.a)) ≡ l.fn.text.items ++ agents_text 0 (parts_of l.model.model.actions l.a)
+    l.text.items ++ agents_text l.agent (drop l.agent (parts_of l.model.model.actions l.a)) ≡ l.fn.text.items
+    ++ agents_text 0 (parts_of l.model.model.actions l.a)

@@ -5,4 +5,5 @@ use Rattle.dp_plan.specs.ExpectedReward.{reward_in_state}
 use Rattle.dp_plan.proofs.expected_reward.reward_from_start.Given as goal
 
 abbrev pub invariant-loop-s : goal.invariant-loop-s
-invariant-loop-s l = l.total ≡ int_sum l.s (λ s. pos (start_at l.model.model s) *ℤ reward_in_state l.model.model l.a s)
+invariant-loop-s l = l.total ≡ int_sum l.s (λ s. pos (start_at l.model.model s)
+    *ℤ reward_in_state l.model.model l.a s)

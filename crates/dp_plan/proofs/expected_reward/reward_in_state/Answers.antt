@@ -19,17 +19,21 @@ below c = let end = c.states-t-end.ensures.is in let lt = c.loop-t-test.true in 
 -- the term that the loop adds
 term : (c : goal.After-weighed-total) →
     to_z w128 (of_z w128 c.weighed-total.result)
-    ≡ pos (trans_at c.args.model.now.model c.args.a c.args.s c.loop-t.t) *ℤ reward_on_arrival c.args.model.now.model c.args.a c.args.s c.loop-t.t
+    ≡ pos (trans_at c.args.model.now.model c.args.a c.args.s c.loop-t.t)
+    *ℤ reward_on_arrival c.args.model.now.model c.args.a c.args.s c.loop-t.t
 term c =
     let m : Model = c.args.model.now.model in
-    let room = state_room m c.invariant.ensures.model c.requires.exact c.args.a c.requires.action c.args.s c.requires.state in
+    let room = state_room m c.invariant.ensures.model c.requires.exact c.args.a c.requires.action c.args.s
+    c.requires.state in
     read_back _ _ (c.weighed-total.ensures ∙ λ i. pos (c.trans.ensures i) *ℤ number c i)
-    (term_fits _ _ c.loop-t.t (trans_at m c.args.a c.args.s) (reward_on_arrival m c.args.a c.args.s) room (below c))
+    (term_fits _ _ c.loop-t.t (trans_at m c.args.a c.args.s) (reward_on_arrival m c.args.a c.args.s) room
+    (below c))
 
 pub weighed-total-requires : goal.weighed-total-requires
 weighed-total-requires c =
     let m : Model = c.args.model.now.model in
-    let room = state_room m c.invariant.ensures.model c.requires.exact c.args.a c.requires.action c.args.s c.requires.state in
+    let room = state_room m c.invariant.ensures.model c.requires.exact c.args.a c.requires.action c.args.s
+    c.requires.state in
     let is = c.states-t-end.ensures.is in
     let lt = c.loop-t-test.true in
     let below : c.loop-t.t < m.states = omega arith in
@@ -39,14 +43,18 @@ weighed-total-requires c =
 pub overflow_add-total : goal.overflow_add-total
 overflow_add-total c =
     let m : Model = c.args.model.now.model in
-    let room = state_room m c.invariant.ensures.model c.requires.exact c.args.a c.requires.action c.args.s c.requires.state in
-    next_fits _ _ c.loop-t.t (trans_at m c.args.a c.args.s) (reward_on_arrival m c.args.a c.args.s) _ _ room (below c) c.loop-t.invariant (term c)
+    let room = state_room m c.invariant.ensures.model c.requires.exact c.args.a c.requires.action c.args.s
+    c.requires.state in
+    next_fits _ _ c.loop-t.t (trans_at m c.args.a c.args.s) (reward_on_arrival m c.args.a c.args.s) _ _ room
+    (below c) c.loop-t.invariant (term c)
 
 pub loop-t-preserved : goal.loop-t-preserved
 loop-t-preserved c =
     let m : Model = c.args.model.now.model in
-    let room = state_room m c.invariant.ensures.model c.requires.exact c.args.a c.requires.action c.args.s c.requires.state in
-    next_sum _ _ c.loop-t.t (trans_at m c.args.a c.args.s) (reward_on_arrival m c.args.a c.args.s) _ _ room (below c) c.loop-t.invariant (term c)
+    let room = state_room m c.invariant.ensures.model c.requires.exact c.args.a c.requires.action c.args.s
+    c.requires.state in
+    next_sum _ _ c.loop-t.t (trans_at m c.args.a c.args.s) (reward_on_arrival m c.args.a c.args.s) _ _ room
+    (below c) c.loop-t.invariant (term c)
 
 pub returns : goal.returns
 unfolding reward_in_state
@@ -56,4 +64,5 @@ returns c =
     let past = c.loop-t-test.false in
     let within = c.loop-t.auto.t-end in
     let end : c.loop-t.t ≡ m.states = omega arith in
-    c.loop-t.invariant ∙ ap (λ (n : ℕ). int_sum n (λ t. pos (trans_at m c.args.a c.args.s t) *ℤ reward_on_arrival m c.args.a c.args.s t)) end
+    c.loop-t.invariant ∙ ap (λ (n : ℕ). int_sum n (λ t. pos (trans_at m c.args.a c.args.s t)
+    *ℤ reward_on_arrival m c.args.a c.args.s t)) end

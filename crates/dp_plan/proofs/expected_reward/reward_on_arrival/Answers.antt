@@ -12,7 +12,8 @@ use Rattle.dp_plan.proofs.expected_reward.reward_on_arrival.Goals as goal
 abbrev IsTerm : goal.After-weighed-total → Type 0
 IsTerm c =
     to_z w128 (of_z w128 c.weighed-total.result)
-    ≡ pos (obs_at c.args.model.now.model c.args.a c.args.t c.loop-o.o) *ℤ reward_at c.args.model.now.model c.args.a c.args.s c.args.t c.loop-o.o
+    ≡ pos (obs_at c.args.model.now.model c.args.a c.args.t c.loop-o.o)
+    *ℤ reward_at c.args.model.now.model c.args.a c.args.s c.args.t c.loop-o.o
 
 below : (c : goal.After-weighed-total) → c.loop-o.o < joint_observations c.args.model.now.model
 below c = let end = c.joint_observations-o-end.ensures.is in let lt = c.loop-o-test.true in omega arith
@@ -20,23 +21,31 @@ below c = let end = c.joint_observations-o-end.ensures.is in let lt = c.loop-o-t
 term : (c : goal.After-weighed-total) → IsTerm c
 term c =
     let m : Model = c.args.model.now.model in
-    let room = arrival_room m c.invariant.ensures.model c.requires.exact c.args.a c.requires.action c.args.s c.args.t c.requires.next in
-    let reward : c.from.result ≡ reward_at m c.args.a c.args.s c.args.t c.loop-o.o = c.from.ensures ∙ to_z-of_z w64 c.reward.result (search rules) ∙ c.reward.ensures in
-    let number : to_z w128 (of_z w128 c.from.result) ≡ reward_at m c.args.a c.args.s c.args.t c.loop-o.o = to_z-of_z w128 c.from.result (search rules) ∙ reward in
+    let room = arrival_room m c.invariant.ensures.model c.requires.exact c.args.a c.requires.action c.args.s
+    c.args.t c.requires.next in
+    let reward : c.from.result ≡ reward_at m c.args.a c.args.s c.args.t c.loop-o.o = c.from.ensures
+    ∙ to_z-of_z w64 c.reward.result (search rules) ∙ c.reward.ensures in
+    let number : to_z w128 (of_z w128 c.from.result) ≡ reward_at m c.args.a c.args.s c.args.t c.loop-o.o =
+    to_z-of_z w128 c.from.result (search rules) ∙ reward in
     read_back _ _ (c.weighed-total.ensures ∙ λ i. pos (c.obs.ensures i) *ℤ number i)
-    (term_fits _ _ c.loop-o.o (obs_at m c.args.a c.args.t) (reward_at m c.args.a c.args.s c.args.t) room (below c))
+    (term_fits _ _ c.loop-o.o (obs_at m c.args.a c.args.t) (reward_at m c.args.a c.args.s c.args.t) room
+    (below c))
 
 pub overflow_add-total : goal.overflow_add-total
 overflow_add-total c =
     let m : Model = c.args.model.now.model in
-    let room = arrival_room m c.invariant.ensures.model c.requires.exact c.args.a c.requires.action c.args.s c.args.t c.requires.next in
-    next_fits _ _ c.loop-o.o (obs_at m c.args.a c.args.t) (reward_at m c.args.a c.args.s c.args.t) _ _ room (below c) c.loop-o.invariant (term c)
+    let room = arrival_room m c.invariant.ensures.model c.requires.exact c.args.a c.requires.action c.args.s
+    c.args.t c.requires.next in
+    next_fits _ _ c.loop-o.o (obs_at m c.args.a c.args.t) (reward_at m c.args.a c.args.s c.args.t) _ _ room
+    (below c) c.loop-o.invariant (term c)
 
 pub loop-o-preserved : goal.loop-o-preserved
 loop-o-preserved c =
     let m : Model = c.args.model.now.model in
-    let room = arrival_room m c.invariant.ensures.model c.requires.exact c.args.a c.requires.action c.args.s c.args.t c.requires.next in
-    next_sum _ _ c.loop-o.o (obs_at m c.args.a c.args.t) (reward_at m c.args.a c.args.s c.args.t) _ _ room (below c) c.loop-o.invariant (term c)
+    let room = arrival_room m c.invariant.ensures.model c.requires.exact c.args.a c.requires.action c.args.s
+    c.args.t c.requires.next in
+    next_sum _ _ c.loop-o.o (obs_at m c.args.a c.args.t) (reward_at m c.args.a c.args.s c.args.t) _ _ room
+    (below c) c.loop-o.invariant (term c)
 
 pub returns : goal.returns
 unfolding reward_on_arrival
@@ -46,4 +55,5 @@ returns c =
     let past = c.loop-o-test.false in
     let within = c.loop-o.auto.o-end in
     let end : c.loop-o.o ≡ joint_observations m = omega arith in
-    c.loop-o.invariant ∙ ap (λ (n : ℕ). int_sum n (λ o. pos (obs_at m c.args.a c.args.t o) *ℤ reward_at m c.args.a c.args.s c.args.t o)) end
+    c.loop-o.invariant ∙ ap (λ (n : ℕ). int_sum n (λ o. pos (obs_at m c.args.a c.args.t o)
+    *ℤ reward_at m c.args.a c.args.s c.args.t o)) end

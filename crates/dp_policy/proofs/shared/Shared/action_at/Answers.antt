@@ -1,6 +1,5 @@
-use Rattle.std.proofs.Common.{◌≡◌, ℕ, ◌<◌, [], add-one, get_or, length, ap, ◌∙◌, sym, subst, arith}
-use Rattle.dp_spec.specs.PolicyTree.{root_action}
-use Rattle.dp_spec.specs.SharedPolicy.{row_at, row_count, unfolded_tree}
+use Rattle.std.proofs.Common.{◌≡◌, ℕ, ◌<◌, [], add-one, get_or, length, ap, ◌∙◌, subst, arith}
+use Rattle.dp_spec.specs.SharedPolicy.{row_at, unfolded_tree}
 use Rattle.dp_policy.specs.SharedRows.{AreKept, HorizonRows, remaining_after}
 use Rattle.dp_policy.proofs.ReachedRows.{reached_end, reached_step}
 use Rattle.dp_policy.proofs.shared.Shared.action_at.Goals as goal

@@ -1,5 +1,4 @@
-use Rattle.std.proofs.Common.{ℕ, ◌<◌, ◌≤◌, [], add-one, get_or, length, refl, arith}
-use Rattle.dp_spec.specs.SharedPolicy.{row_at, row_count}
+use Rattle.std.proofs.Common.{[], add-one, get_or, refl, arith}
 use Rattle.dp_laws.proofs.SharedTrees.{row_nexts}
 use Rattle.dp_policy.proofs.JoinedRows.{few_observations, rows_alike, rows_of_agent}
 use Rattle.dp_policy.proofs.Lists.{is_not, is_so, not_true}

@@ -1,7 +1,6 @@
-use Rattle.std.proofs.Common.{ℕ, ◌≡◌, ◌+◌, ◌*◌, ◌<◌, ◌≤◌, ◌^◌, [], add-one, get_or, length, refl, arith}
+use Rattle.std.proofs.Common.{ℕ, [], add-one, get_or, refl, arith}
 use Rattle.dp_spec.specs.SharedPolicy.{row_at}
-use Rattle.dp_policy.proofs.Lists.{is_not, not_true}
-use Rattle.dp_policy.proofs.PlainStages.{counted_here, counted_rows, small_product}
+use Rattle.dp_policy.proofs.PlainStages.{counted_rows}
 use Rattle.dp_policy.proofs.shared.Shared.goes_on_plainly.Goals as goal
 
 pub loop-row-preserved : goal.loop-row-preserved

@@ -1,0 +1,2 @@
+pub mod PolicyHorizons
+pub mod TreeSizeSteps

@@ -1,0 +1,2 @@
+pub mod CertificateValue
+pub mod TreeSizes

@@ -1,0 +1,3 @@
+pub mod Choices
+pub mod LookRows
+pub mod FrontBounds

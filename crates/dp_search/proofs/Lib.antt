@@ -1,0 +1,4 @@
+pub mod Steps
+pub mod MoreLeaves
+pub mod GrownLeaves
+pub mod TriedPolicies

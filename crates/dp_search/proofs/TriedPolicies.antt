@@ -1,0 +1,48 @@
+-- A search whose policy was tried: its tree and its held leaves stay, and its lower end does not fall.
+use Rattle.std.proofs.Common.{◌≡◌, ℕ, true, ℤ, ◌≤ℤ◌, List, ◌∷◌, map, sym, ap, subst}
+use Rattle.std.specs.BinaryHeap.{heap_items}
+use Rattle.dp_spec.specs.Front.{Front}
+use Rattle.dp_spec.specs.Space.{Space}
+use Rattle.dp_spec.specs.SearchState.{OpenLeaf}
+use Rattle.dp_tree.specs.Nodes.{Nodes}
+use Rattle.dp_search.specs.declared.held_leaves.HeldLeaves.{HeldLeaves}
+use Rattle.dp_search.specs.declared.state.State.{State}
+use Rattle.dp_search.specs.Running.{IsRunning}
+use Rattle.dp_search.specs.SearchStates.{held_leaves, open_leaf, Runs}
+use Rattle.dp_search.proofs.Steps.{full_passes, running_raised}
+
+module _ {F P : Type 0} (meaning : F → Front) (S : Space) (constants : ℤ) (width budget : ℕ) (st st' : State F P)
+    (rest : List OpenLeaf) where
+  -- what runs with the parts of the first state runs as the second state
+  moved : st'.arena ≡ st.arena → st'.held ≡ st.held → st'.inner ≡ st.inner
+      → IsRunning S constants width budget st.arena st'.lower st.inner (held_leaves meaning st) rest
+      → Runs meaning S constants width budget st' rest
+  moved arena held inner running =
+      let leaves : HeldLeaves F → List OpenLeaf = λ h. map (open_leaf meaning) (heap_items h.heap) in
+      let running = subst (λ (a : Nodes).
+      IsRunning S constants width budget a st'.lower st.inner (held_leaves meaning st) rest) (sym arena)
+      running in
+      let running = subst (λ (n : ℕ).
+      IsRunning S constants width budget st'.arena st'.lower n (held_leaves meaning st) rest) (sym inner)
+      running in
+      subst (λ (es : List OpenLeaf). IsRunning S constants width budget st'.arena st'.lower st'.inner es rest)
+      (sym (ap leaves held)) running
+
+  -- after the policy of the next leaf, which is full
+  pub full_leaf_runs : (p : OpenLeaf) → st'.arena ≡ st.arena → st'.held ≡ st.held → st'.inner ≡ st.inner
+      → st.lower ≤ℤ st'.lower → S.is_full p.front ≡ true → S.worth p.front ≤ℤ st'.lower
+      → Runs meaning S constants width budget st (p ∷ rest) → Runs meaning S constants width budget st' rest
+  full_leaf_runs p arena held inner le full worth running =
+      moved arena held inner
+      (full_passes S constants width budget st.arena st.inner st.lower st'.lower (held_leaves meaning st)
+      rest p le
+      full worth running)
+
+  -- after any other policy
+  pub tried_runs : st'.arena ≡ st.arena → st'.held ≡ st.held → st'.inner ≡ st.inner → st.lower ≤ℤ st'.lower
+      → Runs meaning S constants width budget st rest → Runs meaning S constants width budget st' rest
+  tried_runs arena held inner le running =
+      moved arena held inner
+      (running_raised S constants width budget st.arena st.inner st.lower st'.lower (held_leaves meaning st)
+      rest le
+      running)

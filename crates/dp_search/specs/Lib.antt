@@ -1,0 +1,4 @@
+pub mod LeafOrder
+pub mod Running
+pub mod SearchStates
+pub mod Toy
