@@ -4,6 +4,7 @@ pub mod FrontParts
 pub mod JoinedFronts
 pub mod JoinedWeights
 pub mod KeptFronts
+pub mod AlikeClasses
 pub mod MergeFaults
 pub mod Modes
 pub mod ChosenActions

@@ -30,7 +30,7 @@ assigned ds i c o read some free =
     let none : o ≡ None = read ∙ unassigned_none ds i c free in
     let no : true ≡ false = sym some ∙ ap is_some none in cc
 
-none_of : (o : Option ℕ) → is_some o ≡ false → o ≡ None
+pub none_of : (o : Option ℕ) → is_some o ≡ false → o ≡ None
 none_of None e = refl
 none_of (Some a) e = absurd (let no : true ≡ false = e in cc)
 

@@ -1,6 +1,7 @@
 -- The kept weights of an agent's classes at their places are those of the definitions, in exact mode.
-use Rattle.std.proofs.Common.{◌≡◌, ℕ, ◌+◌, ◌*◌, ◌/◌, ◌%◌, ◌<◌, ◌^◌, Bool, true, List, Option, Some, None, unsigned_abs, length, take, sym, ap, ◌∙◌, subst, arith}
+use Rattle.std.proofs.Common.{◌≡◌, ℕ, ◌+◌, ◌*◌, ◌/◌, ◌%◌, ◌<◌, ◌^◌, Bool, true, List, Option, Some, None, unsigned_abs, length, take, ℤ, pos, [], ◌∷◌, map, refl, sym, ap, ◌∙◌, subst, arith}
 use Rattle.std.specs.Prelude.{MatchOption}
+use Rattle.std.specs.List.{range_with_len}
 use Rattle.std.proofs.lemmas.Nat.{div-mul-add, mod-mul-add, mod_below}
 use Rattle.dp_base.specs.Sums.{nat_sum}
 use Rattle.dp_base.proofs.NaturalSumLaws.{nat_sum_ext, nat_sum_prod}
@@ -11,15 +12,16 @@ use Rattle.dp_spec.specs.JointNumbers.{product}
 use Rattle.dp_spec.specs.Merge.{class_total, place_weight, placed_number, without}
 use Rattle.dp_spec.specs.Model.{Model}
 use Rattle.dp_spec.specs.Quantities.{class_weight_in}
-use Rattle.dp_spec.specs.UnequalPlaces.{AgreeAt, IsFirstUnequal, first_unequal, place_count, weight_at}
+use Rattle.dp_spec.specs.UnequalPlaces.{AgreeAt, IsFirstUnequal, class_vector, first_unequal, place_count, weight_at}
 use Rattle.dp_spec.proofs.JointNumberLaws.{part_below, positive_right, row_below}
 use Rattle.dp_laws.proofs.MergedSpans.{placed_at, product_split, product_without}
 use Rattle.dp_laws.proofs.PlaceWeights.{place_weight_in, places_total, total_fits}
 use Rattle.dp_laws.proofs.UnequalPlaces.{agreement_is, first_unequal_is, none_unequal_is}
 use Rattle.dp_cluster.specs.Joins.{behind, own_count}
 use Rattle.dp_cluster.specs.KeptFronts.{IsFrontOf, KeptFront, kept_weight}
-use Rattle.dp_cluster.specs.OwnWeights.{AreInProportion, IsFirstWithout, low_at, own_total, own_weight}
+use Rattle.dp_cluster.specs.OwnWeights.{AreInProportion, IsFirstWithout, low_end, own_low, own_total, own_weight}
 use Rattle.dp_cluster.proofs.FrontParts.{as_many_counts}
+use Rattle.dp_cluster.proofs.RunsOfWeights.{map_alike}
 
 -- a number by its row and place
 by_row : (x w : ℕ) → x / w * w + x % w ≡ x
@@ -92,12 +94,14 @@ module _ (m : Model) (k : KeptFront) (is : IsFrontOf m k) (e : k.is_exact ≡ tr
         (row_below (high * own_count k i + c) (rows * own_count k i) (behind k i) low (row_below high rows (own_count k i) c high_in class_in) low_in)
 
     -- it is that of the joint class
-    kept_here : own_weight k.weights (own_count k i) width c (x * k.states + s) ≡ unsigned_abs (kept_weight k number s).low
+    kept_here : own_low k.weights (own_count k i) width c (x * k.states + s) ≡ (kept_weight k number s).low
     unfolding number
     kept_here =
-        ap (own_weight k.weights (own_count k i) width c) in_row
-        ∙ (λ j. low_at k.weights ((div-mul-add high width (low * k.states + s) in_run j * own_count k i + c) * width + mod-mul-add high width (low * k.states + s) in_run j))
-        ∙ ap (low_at k.weights) (regroup (high * own_count k i + c) (behind k i) low k.states s)
+        let row_is = div-mul-add high width (low * k.states + s) in_run in
+        let rest_is = mod-mul-add high width (low * k.states + s) in_run in
+        ap (own_low k.weights (own_count k i) width c) in_row
+        ∙ (λ j. low_end k.weights ((row_is j * own_count k i + c) * width + rest_is j))
+        ∙ ap (low_end k.weights) (regroup (high * own_count k i + c) (behind k i) low k.states s)
       where
         regroup : (h l r t s : ℕ) → h * (l * t) + (r * t + s) ≡ (h * l + r) * t + s
         regroup h l r t s = omega arith
@@ -107,27 +111,49 @@ module _ (m : Model) (k : KeptFront) (is : IsFrontOf m k) (e : k.is_exact ≡ tr
     placed =
         sym (placed_at i counts c high low i_in high_in low_in) ∙ ap (placed_number i counts c) (by_row x (behind k i))
 
-    pub weight_here : own_weight k.weights (own_count k i) width c (x * k.states + s) ≡ place_weight m k.front i c x s
-    weight_here =
+    low_here : own_low k.weights (own_count k i) width c (x * k.states + s) ≡ pos (place_weight m k.front i c x s)
+    low_here =
         let kept = is.weights lt number s number_in (subst (λ (z : ℕ). s < z) is.states s_in) in
         let in_exact : kept_weight k number s ≡ class_weight_in (exact m.scales) m k.front number s =
         kept ∙ ap (λ (y : Bool). class_weight_in (arithmetic y m.scales) m k.front number s) e in
         let defined = place_weight_in m is.model k.horizon k.front is.front i c x s i_in class_in x_in in
-        kept_here
-        ∙ ap (λ (w : Span). unsigned_abs w.low) (in_exact ∙ ap (λ (C : ℕ). class_weight_in (exact m.scales) m k.front C s) placed ∙ defined)
+        let same = ap (λ (C : ℕ). class_weight_in (exact m.scales) m k.front C s) placed in
+        kept_here ∙ ap (λ (w : Span). w.low) (in_exact ∙ same ∙ defined)
+
+    weight_here : own_weight k.weights (own_count k i) width c (x * k.states + s) ≡ place_weight m k.front i c x s
+    weight_here = ap unsigned_abs low_here
 
   -- place by place
-  pub weight_is : (c p : ℕ) → c < own_count k i → p < places
-      → own_weight k.weights (own_count k i) width c p ≡ weight_at m k.front i c p
-  weight_is c p class_in p_in =
-      let all : p < product (without i counts) * k.states = rw others_are (let same : places ≡ rows * behind k i * k.states = omega arith in omega arith) in
+  low_is : (c p : ℕ) → c < own_count k i → p < places
+      → own_low k.weights (own_count k i) width c p ≡ pos (weight_at m k.front i c p)
+  low_is c p class_in p_in =
+      let same : places ≡ rows * behind k i * k.states = omega arith in
+      let all : p < product (without i counts) * k.states = rw others_are (omega arith) in
       let some : 0 < k.states = positive_right (product (without i counts)) k.states p all in
-      ap (own_weight k.weights (own_count k i) width c) (sym (by_row p k.states))
-      ∙ weight_here c (p / k.states) (p % k.states) class_in (part_below (product (without i counts)) k.states p all) (mod_below p k.states some)
-      ∙ (λ j. place_weight m k.front i c (p / is.states j) (p % is.states j))
+      let x_in = part_below (product (without i counts)) k.states p all in
+      ap (own_low k.weights (own_count k i) width c) (sym (by_row p k.states))
+      ∙ low_here c (p / k.states) (p % k.states) class_in x_in (mod_below p k.states some)
+      ∙ (λ j. pos (place_weight m k.front i c (p / is.states j) (p % is.states j)))
+
+  weight_is : (c p : ℕ) → c < own_count k i → p < places
+      → own_weight k.weights (own_count k i) width c p ≡ weight_at m k.front i c p
+  weight_is c p class_in p_in = ap unsigned_abs (low_is c p class_in p_in)
+
+  -- the whole vector of a class
+  vector_here : (c : ℕ) → c < own_count k i
+      → map (own_low k.weights (own_count k i) width c) (range_with_len 0 places) ≡ map pos (class_vector m k.front i c)
+  unfolding class_vector
+  vector_here c class_in =
+      map_alike (own_low k.weights (own_count k i) width c) (λ p. pos (weight_at m k.front i c p)) places (λ p lt. low_is c p class_in lt)
+      ∙ map_twice (weight_at m k.front i c) (range_with_len 0 places)
+      ∙ ap (λ (n : ℕ). map pos (map (weight_at m k.front i c) (range_with_len 0 n))) places_are
+    where
+      map_twice : (f : ℕ → ℕ) (xs : List ℕ) → map (λ p. pos (f p)) xs ≡ map pos (map f xs)
+      map_twice f [] = refl
+      map_twice f (x ∷ xs) = ap (λ (l : List ℤ). pos (f x) ∷ l) (map_twice f xs)
 
   -- all together
-  pub total_is : (c : ℕ) → c < own_count k i → own_total k.weights (own_count k i) width places c ≡ class_total m k.front i c
+  total_is : (c : ℕ) → c < own_count k i → own_total k.weights (own_count k i) width places c ≡ class_total m k.front i c
   total_is c class_in =
       let f = own_weight k.weights (own_count k i) width c in
       let all : places ≡ product (without i counts) * k.states = rw others_are (omega arith) in
@@ -144,6 +170,15 @@ module _ (m : Model) (k : KeptFront) (is : IsFrontOf m k) (e : k.is_exact ≡ tr
       subst (λ (n : ℕ). n < 2 ^ 127) (sym (total_is c class_in)) fits
 
   -- the same of numbers that were read
+  pub vector_at : (c : ℕ) → c < own_count k i → (h n w : ℕ) → h ≡ rows → n ≡ own_count k i → w ≡ width
+      → map (own_low k.weights n w c) (range_with_len 0 (h * w)) ≡ map pos (class_vector m k.front i c)
+  vector_at c class_in h n w eh en ew =
+      (λ j. map (own_low k.weights (en j) (ew j) c) (range_with_len 0 (eh j * ew j))) ∙ vector_here c class_in
+
+  pub total_at : (c : ℕ) → c < own_count k i → (h n w : ℕ) → h ≡ rows → n ≡ own_count k i → w ≡ width
+      → own_total k.weights n w (h * w) c ≡ class_total m k.front i c
+  total_at c class_in h n w eh en ew = (λ j. own_total k.weights (en j) (ew j) (eh j * ew j) c) ∙ total_is c class_in
+
   pub few_at : (c : ℕ) → c < own_count k i → (h n w : ℕ) → h ≡ rows → n ≡ own_count k i → w ≡ width
       → own_total k.weights n w (h * w) c < 2 ^ 127
   few_at c class_in h n w eh en ew =

@@ -1,12 +1,42 @@
 -- The weights of one agent's classes, run by run: totals, and the first place where two classes differ.
-use Rattle.std.proofs.Common.{◌≡◌, ◌⊎◌, inl, inr, ℕ, zero, suc, ◌+◌, ◌-◌, ◌*◌, ◌<◌, ◌≤◌, ◌^◌, List, length, sym, ap, ◌∙◌, subst, arith}
+use Rattle.std.proofs.Common.{◌≡◌, ◌⊎◌, inl, inr, ℕ, zero, suc, ◌+◌, ◌-◌, ◌*◌, ◌<◌, ◌≤◌, ◌^◌, List, length, ℤ, unsigned_abs, [], ◌∷◌, ◌++◌, map, refl, sym, ap, ◌∙◌, subst, arith}
+use Rattle.std.specs.List.{range_with_len}
+use Rattle.std.proofs.lemmas.List.{append_assoc, append-nil}
+use Rattle.std.proofs.lemmas.List.FromFn.{map-range_with_len_more}
 use Rattle.std.proofs.lemmas.Nat.{div-mul-add, mod-mul-add}
 use Rattle.std.proofs.Math.Nat.{mul-le-mul_right}
 use Rattle.dp_base.specs.Sums.{nat_sum}
 use Rattle.dp_base.proofs.NaturalSumLaws.{nat_sum_ext, nat_sum_none, nat_sum_part, nat_sum_plus}
 use Rattle.dp_spec.specs.declared.span.Span.{Span}
 use Rattle.dp_spec.proofs.JointNumberLaws.{row_below}
-use Rattle.dp_cluster.specs.OwnWeights.{AreInProportion, AreOwnRuns, IsFirstWithout, low_at, own_total, own_weight}
+use Rattle.dp_cluster.specs.OwnWeights.{AreInProportion, AreOwnRuns, IsFirstWithout, low_at, low_end, own_low, own_total, own_weight}
+
+-- ---- numbers up to a place
+
+map_plus : (f : ℕ → ℤ) (a b : ℕ)
+    → map f (range_with_len 0 (a + b)) ≡ map f (range_with_len 0 a) ++ map (λ j. f (a + j)) (range_with_len 0 b)
+map_plus f a zero =
+    let none : a + zero ≡ a = omega arith in
+    ap (λ k. map f (range_with_len 0 k)) none ∙ sym (append-nil (map f (range_with_len 0 a)))
+map_plus f a (suc b) =
+    let more : a + suc b ≡ a + b + 1 = omega arith in
+    let next : b + 1 ≡ suc b = omega arith in
+    ap (λ k. map f (range_with_len 0 k)) more
+    ∙ map-range_with_len_more f 0 (a + b) (a + b) (omega arith)
+    ∙ ap (λ l. l ++ f (a + b) ∷ []) (map_plus f a b)
+    ∙ append_assoc (map f (range_with_len 0 a)) (map (λ j. f (a + j)) (range_with_len 0 b)) (f (a + b) ∷ [])
+    ∙ ap (λ l. map f (range_with_len 0 a) ++ l) (sym (map-range_with_len_more (λ j. f (a + j)) 0 b b (omega arith)))
+    ∙ ap (λ k. map f (range_with_len 0 a) ++ map (λ j. f (a + j)) (range_with_len 0 k)) next
+
+pub map_alike : (f g : ℕ → ℤ) (n : ℕ) → ((j : ℕ) → j < n → f j ≡ g j) → map f (range_with_len 0 n) ≡ map g (range_with_len 0 n)
+map_alike f g zero same = refl
+map_alike f g (suc n) same =
+    let next : suc n ≡ n + 1 = omega arith in
+    ap (λ k. map f (range_with_len 0 k)) next
+    ∙ map-range_with_len_more f 0 n n (omega arith)
+    ∙ (λ j. map_alike f g n (λ i lt. same i (omega arith)) j ++ same n (omega arith) j ∷ [])
+    ∙ sym (map-range_with_len_more g 0 n n (omega arith))
+    ∙ ap (λ k. map g (range_with_len 0 k)) (sym next)
 
 -- ---- where a run stands
 
@@ -35,12 +65,29 @@ module _ (ws : List Span) (rows n w : ℕ) (runs : AreOwnRuns ws rows n w) where
     pub place_in_run : (j : ℕ) → j < w → own_weight ws n w c (row * w + j) ≡ low_at ws ((row * n + c) * w + j)
     place_in_run j lt = λ i. low_at ws ((div-mul-add row w j lt i * n + c) * w + mod-mul-add row w j lt i)
 
+    low_in_run : (j : ℕ) → j < w → own_low ws n w c (row * w + j) ≡ low_end ws ((row * n + c) * w + j)
+    low_in_run j lt = λ i. low_end ws ((div-mul-add row w j lt i * n + c) * w + mod-mul-add row w j lt i)
+
+    -- the weights so far, after the run
+    pub weights_next : (run : List Span) (all all' : List ℤ) → length run ≡ w
+        → ((j : ℕ) → j < w → low_end run j ≡ low_end ws ((row * n + c) * w + j))
+        → all ≡ map (own_low ws n w c) (range_with_len 0 (row * w))
+        → all' ≡ all ++ map (low_end run) (range_with_len 0 (length run))
+        → all' ≡ map (own_low ws n w c) (range_with_len 0 ((row + 1) * w))
+    weights_next run all all' size are before pushed =
+        let last : map (low_end run) (range_with_len 0 (length run)) ≡ map (λ j. own_low ws n w c (row * w + j)) (range_with_len 0 w) =
+        ap (λ k. map (low_end run) (range_with_len 0 k)) size
+        ∙ map_alike (low_end run) (λ j. own_low ws n w c (row * w + j)) w (λ j lt. are j lt ∙ sym (low_in_run j lt)) in
+        let both : row * w + w ≡ (row + 1) * w = omega arith in
+        pushed ∙ (λ j. before j ++ last j) ∙ sym (map_plus (own_low ws n w c) (row * w) w)
+        ∙ ap (λ k. map (own_low ws n w c) (range_with_len 0 k)) both
+
     -- the total after the run
-    pub total_next : (run : List Span) → length run ≡ w → ((j : ℕ) → j < w → low_at run j ≡ low_at ws ((row * n + c) * w + j))
+    pub total_next : (run : List Span) → length run ≡ w → ((j : ℕ) → j < w → low_end run j ≡ low_end ws ((row * n + c) * w + j))
         → own_total ws n w (row * w) c + nat_sum (length run) (low_at run) ≡ own_total ws n w ((row + 1) * w) c
     total_next run size are =
         let last : nat_sum (length run) (low_at run) ≡ nat_sum w (λ j. own_weight ws n w c (row * w + j)) =
-        ap (λ k. nat_sum k (low_at run)) size ∙ nat_sum_ext w _ _ (λ j lt. are j lt ∙ sym (place_in_run j lt)) in
+        ap (λ k. nat_sum k (low_at run)) size ∙ nat_sum_ext w _ _ (λ j lt. ap unsigned_abs (are j lt) ∙ sym (place_in_run j lt)) in
         let all : row * w + w ≡ (row + 1) * w = omega arith in
         (λ j. own_total ws n w (row * w) c + last j) ∙ sym (nat_sum_plus (row * w) w (own_weight ws n w c)) ∙ ap (λ k. own_total ws n w k c) all
 
@@ -85,17 +132,17 @@ pub record AreRunsOf (ws : List Span) (rows n w row a b : ℕ) (one other : List
   pub first_in : a < n
   pub second_in : b < n
   pub size : length one ≡ w
-  pub first : (j : ℕ) → j < w → low_at one j ≡ low_at ws ((row * n + a) * w + j)
-  pub second : (j : ℕ) → j < w → low_at other j ≡ low_at ws ((row * n + b) * w + j)
+  pub first : (j : ℕ) → j < w → low_end one j ≡ low_end ws ((row * n + a) * w + j)
+  pub second : (j : ℕ) → j < w → low_end other j ≡ low_end ws ((row * n + b) * w + j)
   pub first_total : t ≡ own_total ws n w (rows * w) a
   pub second_total : u ≡ own_total ws n w (rows * w) b
 
 module _ (ws : List Span) (rows n w row a b : ℕ) (one other : List Span) (t u : ℕ) (are : AreRunsOf ws rows n w row a b one other t u) where
   first_here : (j : ℕ) → j < w → low_at one j ≡ own_weight ws n w a (row * w + j)
-  first_here j lt = are.first j lt ∙ sym (place_in_run ws rows n w are.runs row a are.row_in are.first_in j lt)
+  first_here j lt = ap unsigned_abs (are.first j lt) ∙ sym (place_in_run ws rows n w are.runs row a are.row_in are.first_in j lt)
 
   second_here : (j : ℕ) → j < w → low_at other j ≡ own_weight ws n w b (row * w + j)
-  second_here j lt = are.second j lt ∙ sym (place_in_run ws rows n w are.runs row b are.row_in are.second_in j lt)
+  second_here j lt = ap unsigned_abs (are.second j lt) ∙ sym (place_in_run ws rows n w are.runs row b are.row_in are.second_in j lt)
 
   in_proportion : (j : ℕ) → j < w → low_at one j * u ≡ low_at other j * t → AreInProportion ws n w (rows * w) a b (row * w + j)
   in_proportion j lt same =

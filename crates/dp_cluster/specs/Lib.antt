@@ -1,9 +1,11 @@
 pub mod Advances
 pub mod AgentParts
+pub mod EqualClasses
 pub mod Joins
 pub mod KeepingPolicies
 pub mod KeptFronts
 pub mod Merging
+pub mod OwnPlaces
 pub mod OwnWeights
 pub mod Pairs
 pub mod Rewards

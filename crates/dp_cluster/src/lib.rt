@@ -2,6 +2,7 @@
 #![tactic(auto)]
 
 mod advance;
+mod equal;
 mod fractions;
 mod front;
 mod join;

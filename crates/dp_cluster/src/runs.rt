@@ -1,16 +1,18 @@
 // The weights of one agent's classes, in exact mode: their totals, and where two classes differ.
-ghost use Rattle.std.specs.Prelude.{◌≡◌, ℕ, ◌+◌, ◌*◌, ◌^◌, ◌<◌, ◌≤◌, length, pos, get_or, drop, take, MatchOption};
+ghost use Rattle.std.specs.Prelude.{◌≡◌, ℕ, ◌+◌, ◌*◌, ◌^◌, ◌<◌, ◌++◌, map, length, take, MatchOption, IfOk};
+ghost use Rattle.std.specs.List.{range_with_len};
 ghost use Rattle.dp_base.specs.Sums.{nat_sum};
-ghost use Rattle.dp_spec.specs.Arithmetic.{point};
 ghost use Rattle.dp_spec.specs.Front.{class_counts};
 ghost use Rattle.dp_spec.specs.JointNumbers.{product};
-ghost use Rattle.dp_cluster.specs.Joins.{behind, own_count};
-ghost use Rattle.dp_cluster.specs.OwnWeights.{AreInProportion, AreOwnRuns, IsFirstWithout, low_at, own_total};
+ghost use Rattle.dp_cluster.specs.OwnPlaces.{ArePlacesOf};
+ghost use Rattle.dp_cluster.specs.OwnWeights.{AreInProportion, AreOwnRuns, IsFirstWithout, low_at, low_end, own_low, own_total};
 
 use crate::Front;
 use crate::fractions::same_fraction;
 use crate::join::width_behind;
+use dp_base::Memory;
 use dp_spec::Span;
+use std::alloc::Global;
 
 // Where the weights of an agent's classes stand among all weights: in each of `rows` rows each class has a
 // run of `width` weights, so that the run of class `c` in row `r` begins at `(r * classes + c) * width`.
@@ -28,10 +30,7 @@ impl Front {
         requires some { 0 < self.now.states }
         requires some_class { 0 < product (class_counts self.now.front.agents) }
         requires agent { agent < length self.now.front.agents }
-        ensures rows { result.rows ≡ product (take agent (class_counts self.now.front.agents)) }
-        ensures classes { result.classes ≡ own_count self.now agent }
-        ensures width { result.width ≡ behind self.now agent * self.now.states }
-        ensures runs { AreOwnRuns self.now.weights result.rows result.classes result.width }
+        ensures { ArePlacesOf self.now agent result }
     {
         self.invariant();
         let classes = self.classes(agent) as usize;
@@ -51,7 +50,7 @@ impl Front {
         requires row { row < places.rows }
         ensures width { length result.now ≡ places.width }
         ensures are { (j : ℕ) → j < places.width →
-            low_at result.now j ≡ low_at self.now.weights ((row * places.classes + class) * places.width + j) }
+            low_end result.now j ≡ low_end self.now.weights ((row * places.classes + class) * places.width + j) }
     {
         let weights = self.weights();
         let start = (row * places.classes + class as usize) * places.width;
@@ -70,6 +69,25 @@ impl Front {
             total += run_total(self.run(places, class, row));
         }
         total
+    }
+
+    // The weights of a class at all places, in order.
+    pub(crate) fn own_weights(
+        &self,
+        alloc: Global,
+        places: Places,
+        class: u32,
+    ) -> Result<Vec<i128>, Memory>
+        requires runs { AreOwnRuns self.now.weights places.rows places.classes places.width }
+        requires class { class < places.classes }
+        ensures { IfOk result (λ v. v.items ≡
+            map (own_low self.now.weights places.classes places.width class) (range_with_len 0 (places.rows * places.width))) }
+    {
+        let mut weights = Vec::new(alloc);
+        for row in 0..places.rows {
+            push_run(self.run(places, class, row), &mut weights)?;
+        }
+        Ok(weights)
     }
 
     // The first place at which the weights of two classes are not in the proportion of their totals.
@@ -100,6 +118,17 @@ impl Front {
         }
         None
     }
+}
+
+// Adds the weights of a run.
+fn push_run(run: &[Span], weights: &mut Vec<i128>) -> Result<(), Memory>
+    ensures { IfOk result (λ _.
+        weights.new.items ≡ weights.old.items ++ map (low_end run.now) (range_with_len 0 (length run.now))) }
+{
+    for weight in run {
+        weights.push(weight.low)?;
+    }
+    Ok(())
 }
 
 // The weights of a run together.

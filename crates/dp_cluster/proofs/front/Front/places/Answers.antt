@@ -1,4 +1,4 @@
-use Rattle.std.proofs.Common.{refl, arith}
+use Rattle.std.proofs.Common.{◌*◌, refl, arith}
 use Rattle.dp_cluster.proofs.OwnRuns.{AreCounted, few_places, few_runs, rows_are, runs_are}
 use Rattle.dp_cluster.proofs.front.Front.places.Goals as goal
 
@@ -36,9 +36,10 @@ overflow_mul-result-2 c =
     let few = few_places c.args.self.now c.args.agent c.joint_classes.result c.classes-classes.result c.width_behind-width.result
     c.states.result counted in omega (arith, few)
 
-pub returns-clause-rows : goal.returns-clause-rows
-returns-clause-rows c =
-    let counted : AreCounted c.args.self.now c.args.agent c.joint_classes.result c.classes-classes.result c.width_behind-width.result c.states.result =
+pub returns : goal.returns
+returns c =
+    let k = c.args.self.now in
+    let counted : AreCounted k c.args.agent c.joint_classes.result c.classes-classes.result c.width_behind-width.result c.states.result =
     record {
       stored = c.invariant.ensures;
       stage = c.requires.stage;
@@ -50,22 +51,9 @@ returns-clause-rows c =
       width_is = c.width_behind-width.ensures;
       states_is = c.states.ensures;
     } in
-    rows_are c.args.self.now c.args.agent c.joint_classes.result c.classes-classes.result c.width_behind-width.result
-    c.states.result counted
-
-pub returns-clause-runs : goal.returns-clause-runs
-returns-clause-runs c =
-    let counted : AreCounted c.args.self.now c.args.agent c.joint_classes.result c.classes-classes.result c.width_behind-width.result c.states.result =
     record {
-      stored = c.invariant.ensures;
-      stage = c.requires.stage;
-      some_state = c.requires.some;
-      some_class = c.requires.some_class;
-      agent = c.requires.agent;
-      joint_is = c.joint_classes.ensures.is;
-      count_is = c.classes-classes.ensures;
-      width_is = c.width_behind-width.ensures;
-      states_is = c.states.ensures;
-    } in
-    runs_are c.args.self.now c.args.agent c.joint_classes.result c.classes-classes.result c.width_behind-width.result
-    c.states.result counted
+      rows = rows_are k c.args.agent c.joint_classes.result c.classes-classes.result c.width_behind-width.result c.states.result counted;
+      classes = c.classes-classes.ensures;
+      width = λ j. c.width_behind-width.ensures j * c.states.ensures j;
+      runs = runs_are k c.args.agent c.joint_classes.result c.classes-classes.result c.width_behind-width.result c.states.result counted;
+    }
