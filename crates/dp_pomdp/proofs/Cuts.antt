@@ -106,3 +106,8 @@ module _ (A : Arithmetic) (m : Model) (z : KeepsZero A) where
       let after = no_look r k in
       ap (λ x. int_min x (weighted_table_in A m (suc r) none)) (greatest_ext _ (λ a. pos 0) (numbers_below (joint_actions m)) (λ a i. no_action r k a after) ∙ greatest_zero (numbers_below (joint_actions m)))
       ∙ ap (λ x. int_min (pos 0) x) (none_against (suc r))
+
+  -- nor does a joint action
+  pub none_action : (r k a : ℕ) → action_look_ahead_in A m r none a k ≡ pos 0
+  unfolding action_look_ahead_in
+  none_action r k a = no_action r (k - 1) a (no_look r (k - 1))

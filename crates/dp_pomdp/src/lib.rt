@@ -6,3 +6,4 @@ mod recursion;
 mod step;
 
 pub use bounds::{LookRoom, action_bound, tail_bound};
+pub use step::all_zero;

@@ -1,0 +1,12 @@
+pub mod ActionParts
+pub mod Agreement
+pub mod Bounds
+pub mod Changes
+pub mod Choosing
+pub mod ClassPlaces
+pub mod LookAheadRows
+pub mod Made
+pub mod OwnChoices
+pub mod Rows
+pub mod TakenApart
+pub mod Walks

@@ -1,0 +1,3 @@
+pub mod Bounders
+pub mod Games
+pub mod Kept

@@ -1,0 +1,161 @@
+//! The game of a front.
+ghost use Rattle.std.specs.Prelude.{◌≡◌, ◌<◌, ◌-◌, ℕ, true, [], Some, None, length, get_or, slice_index, IfOk};
+ghost use Rattle.dp_spec.specs.Arithmetic.{arithmetic};
+ghost use Rattle.dp_spec.specs.Fitting.{front_bound};
+ghost use Rattle.dp_spec.specs.Front.{Front as PlainFront};
+ghost use Rattle.dp_spec.specs.Mode.{is_exact_mode};
+ghost use Rattle.dp_spec.specs.Model.{Model as PlainModel};
+ghost use Rattle.dp_spec.specs.Steps.{chosen_front, unchosen_front};
+ghost use Rattle.dp_spec.specs.Wide.{has_room};
+ghost use Rattle.dp_cluster.specs.KeptFronts.{IsFrontOf};
+ghost use Rattle.dp_game.specs.Bounders.{IsBounderOf};
+ghost use Rattle.dp_game.specs.Games.{BoundsKeepers, IsGameOf, game_bound, own_choice, with_own_choice};
+ghost use Rattle.dp_game.specs.Kept.{IsOfSomeFront};
+
+use crate::Bounder;
+use crate::actions::JointActions;
+use crate::change::{bound_with, change_class, greatest_entries, moved};
+use crate::choices::{AgentChoices, choices_of};
+use crate::places::{joint_count, wanted_choices};
+use crate::table::look_ahead_table;
+use dp_base::Memory;
+use dp_cluster::Front;
+use dp_model::Model;
+use std::alloc::Global;
+
+/// The game of a front (a collaborative Bayesian game: Oliehoek and Amato, A Concise Introduction to
+/// Decentralized POMDPs, chapter 5): its joint classes choose joint actions, and each class is to have
+/// one action of its agent.
+///
+/// Contracts see how many actions each agent has, the actions that are chosen for its classes so far,
+/// what each joint class can earn by each joint action, and what is earned before the stage.
+/// `IsGameOf` says that these are those of a front.
+#[derive(Drop)]
+pub struct Game {
+    actions: JointActions,
+    choices: Vec<AgentChoices>,
+    table: Vec<i128>,
+    // Joint class by joint class, the choice for each agent's class.
+    wanted: Vec<Option<u8>>,
+    // Joint class by joint class, the greatest entry that agrees with these.
+    greatest: Vec<i128>,
+    earned: i128,
+    bound: i128,
+}
+
+impl std::marker::Model for Game {
+    ghost use Rattle.dp_game.specs.Games.{KeptGame};
+    ghost use Rattle.dp_game.specs.Kept.{IsKept, game_with};
+
+    ghost Value = { KeptGame };
+
+    ghost view = { λ g. game_with g.actions g.choices.items g.table.items g.earned };
+
+    ghost invariant = { λ g. IsKept (game_with g.actions g.choices.items g.table.items g.earned) g.wanted.items g.greatest.items g.bound };
+}
+
+impl Game {
+    /// The game of a front before the horizon, with room: with the look of a bounder of the model and the
+    /// front's horizon, and with the actions that are chosen in the front. The only error is want of memory.
+    pub fn of(
+        alloc: Global,
+        model: &Model,
+        front: &Front,
+        bounder: &Bounder,
+    ) -> Result<Game, Memory>
+        requires of_model { IsFrontOf model.now.model front.now }
+        requires bounder { IsBounderOf model.now.model bounder.now }
+        requires horizon { front.now.horizon ≡ bounder.now.horizon }
+        requires stage { front.now.front.stage < front.now.horizon }
+        requires room { has_room model.now.model front.now.horizon front.now.front ≡ true }
+        ensures is { IfOk result (IsGameOf model.now.model front.now.horizon bounder.now.look front.now.front) }
+        ensures sound { IfOk result (λ g. BoundsKeepers model.now.model front.now.horizon front.now.front (game_bound g)) }
+    {
+        let actions = JointActions::of(alloc, model)?;
+        let choices = choices_of(alloc, front, model.agents())?;
+        let count = joint_count(&choices);
+        let table = look_ahead_table(alloc, model, front, bounder, &choices, count)?;
+        let wanted = wanted_choices(alloc, &choices, count)?;
+        let greatest = greatest_entries(alloc, &actions, &table, &wanted, count)?;
+        let earned = front.earned().high;
+        let bound = bound_with(earned, &greatest);
+        Ok(Game {
+            actions,
+            choices,
+            table,
+            wanted,
+            greatest,
+            earned,
+            bound,
+        })
+    }
+
+    /// The bound of the game: what is earned before the stage, and for each joint class the greatest of
+    /// its entries among the joint actions that agree with the choices. It is the bound of each front of
+    /// which this is the game.
+    #[inline]
+    pub fn bound(&self) -> i128
+        ensures is { result ≡ game_bound self.now }
+        ensures of_front { (m : PlainModel) (h look : ℕ) (F : PlainFront) → IsGameOf m h look F self.now →
+            result ≡ front_bound (arithmetic (is_exact_mode m h) m.scales) m h look F }
+    {
+        self.bound
+    }
+
+    /// Chooses an action for a class that has none. It takes no memory.
+    pub fn choose(&mut self, agent: u32, class: u32, action: u32)
+        requires agent { agent < length self.old.choices }
+        requires class { class < length (get_or self.old.choices agent []) }
+        requires unassigned { own_choice self.old agent class ≡ None }
+        requires action { action < slice_index self.old.actions agent }
+        ensures is { self.new ≡ with_own_choice self.old agent class (Some action) }
+        ensures of_front { (m : PlainModel) (h look : ℕ) (F : PlainFront) → IsGameOf m h look F self.old →
+            IsGameOf m h look (chosen_front F agent class action) self.new }
+    {
+        self.invariant();
+        self.put(agent as usize, class as usize, Some(action as u8));
+    }
+
+    /// Takes back the action that is chosen for a class. It takes no memory.
+    pub fn unchoose(&mut self, agent: u32, class: u32)
+        requires agent { agent < length self.old.choices }
+        requires class { class < length (get_or self.old.choices agent []) }
+        requires chosen { (a : ℕ) × (own_choice self.old agent class ≡ Some a) }
+        ensures is { self.new ≡ with_own_choice self.old agent class None }
+        ensures of_front { (m : PlainModel) (h look : ℕ) (F : PlainFront) → IsGameOf m h look F self.old →
+            IsGameOf m h look (unchosen_front F agent class) self.new }
+    {
+        self.invariant();
+        self.put(agent as usize, class as usize, None);
+    }
+
+    // Makes a choice for a class.
+    fn put(&mut self, agent: usize, class: usize, choice: Option<u8>)
+        requires agent { agent < length self.old.choices }
+        requires class { class < length (get_or self.old.choices agent []) }
+        requires after { IsOfSomeFront (with_own_choice self.old agent class choice) }
+        ensures { self.new ≡ with_own_choice self.old agent class choice }
+    {
+        let change = change_class(
+            &self.actions,
+            &self.choices,
+            &self.table,
+            agent,
+            class,
+            choice,
+            &mut self.wanted,
+            &mut self.greatest,
+        );
+        self.bound = moved(self.bound, change.gone, change.come);
+        let own = &mut self.choices[agent];
+        own.put(class, choice);
+    }
+
+    // What holds of every game. It does nothing.
+    #[inline]
+    fn invariant(&self)
+        ensures { IsOfSomeFront self.now }
+    {
+        let _ = &self.bound;
+    }
+}

@@ -1,0 +1,14 @@
+//! The game of a front: what it can earn at most, for the actions that are chosen for its classes so
+//! far.
+#![tactic(auto)]
+
+mod actions;
+mod bounder;
+mod change;
+mod choices;
+mod game;
+mod places;
+mod table;
+
+pub use bounder::Bounder;
+pub use game::Game;

@@ -1,0 +1,198 @@
+// What each joint class of a front can earn by each joint action.
+ghost use Rattle.std.specs.Prelude.{◌≡◌, ◌<◌, ◌≤◌, ◌*◌, ◌-◌, ◌^◌, ◌++◌, ℕ, true, false, map, length, IfOk};
+ghost use Rattle.std.specs.List.{range_with_len};
+ghost use Rattle.dp_spec.specs.Arithmetic.{arithmetic};
+ghost use Rattle.dp_spec.specs.Front.{AgentFront, class_counts};
+ghost use Rattle.dp_spec.specs.JointNumbers.{joint_number, product};
+ghost use Rattle.dp_spec.specs.Model.{joint_actions, joint_observations};
+ghost use Rattle.dp_spec.specs.Quantities.{action_look_ahead_in};
+ghost use Rattle.dp_spec.specs.Sizes.{AreWeights};
+ghost use Rattle.dp_model.specs.Parts.{AreParts};
+ghost use Rattle.dp_cluster.specs.KeptFronts.{IsFrontOf, kept_weight};
+ghost use Rattle.dp_pomdp.specs.Looking.{AreZero, weights_of};
+ghost use Rattle.dp_game.specs.Bounders.{IsBounderOf};
+ghost use Rattle.dp_game.specs.Kept.{look_ahead_row, rows_of};
+
+use crate::Bounder;
+use crate::choices::AgentChoices;
+use crate::places::class_parts;
+use dp_base::Memory;
+use dp_cluster::Front;
+use dp_model::Model;
+use dp_pomdp::{LookRoom, all_zero};
+use dp_spec::Span;
+use std::alloc::Global;
+
+// What the rows share: the classes and the weights of a joint class, and room to look ahead.
+#[derive(Drop)]
+struct Scratch {
+    classes: Vec<u32>,
+    weights: Vec<Span>,
+    room: LookRoom,
+}
+
+// Joint class by joint class, the look-ahead of each joint action, for the choices of the front and its
+// `count` joint classes.
+pub(crate) fn look_ahead_table(
+    alloc: Global,
+    model: &Model,
+    front: &Front,
+    bounder: &Bounder,
+    choices: &[AgentChoices],
+    count: usize,
+) -> Result<Vec<i128>, Memory>
+    requires of_model { IsFrontOf model.now.model front.now }
+    requires bounder { IsBounderOf model.now.model bounder.now }
+    requires horizon { front.now.horizon ≡ bounder.now.horizon }
+    requires stage { front.now.front.stage < front.now.horizon }
+    requires cells { front.now.is_exact ≡ false → model.now.model.states * joint_observations model.now.model ^ front.now.front.stage ≤ 2 ^ 22 }
+    requires choices { choices.now ≡ map (λ (d : AgentFront). d.chosen) front.now.front.agents }
+    requires count { count ≡ product (class_counts front.now.front.agents) }
+    requires few { count ≤ 2 ^ 24 }
+    ensures { IfOk result (λ v. v.items ≡ rows_of (look_ahead_row (arithmetic bounder.now.is_exact model.now.model.scales) model.now.model
+        (bounder.now.horizon - front.now.front.stage - 1) front.now.front bounder.now.look) count) }
+{
+    let mut scratch = Scratch {
+        classes: Vec::new(alloc),
+        weights: Vec::new(alloc),
+        room: LookRoom::new(alloc, model, bounder.look())?,
+    };
+    let mut table = Vec::new(alloc);
+    for joint in 0..count {
+        push_class(
+            model,
+            front,
+            bounder,
+            choices,
+            count,
+            joint,
+            &mut scratch,
+            &mut table,
+        )?;
+    }
+    Ok(table)
+}
+
+// Adds the row of a joint class.
+fn push_class(
+    model: &Model,
+    front: &Front,
+    bounder: &Bounder,
+    choices: &[AgentChoices],
+    count: usize,
+    joint: usize,
+    scratch: &mut Scratch,
+    table: &mut Vec<i128>,
+) -> Result<(), Memory>
+    requires of_model { IsFrontOf model.now.model front.now }
+    requires bounder { IsBounderOf model.now.model bounder.now }
+    requires horizon { front.now.horizon ≡ bounder.now.horizon }
+    requires stage { front.now.front.stage < front.now.horizon }
+    requires cells { front.now.is_exact ≡ false → model.now.model.states * joint_observations model.now.model ^ front.now.front.stage ≤ 2 ^ 22 }
+    requires choices { choices.now ≡ map (λ (d : AgentFront). d.chosen) front.now.front.agents }
+    requires count { count ≡ product (class_counts front.now.front.agents) }
+    requires few { count ≤ 2 ^ 24 }
+    requires joint { joint < count }
+    requires room { bounder.now.look * model.now.model.states ≤ scratch.old.room }
+    ensures row { IfOk result (λ _. table.new.items ≡ table.old.items ++ look_ahead_row (arithmetic bounder.now.is_exact model.now.model.scales)
+        model.now.model (bounder.now.horizon - front.now.front.stage - 1) front.now.front bounder.now.look joint) }
+    ensures room { IfOk result (λ _. scratch.new.room ≡ scratch.old.room) }
+{
+    class_parts(choices, count, joint, &mut scratch.classes)?;
+    fill_weights(
+        front,
+        model.states(),
+        &scratch.classes,
+        &mut scratch.weights,
+    )?;
+    push_row(
+        model,
+        front.stage(),
+        bounder,
+        &scratch.weights,
+        &mut scratch.room,
+        table,
+    )?;
+    Ok(())
+}
+
+// The weights of a joint class, one for each of so many states.
+fn fill_weights(
+    front: &Front,
+    states: u32,
+    classes: &[u32],
+    weights: &mut Vec<Span>,
+) -> Result<(), Memory>
+    requires stage { front.now.front.stage < front.now.horizon }
+    requires classes { AreParts (class_counts front.now.front.agents) classes.now }
+    requires states { states ≡ front.now.states }
+    ensures { IfOk result (λ _. weights.new.items
+        ≡ map (kept_weight front.now (joint_number (class_counts front.now.front.agents) classes.now)) (range_with_len 0 states)) }
+{
+    weights.clear();
+    for state in 0..states {
+        weights.push(front.weight(classes, state))?;
+    }
+    Ok(())
+}
+
+// Adds the row of a joint class with these weights. Where none has a weight nothing is looked ahead.
+fn push_row(
+    model: &Model,
+    stage: u32,
+    bounder: &Bounder,
+    weights: &[Span],
+    room: &mut LookRoom,
+    table: &mut Vec<i128>,
+) -> Result<(), Memory>
+    requires bounder { IsBounderOf model.now.model bounder.now }
+    requires time { stage < bounder.now.horizon }
+    requires one_each { length weights.now ≡ model.now.model.states }
+    requires weights { AreWeights bounder.now.is_exact model.now.model stage (weights_of weights.now) }
+    requires room { bounder.now.look * model.now.model.states ≤ room.old }
+    ensures row { IfOk result (λ _. table.new.items ≡ table.old.items ++ map (λ a. action_look_ahead_in (arithmetic bounder.now.is_exact model.now.model.scales)
+        model.now.model (bounder.now.horizon - stage - 1) (weights_of weights.now) a bounder.now.look) (range_with_len 0 (joint_actions model.now.model))) }
+    ensures room { room.new ≡ room.old }
+{
+    let none = all_zero(weights);
+    for action in 0..model.joint_actions() {
+        table.push(look_ahead(model, stage, bounder, weights, none, action, room))?;
+    }
+    Ok(())
+}
+
+// The look-ahead of a joint action, which is 0 where no state has a weight.
+fn look_ahead(
+    model: &Model,
+    stage: u32,
+    bounder: &Bounder,
+    weights: &[Span],
+    none: bool,
+    action: u32,
+    room: &mut LookRoom,
+) -> i128
+    requires bounder { IsBounderOf model.now.model bounder.now }
+    requires time { stage < bounder.now.horizon }
+    requires one_each { length weights.now ≡ model.now.model.states }
+    requires weights { AreWeights bounder.now.is_exact model.now.model stage (weights_of weights.now) }
+    requires none { none ≡ true → AreZero weights.now }
+    requires action { action < joint_actions model.now.model }
+    requires room { bounder.now.look * model.now.model.states ≤ room.old }
+    ensures is { result ≡ action_look_ahead_in (arithmetic bounder.now.is_exact model.now.model.scales) model.now.model
+        (bounder.now.horizon - stage - 1) (weights_of weights.now) action bounder.now.look }
+    ensures room { room.new ≡ room.old }
+{
+    model.invariant();
+    if none {
+        return 0;
+    }
+    room.action_bound(
+        model,
+        bounder.fit(),
+        bounder.table(),
+        weights,
+        stage,
+        action,
+        bounder.look(),
+    )
+}
