@@ -1,6 +1,7 @@
 pub mod OwnParts
 pub mod Comparing
 pub mod FrontParts
+pub mod FullFronts
 pub mod JoinedFronts
 pub mod JoinedWeights
 pub mod KeptFronts
@@ -11,6 +12,7 @@ pub mod ChosenActions
 pub mod AdvancedParts
 pub mod Advances
 pub mod Pairs
+pub mod PastTrees
 pub mod Rewards
 pub mod OwnPlaces
 pub mod OwnRuns

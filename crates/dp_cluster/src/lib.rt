@@ -5,6 +5,7 @@ mod advance;
 mod equal;
 mod fractions;
 mod front;
+mod full;
 mod join;
 mod limits;
 mod merge;

@@ -1,12 +1,15 @@
 // One agent's part of a front.
-ghost use Rattle.std.specs.Prelude.{◌≡◌, ◌<◌, ◌-◌, ◌*◌, ◌^◌, ◌∷◌, ℕ, List, map, length, get_or, set, None, Some, IfOk};
+ghost use Rattle.std.specs.Prelude.{◌≡◌, ◌<◌, ◌+◌, ◌-◌, ◌*◌, ◌^◌, [], ◌∷◌, ℕ, List, drop, map, length, get_or, set, None, Some, IfOk};
 ghost use Rattle.dp_spec.specs.Front.{AgentFront};
 ghost use Rattle.dp_spec.specs.Steps.{root_agent, all_chosen, advanced_agent};
 ghost use Rattle.dp_spec.specs.Merge.{merged_agent, renumbered, kept_class};
-ghost use Rattle.dp_cluster.specs.AgentParts.{AreMergedStages, ArePastStages, class_led_to};
+ghost use Rattle.dp_spec.specs.FullPolicy.{tree_doing, tree_doing_after};
+ghost use Rattle.dp_policy.specs.TreeValue.{policy_tree};
+ghost use Rattle.dp_cluster.specs.AgentParts.{AreMergedStages, ArePastStages, IsReached, action_after, class_after, class_led_to};
 
 use crate::shared::shared;
 use dp_base::Memory;
+use dp_policy::PTree;
 use std::alloc::Global;
 use std::rc::Rc;
 
@@ -144,6 +147,16 @@ impl AgentPart {
         })
     }
 
+    // The tree that does what is fixed, where some stage is.
+    pub(crate) fn tree(&self, alloc: Global) -> Result<PTree, Memory>
+        requires { 0 < length self.now.front.fixed }
+        ensures { IfOk result (λ q. policy_tree q ≡ tree_doing self.now.observations
+            (λ t x. get_or (get_or self.now.front.fixed t []) x 0) (length self.now.front.fixed)) }
+    {
+        let past: &[Rc<PastStage>] = &self.past;
+        tree_after(alloc, self.observations, past, past.len(), 0)
+    }
+
     // The part after class `second` was joined into class `first`.
     pub(crate) fn merged(&self, alloc: Global, first: u32, second: u32) -> Result<AgentPart, Memory>
         requires order { first < second }
@@ -270,4 +283,34 @@ fn with_stage(
         all.push(stage.clone()?)?;
     }
     Ok(all)
+}
+
+// The tree of what is done from a stage on, after class `class`: the stage is the last of the first
+// `left` stages, of which the later ones stand first.
+fn tree_after(
+    alloc: Global,
+    observations: u32,
+    past: &[Rc<PastStage>],
+    left: usize,
+    class: u32,
+) -> Result<PTree, Memory>
+    requires some { 0 < left }
+    requires stages { ArePastStages observations (map (λ s. s.value) past.now) }
+    requires reached { IsReached observations (map (λ s. s.value) past.now) left class }
+    ensures { IfOk result (λ q. (t x : ℕ) → t + left ≡ length past.now → x < observations ^ t →
+        class_after observations (drop left (map (λ s. s.value) past.now)) x ≡ class →
+        policy_tree q ≡ tree_doing_after observations (action_after observations (map (λ s. s.value) past.now)) left t x) }
+{
+    let stage = past[left - 1].as_ref();
+    let mut kids = Vec::new(alloc);
+    if left > 1 {
+        for seen in 0..observations {
+            let next = stage.link(class * observations + seen);
+            kids.push(tree_after(alloc, observations, past, left - 1, next)?)?;
+        }
+    }
+    Ok(PTree {
+        action: stage.actions[class as usize],
+        kids,
+    })
 }
