@@ -1,1 +1,5 @@
 pub mod Bounding
+pub mod Nodes
+pub mod Walks
+pub mod Verdicts
+pub mod Entries

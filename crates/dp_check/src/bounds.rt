@@ -151,8 +151,8 @@ fn class_bound(m: &Model, front: &Front, class: usize, row: &[i128]) -> i128
     best.unwrap_or(0)
 }
 
-// The greater of a number and the best so far, where the number counts.
-fn greater_if(counts: bool, best: Option<i128>, value: i128) -> Option<i128>
+/// The greater of a number and the best so far, where the number counts.
+pub fn greater_if(counts: bool, best: Option<i128>, value: i128) -> Option<i128>
     ensures { result ≡ cond counts (with_greater best value) best }
 {
     if counts {

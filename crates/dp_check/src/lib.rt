@@ -3,3 +3,11 @@
 #![tactic(auto)]
 
 mod bounds;
+mod enter;
+mod node;
+mod tally;
+mod verdict;
+mod walk;
+mod wide;
+
+pub use verdict::{Reason, Verdict};
