@@ -33,6 +33,7 @@ pub fn try_policy<X: Planner>(
     state: &mut State<X::Front, X::Policy>,
     policy: X::Policy,
 ) -> Result<(), Memory>
+    requires ready { X.IsReady planner.now }
     requires policy { X.IsPolicy planner.now policy }
     requires kept { IsState (X.IsFront planner.now) (X.IsPolicy planner.now) (X.worth planner.now) state.old }
     ensures tried { OnOk result (X.worth planner.now policy ≤ℤ state.new.lower) }
@@ -57,6 +58,7 @@ pub fn hold<X: Planner>(
     state: &mut State<X::Front, X::Policy>,
     leaf: HeldLeaf<X::Front>,
 ) -> Result<(), Memory>
+    requires ready { X.IsReady planner.now }
     requires front { X.IsFront planner.now leaf.front }
     requires early { (X.space planner.now).is_full (X.meaning planner.now leaf.front) ≡ false }
     requires kept { IsState (X.IsFront planner.now) (X.IsPolicy planner.now) (X.worth planner.now) state.old }
@@ -84,6 +86,7 @@ fn look_at<X: Planner>(
     state: &mut State<X::Front, X::Policy>,
     leaf: HeldLeaf<X::Front>,
 ) -> Result<(), Memory>
+    requires ready { X.IsReady planner.now }
     requires front { X.IsFront planner.now leaf.front }
     requires kept { IsState (X.IsFront planner.now) (X.IsPolicy planner.now) (X.worth planner.now) state.old }
     ensures runs { OnOk result ((budget : ℕ) (rest : List OpenLeaf) →
@@ -110,6 +113,7 @@ pub fn look_at_all<X: Planner>(
     state: &mut State<X::Front, X::Policy>,
     leaves: Vec<HeldLeaf<X::Front>>,
 ) -> Result<(), Memory>
+    requires ready { X.IsReady planner.now }
     requires fronts { All (λ o. X.IsFront planner.now o.front) leaves.items }
     requires kept { IsState (X.IsFront planner.now) (X.IsPolicy planner.now) (X.worth planner.now) state.old }
     ensures runs { OnOk result ((budget : ℕ) →

@@ -35,6 +35,9 @@ pub trait Planner {
     /// What is kept from one call to the next, so that no work is done twice.
     type Room: Drop;
 
+    // what the calls may be made of: all that is known of a planner besides its type
+    ghost IsReady: { Self → Type 0 };
+
     ghost space: { Self → Space };
 
     ghost meaning: { Self → Self.Front → Front };
@@ -62,26 +65,31 @@ pub trait Planner {
 
     /// The most children that a step has.
     fn most_children(&self) -> u32
+        requires ready { IsReady self.now }
         ensures { result ≡ width self.now };
 
     /// Nothing kept as yet.
     fn room(&self, alloc: Global) -> Result<Self::Room, Memory>
+        requires ready { IsReady self.now }
         ensures { IfOk result (λ r. IsRoom self.now r) };
 
     /// The best constant policy.
     fn best_constant(&self, alloc: Global) -> Result<Self::Policy, Memory>
+        requires ready { IsReady self.now }
         ensures policy { IfOk result (λ p. IsPolicy self.now p) }
         ensures best { IfOk result (λ p. IsBestConstant self.now p) }
         ensures worth { IfOk result (λ p. worth self.now p ≡ constants self.now) };
 
     /// The low worth of a policy.
     fn low_worth(&self, alloc: Global, policy: &Self::Policy) -> Result<i128, Memory>
-        requires { IsPolicy self.now policy.now }
+        requires ready { IsReady self.now }
+        requires policy { IsPolicy self.now policy.now }
         ensures { IfOk result (λ x. x ≡ worth self.now policy.now) };
 
     /// The root's front and bound.
     fn root(&self, alloc: Global, room: &mut Self::Room) -> Result<Child<Self::Front>, Memory>
-        requires { IsRoom self.now room.old }
+        requires ready { IsReady self.now }
+        requires room { IsRoom self.now room.old }
         ensures of_planner { IfOk result (λ c. IsFront self.now c.front) }
         ensures front { IfOk result (λ c. meaning self.now c.front ≡ (space self.now).root) }
         ensures bound { IfOk result (λ c. c.bound ≡ (space self.now).bound (space self.now).root) }
@@ -90,16 +98,19 @@ pub trait Planner {
 
     /// Whether every step of the horizon is fixed.
     fn is_full(&self, front: &Self::Front) -> bool
-        requires { IsFront self.now front.now }
+        requires ready { IsReady self.now }
+        requires of_planner { IsFront self.now front.now }
         ensures { result ≡ (space self.now).is_full (meaning self.now front.now) };
 
     /// Whether a node with `above` steps above it and this front is wide.
     fn is_wide(&self, above: u32, front: &Self::Front) -> bool
-        requires { IsFront self.now front.now }
+        requires ready { IsReady self.now }
+        requires of_planner { IsFront self.now front.now }
         ensures { result ≡ (space self.now).is_wide above (meaning self.now front.now) };
 
     /// The policy that a full front fixes.
     fn policy(&self, alloc: Global, front: &Self::Front) -> Result<Self::Policy, Memory>
+        requires ready { IsReady self.now }
         requires of_planner { IsFront self.now front.now }
         requires full { (space self.now).is_full (meaning self.now front.now) ≡ true }
         ensures policy { IfOk result (λ p. IsPolicy self.now p) }
@@ -114,6 +125,7 @@ pub trait Planner {
         room: &mut Self::Room,
         front: &Self::Front,
     ) -> Result<Self::Policy, Memory>
+        requires ready { IsReady self.now }
         requires of_planner { IsFront self.now front.now }
         requires room { IsRoom self.now room.old }
         ensures policy { IfOk result (λ p. IsPolicy self.now p) }
@@ -126,6 +138,7 @@ pub trait Planner {
         room: &mut Self::Room,
         front: &Self::Front,
     ) -> Result<Expanded<Self::Front>, Memory>
+        requires ready { IsReady self.now }
         requires of_planner { IsFront self.now front.now }
         requires early { (space self.now).is_full (meaning self.now front.now) ≡ false }
         requires narrow { (above : ℕ) × ((space self.now).is_wide above (meaning self.now front.now) ≡ false) }

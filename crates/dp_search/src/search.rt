@@ -63,6 +63,7 @@ fn grow_top<X: Planner>(
     budget: u32,
     top: HeldLeaf<X::Front>,
 ) -> Result<(), Memory>
+    requires ready { X.IsReady planner.now }
     requires runs { IsRunning (X.space planner.now) (X.constants planner.now) (X.width planner.now) budget
         state.old.arena state.old.lower state.old.inner
         (open_leaf (X.meaning planner.now) top ∷ held_leaves (X.meaning planner.now) state.old) [] }
@@ -102,6 +103,7 @@ fn try_completion<X: Planner>(
     room: &mut X::Room,
     state: &mut State<X::Front, X::Policy>,
 ) -> Result<(), Memory>
+    requires ready { X.IsReady planner.now }
     requires kept { IsState (X.IsFront planner.now) (X.IsPolicy planner.now) (X.worth planner.now) state.old }
     requires room { X.IsRoom planner.now room.old }
     ensures raised { OnOk result (state.old.lower ≤ℤ state.new.lower) }
@@ -130,6 +132,7 @@ fn grow_all<X: Planner>(
     state: &mut State<X::Front, X::Policy>,
     budget: u32,
 ) -> Result<(), Memory>
+    requires ready { X.IsReady planner.now }
     requires runs { Runs (X.meaning planner.now) (X.space planner.now) (X.constants planner.now)
         (X.width planner.now) budget state.old [] }
     requires small { 1 + budget * X.width planner.now < 2 ^ 32 }
@@ -171,7 +174,8 @@ pub fn search_best_first<X: Planner>(
     alloc: Global,
     budget: u32,
 ) -> Result<Searched<X::Policy>, Memory>
-    requires { 1 + budget * X.width planner.now < 2 ^ 32 }
+    requires ready { X.IsReady planner.now }
+    requires small { 1 + budget * X.width planner.now < 2 ^ 32 }
     ensures searched { IfOk result (λ s.
         IsSearched (X.space planner.now) budget (X.constants planner.now) s.lower s.inner
         (bound_tree s.tree)) }

@@ -24,6 +24,8 @@ impl Planner for Toy {
 
     type Room = ();
 
+    ghost IsReady = { λ _. Unit {0} };
+
     ghost space = { λ _. toy_space };
 
     ghost meaning = { λ _ n. toy_front n };
