@@ -18,7 +18,7 @@ use Rattle.dp_search.specs.SearchStates.{open_leaf, next_front}
 use Rattle.dp_search.proofs.Steps.{ends_at_budget, ends_closed, grown_runs, opened_length, bounds_of, fronts_of}
 
 -- what holds of each value of a list holds where the value was taken
-all_of_map : {X Y : Type 0} (P : Y → Type 0) (f : X → Y) (xs : List X) → All P (map f xs)
+pub all_of_map : {X Y : Type 0} (P : Y → Type 0) (f : X → Y) (xs : List X) → All P (map f xs)
     → All (λ x. P (f x)) xs
 all_of_map P f [] all = λ k d lt. absurd (omega arith)
 all_of_map P f (x ∷ xs) all =

@@ -1,4 +1,4 @@
-ghost use Rattle.std.specs.Prelude.{◌≡◌, ◌<◌, ◌≤◌, ℕ, ℤ, map, length, false, true, IfOk, OnOk, All};
+ghost use Rattle.std.specs.Prelude.{◌≡◌, ◌<◌, ◌≤◌, ℕ, ℤ, map, length, false, true, IfOk, IfSome, OnOk, All};
 ghost use Rattle.dp_spec.specs.Front.{Front};
 ghost use Rattle.dp_spec.specs.Space.{Space};
 ghost use Rattle.dp_spec.specs.WholeTree.{HasChildren};
@@ -117,18 +117,20 @@ pub trait Planner {
         ensures worth { IfOk result (λ p.
             worth self.now p ≡ (space self.now).worth (meaning self.now front.now)) };
 
-    /// Some policy that may be good below a front that is neither full nor wide: it is tried for the
-    /// lower end alone, and no step of the tree comes of it.
+    /// A policy that may be good below a front that is neither full nor wide, if one was found: it is tried
+    /// for the lower end alone, and no step of the tree comes of it.
     fn completion(
         &self,
         alloc: Global,
         room: &mut Self::Room,
         front: &Self::Front,
-    ) -> Result<Self::Policy, Memory>
+    ) -> Result<Option<Self::Policy>, Memory>
         requires ready { IsReady self.now }
         requires of_planner { IsFront self.now front.now }
+        requires early { (space self.now).is_full (meaning self.now front.now) ≡ false }
+        requires narrow { (above : ℕ) × ((space self.now).is_wide above (meaning self.now front.now) ≡ false) }
         requires room { IsRoom self.now room.old }
-        ensures policy { IfOk result (λ p. IsPolicy self.now p) }
+        ensures policy { IfOk result (λ o. IfSome o (λ p. IsPolicy self.now p)) }
         ensures room { OnOk result (IsRoom self.now room.new) };
 
     /// The step that is made at a front that is neither full nor wide, and the fronts after it.

@@ -104,6 +104,8 @@ fn try_completion<X: Planner>(
     state: &mut State<X::Front, X::Policy>,
 ) -> Result<(), Memory>
     requires ready { X.IsReady planner.now }
+    requires runs { (budget : ℕ) × Runs (X.meaning planner.now) (X.space planner.now) (X.constants planner.now)
+        (X.width planner.now) budget state.old [] }
     requires kept { IsState (X.IsFront planner.now) (X.IsPolicy planner.now) (X.worth planner.now) state.old }
     requires room { X.IsRoom planner.now room.old }
     ensures raised { OnOk result (state.old.lower ≤ℤ state.new.lower) }
@@ -117,11 +119,14 @@ fn try_completion<X: Planner>(
     if !state.inner.is_power_of_two() {
         return Ok(());
     }
-    let policy = match state.held.greatest() {
+    let found = match state.held.greatest() {
         None => return Ok(()),
         Some(leaf) => planner.completion(alloc, room, &leaf.front)?,
     };
-    try_policy(planner, alloc, state, policy)
+    match found {
+        None => Ok(()),
+        Some(policy) => try_policy(planner, alloc, state, policy),
+    }
 }
 
 /// Grows the tree best first, until the budget is spent or no held leaf is above the lower end.

@@ -79,8 +79,8 @@ impl Planner for Toy {
         Ok(70 + u64::from(*front))
     }
 
-    fn completion(&self, _alloc: Global, _room: &mut (), front: &u32) -> Result<u64, Memory> {
-        Ok(70 + u64::from(*front))
+    fn completion(&self, _alloc: Global, _room: &mut (), front: &u32) -> Result<Option<u64>, Memory> {
+        Ok(Some(70 + u64::from(*front)))
     }
 
     fn expand(&self, alloc: Global, _room: &mut (), front: &u32) -> Result<Expanded<u32>, Memory> {
