@@ -120,11 +120,14 @@ merge_small d most i a b t deep some is = record {
 }
 
 pub small_merge : (d most i a b : ℕ) (t : BoundTree) → IsSmallTree d most (merge i a b t) → (1 ≤ d) × IsSmallTree (d - 1) (most - 1) t
-small_merge d most i a b t is = ((let e = is.depth in omega arith), record {
-  depth = let e = is.depth in omega arith;
-  nodes = let e = is.nodes in omega arith;
-  children = is.children;
-})
+small_merge d most i a b t is = (
+  (let e = is.depth in omega arith),
+  record {
+    depth = let e = is.depth in omega arith;
+    nodes = let e = is.nodes in omega arith;
+    children = is.children;
+  },
+)
 
 -- ---- lists
 

@@ -1,2 +1,10 @@
 pub mod CertificateValue
 pub mod TreeSizes
+pub mod TextSteps
+pub mod PolicyGrammar
+pub mod CertificateGrammar
+pub mod Reading
+pub mod HeadValue
+pub mod NodeLines
+pub mod OpenNodes
+pub mod CertificateLaws

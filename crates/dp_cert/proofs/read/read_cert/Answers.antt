@@ -1,0 +1,11 @@
+use Rattle.std.proofs.Common.{arith}
+use Rattle.dp_cert.specs.CertificateGrammar.{certificate_grammar}
+use Rattle.dp_cert.specs.CertificateValue.{certificate_of}
+use Rattle.dp_cert.proofs.CertificateAnswers.{certificate_proper, computed_answers}
+use Rattle.dp_cert.proofs.read.read_cert.Goals as goal
+
+pub returns : goal.returns
+returns c =
+    let m = c.args.model.now.model in
+    let few = c.invariant.ensures.model.sizes.agents_limit in
+    computed_answers certificate_of c.read.result (certificate_grammar m) c.args.bytes.now (certificate_proper m (omega (arith, few))) c.read.ensures
