@@ -6,3 +6,6 @@ pub mod WideNodes
 pub mod EquivalentPairs
 pub mod EntrySteps
 pub mod WalkSteps
+pub mod Heads
+pub mod Tallies
+pub mod Judged

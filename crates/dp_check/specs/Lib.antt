@@ -3,3 +3,4 @@ pub mod Nodes
 pub mod Walks
 pub mod Verdicts
 pub mod Entries
+pub mod Words

@@ -3,6 +3,7 @@
 #![tactic(auto)]
 
 mod bounds;
+mod checking;
 mod enter;
 mod node;
 mod tally;
@@ -10,4 +11,5 @@ mod verdict;
 mod walk;
 mod wide;
 
+pub use checking::check;
 pub use verdict::{Reason, Verdict};

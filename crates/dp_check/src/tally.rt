@@ -1,5 +1,6 @@
 //! What is kept of the nodes that have been checked.
 ghost use Rattle.std.specs.Prelude.{◌≡◌, ◌+◌, ◌<◌, ◌^◌, Some};
+ghost use Rattle.dp_check.specs.Verdicts.{nothing_counted};
 ghost use Rattle.dp_check.specs.Walks.{with_branch, with_leaf, with_lesser, with_merge};
 
 use crate::bounds::{greater, greater_if};
@@ -21,6 +22,21 @@ pub struct Tally {
 }
 
 impl Tally {
+    /// Nothing is counted yet.
+    pub fn new(exact: bool) -> Tally
+        ensures { result ≡ nothing_counted exact }
+    {
+        Tally {
+            nodes: 0,
+            inner: 0,
+            greatest: None,
+            not_full: None,
+            narrow: None,
+            least: None,
+            merged: exact,
+        }
+    }
+
     /// One leaf more.
     pub fn add_leaf(&mut self, bound: i128, not_full: bool, narrow: bool)
         requires { self.old.nodes + 1 < 2 ^ 32 }
