@@ -15,26 +15,31 @@ other_default (z ∷ xs) zero x y lt = refl
 other_default (z ∷ xs) (suc i) x y lt = other_default xs i x y (omega arith)
 
 -- a place for each agent in each joint action
-pub places_in : (bs : List ℕ) (count : ℕ) (all : List ℕ) (a j : ℕ) → AreActionParts bs count all → a < product bs → j < length bs
+pub places_in : (bs : List ℕ) (count : ℕ) (all : List ℕ) (a j : ℕ) → AreActionParts bs count all → a < product bs →
+    j < length bs
     → a * length bs + j < length all
 places_in bs count all a j is ha hj =
-    let long = ap length is.parts ∙ rows_length (parts_of bs) (length bs) (product bs) (λ C lt. length-parts_of bs C) in
+    let long = ap length is.parts ∙ rows_length (parts_of bs) (length bs) (product bs)
+    (λ C lt. length-parts_of bs C) in
     let lt = row_below a (product bs) (length bs) j ha hj in
     omega arith
 
 -- the part there
-pub part_is : (bs : List ℕ) (count : ℕ) (all : List ℕ) (a j : ℕ) → AreActionParts bs count all → a < product bs → j < length bs
+pub part_is : (bs : List ℕ) (count : ℕ) (all : List ℕ) (a j : ℕ) → AreActionParts bs count all → a < product bs → j
+    < length bs
     → get_or all (a * length bs + j) 0 ≡ get_or (parts_of bs a) j 0
 part_is bs count all a j is ha hj =
     ap (λ l. get_or l (a * length bs + j) 0) is.parts
     ∙ rows_at (parts_of bs) (length bs) (product bs) a j 0 (λ C lt. length-parts_of bs C) ha hj
 
 -- as the code reads it
-pub part_read : (bs : List ℕ) (count : ℕ) (all items : List ℕ) (a j n x : ℕ) → AreActionParts bs count all → items ≡ all → n ≡ length bs
+pub part_read : (bs : List ℕ) (count : ℕ) (all items : List ℕ) (a j n x : ℕ) → AreActionParts bs count all → items ≡
+    all → n ≡ length bs
     → a < product bs → j < length bs → get_or items (a * n + j) x ≡ get_or (parts_of bs a) j 0
 part_read bs count all items a j n x is same many ha hj =
     let inside : a * length bs + j < length all = places_in bs count all a j is ha hj in
-    (λ i. get_or (same i) (a * many i + j) x) ∙ other_default all (a * length bs + j) x 0 inside ∙ part_is bs count all a j is ha hj
+    (λ i. get_or (same i) (a * many i + j) x) ∙ other_default all (a * length bs + j) x 0 inside ∙ part_is bs count
+    all a j is ha hj
 
 -- and where
 pub action_room : (bs : List ℕ) (count : ℕ) (all : List ℕ) (a : ℕ) → AreActionParts bs count all → a < product bs
@@ -54,7 +59,8 @@ part_small m a j is ha hj =
     let few = is.sizes.joint_actions_limit in
     omega arith
 
-pub parts_are : (m : Model) (sizes all : List ℕ) (count n : ℕ) → IsModel m → sizes ≡ m.actions → count ≡ joint_actions m
+pub parts_are : (m : Model) (sizes all : List ℕ) (count n : ℕ) → IsModel m → sizes ≡ m.actions → count ≡
+    joint_actions m
     → all ≡ rows_of (parts_of m.actions) (joint_actions m) → AreActionParts sizes count all
 unfolding joint_actions
 parts_are m sizes all count n is same counted rows = record {

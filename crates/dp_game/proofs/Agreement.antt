@@ -32,7 +32,8 @@ none_left [] (suc j) le = refl
 none_left (x ∷ xs) zero le = absurd (omega arith)
 none_left (x ∷ xs) (suc j) le = none_left xs j (omega arith)
 
-pub agree_end : (os : List (Option ℕ)) (as' : List ℕ) (j : ℕ) → length os ≤ j → each_agrees (drop j os) (drop j as') ≡ true
+pub agree_end : (os : List (Option ℕ)) (as' : List ℕ) (j : ℕ) → length os ≤ j → each_agrees (drop j os) (drop j as')
+    ≡ true
 agree_end os as' j le = ap (λ l. each_agrees l (drop j as')) (none_left os j le)
 
 -- ---- the greatest of what passes a test, number by number
@@ -42,16 +43,21 @@ abbrev pub has_some : List ℕ → Bool
 has_some [] = false
 has_some (x ∷ xs) = true
 
-greatest_with : (f : ℕ → ℤ) (a : ℕ) (xs : List ℕ) → greatest f (a ∷ xs) ≡ cond (has_some xs) (int_max (f a) (greatest f xs)) (f a)
+greatest_with : (f : ℕ → ℤ) (a : ℕ) (xs : List ℕ) → greatest f (a ∷ xs) ≡ cond (has_some xs)
+    (int_max (f a) (greatest f xs)) (f a)
 greatest_with f a [] = refl
 greatest_with f a (x ∷ xs) = refl
 
 -- after number k, which passes or not
-module _ (f : ℕ → ℤ) (p : ℕ → Bool) (k : ℕ) (some now : Bool) (best x new : ℤ) (is_now : now ≡ p k) (ex : x ≡ f k) (some_is : some ≡ has_some (filter p (numbers_below k))) (best_is : best ≡ greatest f (filter p (numbers_below k))) (is : new ≡ cond now (cond some (int_max x best) x) best) where
+module _ (f : ℕ → ℤ) (p : ℕ → Bool) (k : ℕ) (some now : Bool) (best x new : ℤ) (is_now : now ≡ p k) (ex : x ≡ f k)
+    (some_is : some ≡ has_some (filter p (numbers_below k)))
+    (best_is : best ≡ greatest f (filter p (numbers_below k)))
+    (is : new ≡ cond now (cond some (int_max x best) x) best) where
   next_of : (b : Bool) → p k ≡ b → new ≡ greatest f (filter p (numbers_below (k + 1)))
   next_of true e =
       is ∙ ap (λ b. cond b (cond some (int_max x best) x) best) (is_now ∙ e)
-      ∙ (λ j. cond (some_is j) (int_max (ex j) (best_is j)) (ex j)) ∙ sym (greatest_with f k (filter p (numbers_below k)))
+      ∙ (λ j. cond (some_is j) (int_max (ex j) (best_is j)) (ex j)) ∙ sym
+      (greatest_with f k (filter p (numbers_below k)))
       ∙ rw (add-one, e) refl
   next_of false e =
       is ∙ ap (λ b. cond b (cond some (int_max x best) x) best) (is_now ∙ e) ∙ best_is ∙ rw (add-one, e) refl
@@ -82,10 +88,13 @@ pub row_greatest : (bs : List ℕ) (table : List ℤ) (os : List (Option ℕ)) (
     ≡ greatest (λ a. get_or table (C * product bs + a) (pos 0)) (allowed_actions bs os)
 row_greatest bs table os C =
     greatest_ext _ _ (allowed_actions bs os) (λ a i.
-    let lt = below-IsIn (product bs) a (filter-IsIn (λ a. each_agrees os (parts_of bs a)) a (numbers_below (product bs)) i).0 in
-    get_or-take (product bs) (drop (C * product bs) table) a (pos 0) lt ∙ get_or-drop (C * product bs) table a (pos 0))
+    let lt = below-IsIn (product bs) a (filter-IsIn (λ a. each_agrees os (parts_of bs a)) a
+    (numbers_below (product bs)) i).0 in
+    get_or-take (product bs) (drop (C * product bs) table) a (pos 0) lt ∙ get_or-drop (C * product bs) table a
+    (pos 0))
 
-pub greatest_read : (bs : List ℕ) (table row : List ℤ) (wanted os : List (Option ℕ)) (C count agents : ℕ) (x : ℤ) → count ≡ product bs
+pub greatest_read : (bs : List ℕ) (table row : List ℤ) (wanted os : List (Option ℕ)) (C count agents : ℕ) (x : ℤ) →
+    count ≡ product bs
     → agents ≡ length bs → row ≡ take count (drop (C * count) table) → os ≡ take agents (drop (C * agents) wanted)
     → x ≡ greatest (λ a. get_or row a (pos 0)) (allowed_actions bs os) → x ≡ greatest_in bs table wanted C
 greatest_read bs table row wanted os C count agents x ec ea er eo is =

@@ -1,12 +1,11 @@
 -- The bound of a game is that of its front, and its parts are small.
-use Rattle.std.proofs.Common.{◌≡◌, ℕ, suc, ◌+◌, ◌-◌, ◌*◌, ◌^◌, ◌<◌, ◌≤◌, Bool, false, ℤ, pos, ◌+ℤ◌, ◌*ℤ◌, ◌≤ℤ◌, unsigned_abs, List, length, get_or, refl, sym, ap, ◌∙◌, subst, arith}
+use Rattle.std.proofs.Common.{◌≡◌, ℕ, suc, ◌+◌, ◌-◌, ◌*◌, ◌^◌, ◌<◌, ◌≤◌, ℤ, pos, ◌+ℤ◌, ◌*ℤ◌, ◌≤ℤ◌, unsigned_abs, List, length, get_or, refl, sym, ap, ◌∙◌, subst, arith}
 use Rattle.dp_base.specs.Sums.{greatest, int_sum, nat_sum}
 use Rattle.dp_base.proofs.GreatestValues.{greatest_ext}
 use Rattle.dp_base.proofs.NaturalSumLaws.{nat_sum_ext}
 use Rattle.dp_base.proofs.Sums.{int_sum_ext}
 use Rattle.dp_spec.specs.Arithmetic.{Arithmetic, arithmetic}
 use Rattle.dp_spec.specs.Bound.{agreeing_actions}
-use Rattle.dp_spec.specs.Enclosure.{enclosure}
 use Rattle.dp_spec.specs.Fitting.{front_bound}
 use Rattle.dp_spec.specs.Front.{Front, class_counts, fixed_joint_action}
 use Rattle.dp_spec.specs.JointNumbers.{product}
@@ -56,12 +55,15 @@ module _ (m : Model) (h look : ℕ) (F : Front) (g : KeptGame) (is : IsGameOf m 
       let early = is.early in
       let whole : h - F.stage ≡ suc left = omega arith in
       (λ j. is.earned j +ℤ int_sum (classes_are j) (best_entry g))
-      ∙ ap (λ x. (earned_reward_in A m (fixed_joint_action m F) h F.stage).high +ℤ x) (int_sum_ext (product (class_counts F.agents)) (best_entry g) best_of best_is)
-      ∙ ap (λ (k : ℕ). (earned_reward_in A m (fixed_joint_action m F) k F.stage).high +ℤ int_sum (product (class_counts F.agents)) best_of) (sym steps)
+      ∙ ap (λ x. (earned_reward_in A m (fixed_joint_action m F) h F.stage).high +ℤ x)
+      (int_sum_ext (product (class_counts F.agents)) (best_entry g) best_of best_is)
+      ∙ ap (λ (k : ℕ). (earned_reward_in A m (fixed_joint_action m F) k F.stage).high +ℤ int_sum
+      (product (class_counts F.agents)) best_of) (sym steps)
       ∙ ap (λ (r : ℕ). bound_in A m r F look) (sym whole)
 
   refines : CanRefine A m h F
-  refines = mode_can_refine m is.model h is.some_step is.horizon (is_exact_mode m h) refl F is.front is.early is.stage_cells
+  refines = mode_can_refine m is.model h is.some_step is.horizon (is_exact_mode m h) refl F is.front is.early
+      is.stage_cells
 
   -- what is earned and the best entries together
   pub small : unsigned_abs g.earned + nat_sum (joint_classes g) (λ C. unsigned_abs (best_entry g C)) ≤ 2 ^ 126
@@ -69,8 +71,10 @@ module _ (m : Model) (h look : ℕ) (F : Front) (g : KeptGame) (is : IsGameOf m 
   small =
       let all = refines.bound left look steps in
       let first = earned_size_le A m (fixed_joint_action m F) h F.stage in
-      let earned : unsigned_abs g.earned ≤ earned_size A m (fixed_joint_action m F) h F.stage = rw is.earned (omega arith) in
-      let sizes : nat_sum (joint_classes g) (λ C. unsigned_abs (best_entry g C)) ≡ nat_sum (product (class_counts F.agents)) (λ C. unsigned_abs (best_of C)) =
+      let earned : unsigned_abs g.earned ≤ earned_size A m (fixed_joint_action m F) h F.stage = rw is.earned
+      (omega arith) in
+      let sizes : nat_sum (joint_classes g) (λ C. unsigned_abs (best_entry g C)) ≡ nat_sum
+      (product (class_counts F.agents)) (λ C. unsigned_abs (best_of C)) =
       ap (λ (n : ℕ). nat_sum n (λ C. unsigned_abs (best_entry g C))) classes_are
       ∙ nat_sum_ext (product (class_counts F.agents)) _ _ (λ C lt. ap (λ (x : ℤ). unsigned_abs x) (best_is C lt)) in
       rw sizes (omega arith)
@@ -80,7 +84,8 @@ module _ (m : Model) (h look : ℕ) (F : Front) (g : KeptGame) (is : IsGameOf m 
       let law = keeper_under_computed_bound m is.model h look F qs (is_exact_mode m h) is.front policy keeps in
       let unit = mode_unit m h (is_exact_mode m h) refl in
       subst (λ (x : ℤ). (policy_value m h qs *ℤ pos (unit_of m h)) ≤ℤ (x *ℤ pos (value_scale m h))) (sym bound_is)
-      (subst (λ (u : ℕ). (policy_value m h qs *ℤ pos u) ≤ℤ (front_bound A m h look F *ℤ pos (value_scale m h))) (sym unit) law)
+      (subst (λ (u : ℕ). (policy_value m h qs *ℤ pos u) ≤ℤ (front_bound A m h look F *ℤ pos (value_scale m h)))
+      (sym unit) law)
 
   -- ---- sizes
 
@@ -95,18 +100,21 @@ module _ (m : Model) (h look : ℕ) (F : Front) (g : KeptGame) (is : IsGameOf m 
   few_entries = rw (classes_are, actions_are) is.game_cells
 
   pub few_classes : joint_classes g ≤ 2 ^ 24
-  few_classes = count_most (joint_classes g) (product g.actions) (2 ^ 24) (rw actions_are is.model.sizes.some_action) few_entries
+  few_classes = count_most (joint_classes g) (product g.actions) (2 ^ 24)
+      (rw actions_are is.model.sizes.some_action) few_entries
 
   pub table_long : length g.table ≡ joint_classes g * product g.actions
   table_long = is.long ∙ (λ j. sym classes_are j * sym actions_are j)
 
   pub agents_are : length g.actions ≡ length g.choices
   agents_are =
-      ap (λ (l : List ℕ). length l) is.actions ∙ sym (agents_of is.front.agents) ∙ sym (as_many_choices F.agents) ∙ ap (λ oss. length oss) (sym is.choices)
+      ap (λ (l : List ℕ). length l) is.actions ∙ sym (agents_of is.front.agents) ∙ sym (as_many_choices F.agents) ∙
+      ap (λ oss. length oss) (sym is.choices)
 
 -- ---- of a game of some front
 
-pub all_small : (g : KeptGame) → IsOfSomeFront g → unsigned_abs g.earned + nat_sum (joint_classes g) (λ C. unsigned_abs (best_entry g C)) ≤ 2 ^ 126
+pub all_small : (g : KeptGame) → IsOfSomeFront g → unsigned_abs g.earned + nat_sum (joint_classes g)
+    (λ C. unsigned_abs (best_entry g C)) ≤ 2 ^ 126
 all_small g o = small o.0 o.1 o.2 o.3 g o.4
 
 pub classes_some : (g : KeptGame) → IsOfSomeFront g → 0 < joint_classes g
@@ -134,7 +142,8 @@ factor_most m i is inside =
     let few = is.sizes.joint_actions_limit in omega arith
 
 -- an action of an agent fits in a byte
-pub action_small : (g : KeptGame) (i a : ℕ) → IsOfSomeFront g → i < length g.choices → a < get_or g.actions i 0 → a < 256
+pub action_small : (g : KeptGame) (i a : ℕ) → IsOfSomeFront g → i < length g.choices → a < get_or g.actions i 0 → a
+    < 256
 action_small g i a o hi ha =
     let m = o.0 in
     let is = o.4 in

@@ -1,12 +1,12 @@
 -- The game of a front after a choice is made or taken back.
-use Rattle.std.proofs.Common.{◌≡◌, ℕ, ◌+◌, ◌-◌, ◌*◌, ◌^◌, ◌<◌, ◌≤◌, cond, eqb, pos, List, [], length, get_or, set, Option, None, Some, refl, sym, ap, ◌∙◌, subst, arith}
+use Rattle.std.proofs.Common.{◌≡◌, ℕ, ◌-◌, ◌*◌, ◌<◌, cond, eqb, pos, List, [], length, get_or, set, Option, None, Some, refl, sym, ap, ◌∙◌, subst, arith}
 use Rattle.dp_spec.specs.Arithmetic.{Arithmetic, arithmetic, point}
-use Rattle.dp_spec.specs.Front.{AgentFront, Front, class_counts, fixed_joint_action}
+use Rattle.dp_spec.specs.Front.{Front, class_counts, fixed_joint_action}
 use Rattle.dp_spec.specs.JointNumbers.{product}
 use Rattle.dp_spec.specs.Mode.{is_exact_mode}
 use Rattle.dp_spec.specs.Model.{Model, joint_actions, joint_observations}
 use Rattle.dp_spec.specs.Quantities.{action_look_ahead_in, class_weight_in, earned_reward_in, history_weight_in, span_history_sum}
-use Rattle.dp_spec.specs.Steps.{HasAction, IsUnassigned, chosen_front, unchosen_front, with_choice, without_choice}
+use Rattle.dp_spec.specs.Steps.{HasAction, chosen_front, unchosen_front}
 use Rattle.dp_spec.specs.WellFormed.{IsFront}
 use Rattle.dp_laws.proofs.ChoicesTakenBack.{unchoosing_undone, unchosen_is_front}
 use Rattle.dp_laws.proofs.ChosenFronts.{actions_chosen, counts_chosen, joint_class_chosen}
@@ -18,14 +18,16 @@ use Rattle.dp_game.proofs.OwnChoices.{as_many_choices, assigned_of, choices_made
 record AreAlike (A : Arithmetic) (m : Model) (h : ℕ) (F G : Front) : Type 0 where
   counts : class_counts G.agents ≡ class_counts F.agents
   weights : class_weight_in A m G ≡ class_weight_in A m F
-  earned : earned_reward_in A m (fixed_joint_action m G) h F.stage ≡ earned_reward_in A m (fixed_joint_action m F) h F.stage
+  earned : earned_reward_in A m (fixed_joint_action m G) h F.stage ≡ earned_reward_in A m (fixed_joint_action m F) h
+      F.stage
 
 module _ (A : Arithmetic) (m : Model) (h : ℕ) (F : Front) (i c a : ℕ) where
   weights_chosen : class_weight_in A m (chosen_front F i c a) ≡ class_weight_in A m F
   unfolding class_weight_in
   weights_chosen =
       λ k C s. span_history_sum (joint_observations m) F.stage (λ H.
-      cond (eqb (joint_class_chosen m F i c a k H) C) (history_weight_in A m (actions_chosen m F i c a k) H s) (point (pos 0)))
+      cond (eqb (joint_class_chosen m F i c a k H) C) (history_weight_in A m (actions_chosen m F i c a k) H s)
+      (point (pos 0)))
 
   chosen_alike : AreAlike A m h F (chosen_front F i c a)
   chosen_alike = record {
@@ -35,7 +37,8 @@ module _ (A : Arithmetic) (m : Model) (h : ℕ) (F : Front) (i c a : ℕ) where
   }
 
 -- a front before a choice is taken back, from the one after it
-unchosen_alike : (A : Arithmetic) (m : Model) (h : ℕ) (F : Front) (i c a : ℕ) → HasAction i c a F.agents → AreAlike A m h F (unchosen_front F i c)
+unchosen_alike : (A : Arithmetic) (m : Model) (h : ℕ) (F : Front) (i c a : ℕ) → HasAction i c a F.agents → AreAlike
+    A m h F (unchosen_front F i c)
 unchosen_alike A m h F i c a has =
     let U = unchosen_front F i c in
     let back = unchoosing_undone F i c a has in
@@ -46,8 +49,10 @@ unchosen_alike A m h F i c a has =
     }
 
 -- a game of one is a game of the other, with the other's choices
-game_alike : (m : Model) (h look : ℕ) (F G : Front) (g : KeptGame) (oss : List (List (Option ℕ))) → IsGameOf m h look F g
-    → G.stage ≡ F.stage → AreAlike (arithmetic (is_exact_mode m h) m.scales) m h F G → IsFront m h G → oss ≡ choices_of G.agents
+game_alike : (m : Model) (h look : ℕ) (F G : Front) (g : KeptGame) (oss : List (List (Option ℕ))) → IsGameOf m h
+    look F g
+    → G.stage ≡ F.stage → AreAlike (arithmetic (is_exact_mode m h) m.scales) m h F G → IsFront m h G → oss ≡
+    choices_of G.agents
     → IsGameOf m h look G (record g { choices = oss })
 game_alike m h look F G g oss is stage alike front choices =
     let A = arithmetic (is_exact_mode m h) m.scales in
@@ -65,10 +70,12 @@ game_alike m h look F G g oss is stage alike front choices =
       entries = λ C a hC ha.
           is.entries C a (subst (λ (n : ℕ). C < n) many hC) ha
           ∙ (λ j. action_look_ahead_in A m (h - sym stage j - 1) (sym alike.weights j C) a look);
-      earned = is.earned ∙ ap (λ x. x.high) (sym alike.earned) ∙ ap (λ (f : ℕ). (earned_reward_in A m (fixed_joint_action m G) h f).high) (sym stage);
+      earned = is.earned ∙ ap (λ x. x.high) (sym alike.earned) ∙ ap
+          (λ (f : ℕ). (earned_reward_in A m (fixed_joint_action m G) h f).high) (sym stage);
     }
 
-module _ (m : Model) (h look : ℕ) (F : Front) (g : KeptGame) (is : IsGameOf m h look F g) (i c : ℕ) (hi : i < length g.choices) where
+module _ (m : Model) (h look : ℕ) (F : Front) (g : KeptGame) (is : IsGameOf m h look F g) (i c : ℕ)
+    (hi : i < length g.choices) where
   agent_in : i < length F.agents
   agent_in = let many = ap (λ oss. length oss) is.choices in let e = as_many_choices F.agents in omega arith
 
@@ -80,13 +87,18 @@ module _ (m : Model) (h look : ℕ) (F : Front) (g : KeptGame) (is : IsGameOf m 
   chosen_game a hc none ha =
       let free = unassigned_of i c F.agents (rw (sym is.choices) hi) (rw (sym is.choices) hc) (sym own ∙ none) in
       let action : a < get_or m.actions i 0 = rw (sym is.actions) ha in
-      let choices = ap (λ oss. set oss i (set (get_or oss i []) c (Some a))) is.choices ∙ sym (choices_made i c a F.agents agent_in) in
-      game_alike m h look F (chosen_front F i c a) g _ is refl (chosen_alike (arithmetic (is_exact_mode m h) m.scales) m h F i c a)
+      let choices = ap (λ oss. set oss i (set (get_or oss i []) c (Some a))) is.choices ∙ sym
+      (choices_made i c a F.agents agent_in) in
+      game_alike m h look F (chosen_front F i c a) g _ is refl
+      (chosen_alike (arithmetic (is_exact_mode m h) m.scales) m h F i c a)
       (chosen_is_front m h F i c a is.front is.early free action) choices
 
-  pub unchosen_game : (a : ℕ) → own_choice g i c ≡ Some a → IsGameOf m h look (unchosen_front F i c) (with_own_choice g i c None)
+  pub unchosen_game : (a : ℕ) → own_choice g i c ≡ Some a → IsGameOf m h look (unchosen_front F i c)
+      (with_own_choice g i c None)
   unchosen_game a some =
       let has = assigned_of i c a F.agents (rw (sym is.choices) hi) (sym own ∙ some) in
-      let choices = ap (λ oss. set oss i (set (get_or oss i []) c None)) is.choices ∙ sym (choices_taken i c F.agents agent_in) in
-      game_alike m h look F (unchosen_front F i c) g _ is refl (unchosen_alike (arithmetic (is_exact_mode m h) m.scales) m h F i c a has)
+      let choices = ap (λ oss. set oss i (set (get_or oss i []) c None)) is.choices ∙ sym
+      (choices_taken i c F.agents agent_in) in
+      game_alike m h look F (unchosen_front F i c) g _ is refl
+      (unchosen_alike (arithmetic (is_exact_mode m h) m.scales) m h F i c a has)
       (unchosen_is_front m h F i c is.front) choices

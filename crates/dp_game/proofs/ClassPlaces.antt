@@ -1,5 +1,5 @@
 -- The joint classes that hold a class of an agent.
-use Rattle.std.proofs.Common.{◌≡◌, ◌≢◌, ℕ, zero, suc, ◌+◌, ◌*◌, ◌/◌, ◌%◌, ◌^◌, ◌<◌, ◌≤◌, Bool, true, false, cond, eqb, inl, inr, ℤ, pos, ◌+ℤ◌, ◌-ℤ◌, unsigned_abs, List, [], ◌∷◌, length, get_or, drop, take, refl, sym, ap, ◌∙◌, arith}
+use Rattle.std.proofs.Common.{◌≡◌, ◌≢◌, ℕ, zero, suc, ◌+◌, ◌*◌, ◌/◌, ◌%◌, ◌<◌, ◌≤◌, Bool, true, false, cond, eqb, inl, inr, ℤ, pos, ◌+ℤ◌, ◌-ℤ◌, unsigned_abs, List, [], ◌∷◌, length, get_or, drop, take, refl, sym, ap, ◌∙◌, arith}
 use Rattle.std.proofs.lemmas.Int.{ints}
 use Rattle.std.proofs.lemmas.Bool.{cases_eq}
 use Rattle.std.proofs.lemmas.Bool.Decides.{nat_tests}
@@ -8,11 +8,11 @@ use Rattle.dp_base.specs.Sums.{int_sum, nat_sum}
 use Rattle.dp_base.proofs.NaturalSumLaws.{nat_sum_at, nat_sum_le}
 use Rattle.dp_base.proofs.Sums.{int_sum_ext, int_sum_out}
 use Rattle.dp_spec.specs.JointNumbers.{joint_number, parts_of, product}
-use Rattle.dp_spec.specs.Merge.{inserted, placed_number, without}
+use Rattle.dp_spec.specs.Merge.{placed_number, without}
 use Rattle.dp_spec.proofs.JointNumberLaws.{below_at, joint_number-parts_of, joint_number_below, length-parts_of, part_below, parts_below, positive_right}
 use Rattle.dp_laws.proofs.JointPlaces.{below_inserted, below_others, get_or-inserted, int_sum_placed, joint_is_placed, parts-placed}
 use Rattle.dp_laws.proofs.MergedSpans.{placed_at, product_split, product_without}
-use Rattle.dp_laws.proofs.SizeSums.{abs_add, int_sum_abs, int_sum_part}
+use Rattle.dp_laws.proofs.SizeSums.{int_sum_abs, int_sum_part}
 
 others_long : (i : ℕ) (ns : List ℕ) → i < length ns → i ≤ length (without i ns)
 others_long i [] h = absurd (omega arith)
@@ -37,7 +37,8 @@ module _ (i : ℕ) (ns : List ℕ) (hi : i < length ns) where
   part_there b y hb hy =
       let long = length-parts_of (without i ns) y in
       let more = others_long i ns hi in
-      ap (λ l. get_or l i 0) (parts-placed i ns b y hi hb hy) ∙ get_or-inserted i b (parts_of (without i ns) y) (omega arith)
+      ap (λ l. get_or l i 0) (parts-placed i ns b y hi hb hy) ∙ get_or-inserted i b (parts_of (without i ns) y)
+      (omega arith)
 
   -- each joint class is a place
   pub record IsPlaced (C : ℕ) : Type 0 where
@@ -119,21 +120,26 @@ module _ (i : ℕ) (ns : List ℕ) (hi : i < length ns) where
   pub sum_splits : (f : ℕ → ℤ) (b : ℕ) → b < count → int_sum (product ns) f ≡ other_sum f b +ℤ class_sum f b
   sum_splits f b hb = int_sum_placed i ns hi f ∙ int_sum_out count b (class_sum f) hb
 
-  pub other_sum_small : (f : ℕ → ℤ) (b : ℕ) → unsigned_abs (other_sum f b) ≤ nat_sum (product ns) (λ C. unsigned_abs (f C))
+  pub other_sum_small : (f : ℕ → ℤ) (b : ℕ) → unsigned_abs (other_sum f b) ≤ nat_sum (product ns)
+      (λ C. unsigned_abs (f C))
   other_sum_small f b =
       let most = int_sum_abs count (λ c. cond (eqb b c) (pos 0) (class_sum f c)) in
-      let each = nat_sum_le count (λ c. unsigned_abs (cond (eqb b c) (pos 0) (class_sum f c))) (λ c. nat_sum others (λ y. unsigned_abs (f (place c y)))) (λ c p. one (eqb b c) c) in
+      let each = nat_sum_le count (λ c. unsigned_abs (cond (eqb b c) (pos 0) (class_sum f c)))
+      (λ c. nat_sum others (λ y. unsigned_abs (f (place c y)))) (λ c p. one (eqb b c) c) in
       let all = sizes_placed (λ C. unsigned_abs (f C)) in omega arith
     where
-      one : (t : Bool) (c : ℕ) → unsigned_abs (cond t (pos 0) (class_sum f c)) ≤ nat_sum others (λ y. unsigned_abs (f (place c y)))
+      one : (t : Bool) (c : ℕ) → unsigned_abs (cond t (pos 0) (class_sum f c)) ≤ nat_sum others
+          (λ y. unsigned_abs (f (place c y)))
       one true c = omega arith
       one false c = int_sum_abs others (λ y. f (place c y))
 
   -- where the other joint classes keep their numbers
-  pub other_sum_kept : (f g : ℕ → ℤ) (b : ℕ) → ((c y : ℕ) → c < count → y < others → c ≢ b → f (place c y) ≡ g (place c y))
+  pub other_sum_kept : (f g : ℕ → ℤ) (b : ℕ) → ((c y : ℕ) → c < count → y < others → c ≢ b → f (place c y) ≡ g
+      (place c y))
       → other_sum f b ≡ other_sum g b
   other_sum_kept f g b same = int_sum_ext count _ _ (λ c p. elim (cases_eq c b) [
-    | inl e ↦ let here : eqb b c ≡ true = grind (arith, nat_tests) in (λ j. cond (here j) (pos 0) (class_sum f c)) ∙ (λ j. cond (sym here j) (pos 0) (class_sum g c))
+    | inl e ↦ let here : eqb b c ≡ true = grind (arith, nat_tests) in (λ j. cond (here j) (pos 0) (class_sum f c)) ∙
+        (λ j. cond (sym here j) (pos 0) (class_sum g c))
     | inr ne ↦ ap (λ x. cond (eqb b c) (pos 0) x) (int_sum_ext others _ _ (λ y q. same c y p q ne))
   ])
 

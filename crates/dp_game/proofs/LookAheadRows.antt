@@ -1,9 +1,8 @@
 -- The rows of look-ahead.
-use Rattle.std.proofs.Common.{◌≡◌, ℕ, suc, ◌+◌, ◌-◌, ◌*◌, ◌^◌, ◌<◌, ◌≤◌, Bool, false, ℤ, pos, ◌+ℤ◌, List, map, length, get_or, refl, sym, ap, ◌∙◌, subst, arith}
+use Rattle.std.proofs.Common.{◌≡◌, ℕ, suc, ◌-◌, ◌*◌, ◌^◌, ◌<◌, ◌≤◌, Bool, false, ℤ, pos, ◌+ℤ◌, List, map, length, refl, sym, ap, ◌∙◌, subst, arith}
 use Rattle.std.specs.List.{range_with_len}
 use Rattle.std.proofs.lemmas.List.FromFn.{length-map-range_with_len}
 use Rattle.dp_spec.specs.declared.span.Span.{Span}
-use Rattle.dp_base.specs.Sums.{int_sum}
 use Rattle.dp_base.proofs.Sums.{int_sum_ext}
 use Rattle.dp_spec.specs.Arithmetic.{Arithmetic, arithmetic, point}
 use Rattle.dp_spec.specs.Calls.{Calls, calls_in}
@@ -12,7 +11,7 @@ use Rattle.dp_spec.specs.JointNumbers.{joint_number, parts_of, product}
 use Rattle.dp_spec.specs.Mode.{IsTrueFit, is_exact_mode}
 use Rattle.dp_spec.proofs.JointNumberLaws.{below_at, joint_number-parts_of, length-below, parts_below}
 use Rattle.dp_spec.specs.Model.{IsModel, Model, joint_actions, joint_observations}
-use Rattle.dp_spec.specs.Quantities.{action_look_ahead_in, class_weight_in, look_ahead_in, weighted_reward_in, weights_after_in}
+use Rattle.dp_spec.specs.Quantities.{action_look_ahead_in, class_weight_in, look_ahead_in, weights_after_in}
 use Rattle.dp_spec.specs.Sizes.{AreWeights}
 use Rattle.dp_spec.specs.Zeros.{nothing}
 use Rattle.dp_laws.proofs.EqualWeights.{look_ahead_in_ext, weighted_reward_in_ext, weights_after_in_ext, weights_same}
@@ -27,38 +26,48 @@ use Rattle.dp_pomdp.proofs.Pushes.{no_weight}
 use Rattle.dp_game.specs.Bounders.{IsBounderOf, KeptBounder}
 use Rattle.dp_game.specs.Kept.{look_ahead_row}
 
-pub action_ext : (A : Arithmetic) (m : Model) (r k : ℕ) (ws vs : ℕ → Span) (a : ℕ) → ((s : ℕ) → s < m.states → ws s ≡ vs s)
+pub action_ext : (A : Arithmetic) (m : Model) (r k : ℕ) (ws vs : ℕ → Span) (a : ℕ) →
+    ((s : ℕ) → s < m.states → ws s ≡ vs s)
     → action_look_ahead_in A m r ws a k ≡ action_look_ahead_in A m r vs a k
 unfolding action_look_ahead_in
 action_ext A m r k ws vs a same =
     (λ j. (weighted_reward_in_ext A m r ws vs a same j).high +ℤ
-    int_sum_ext (joint_observations m) (λ o. look_ahead_in A m r (weights_after_in A m ws a o) (k - 1)) (λ o. look_ahead_in A m r (weights_after_in A m vs a o) (k - 1))
+    int_sum_ext (joint_observations m) (λ o. look_ahead_in A m r (weights_after_in A m ws a o) (k - 1))
+    (λ o. look_ahead_in A m r (weights_after_in A m vs a o) (k - 1))
     (λ o p. look_ahead_in_ext A m r (k - 1) _ _ (λ s q. weights_after_in_ext A m ws vs a o s same)) j)
 
 -- without weight nothing is earned
-zero_action : (A : Arithmetic) (C : Calls) (m : Model) (r : ℕ) (ws : List Span) → IsLooking A C m (suc r) ws → AreZero ws
+zero_action : (A : Arithmetic) (C : Calls) (m : Model) (r : ℕ) (ws : List Span) → IsLooking A C m (suc r) ws →
+    AreZero ws
     → (a k : ℕ) → pos 0 ≡ action_look_ahead_in A m r (weights_of ws) a k
 zero_action A C m r ws is zero_all a k =
     let each : (s : ℕ) → s < m.states → weights_of ws s ≡ nothing =
     λ s p. no_weight A C m (suc r) ws is s p (zero_all s (let len = is.one_each in omega arith)) in
     sym (action_ext A m r k (weights_of ws) none a each ∙ none_action A m is.zero r k a)
 
-pub nothing_earned : (e : Bool) (m : Model) → IsModel m → (h t : ℕ) (u : ℤ) → IsTrueFit m h e u → t < h → (ws : List Span)
+pub nothing_earned : (e : Bool) (m : Model) → IsModel m → (h t : ℕ) (u : ℤ) → IsTrueFit m h e u → t < h →
+    (ws : List Span)
     → length ws ≡ m.states → AreWeights e m t (weights_of ws) → AreZero ws → (a k : ℕ)
     → pos 0 ≡ action_look_ahead_in (arithmetic e m.scales) m (h - t - 1) (weights_of ws) a k
 nothing_earned e m is h t u fit early ws one_each are zero_all a k =
     let left : suc (h - t - 1) ≡ h - t = omega arith in
     zero_action (arithmetic e m.scales) (calls_in e m.scales) m (h - t - 1) ws
-    (mode_looking e e m.scales m is refl refl h t (suc (h - t - 1)) u fit (omega arith) left ws one_each are) zero_all a k
+    (mode_looking e e m.scales m is refl refl h t (suc (h - t - 1)) u fit (omega arith) left ws one_each are)
+    zero_all a k
 
 -- ---- the row of a joint class of a front
 
 -- a front and a bounder of one horizon have one mode
-pub same_mode : (m : Model) (k : KeptFront) (b : KeptBounder) → IsFrontOf m k → IsBounderOf m b → k.horizon ≡ b.horizon
+pub same_mode : (m : Model) (k : KeptFront) (b : KeptBounder) → IsFrontOf m k → IsBounderOf m b → k.horizon ≡
+    b.horizon
     → k.is_exact ≡ b.is_exact
 same_mode m k b is bo same = is.mode ∙ ap (is_exact_mode m) same ∙ sym bo.fit.mode
 
-module _ (m : Model) (k : KeptFront) (b : KeptBounder) (is : IsFrontOf m k) (bo : IsBounderOf m b) (same : k.horizon ≡ b.horizon) (lt : k.front.stage < k.horizon) (cells : k.is_exact ≡ false → m.states * joint_observations m ^ k.front.stage ≤ 2 ^ 22) (C : ℕ) (hC : C < product (class_counts k.front.agents)) (n : ℕ) (all : n ≡ m.states) (ws : List Span) (are : ws ≡ map (kept_weight k C) (range_with_len 0 n)) where
+module _ (m : Model) (k : KeptFront) (b : KeptBounder) (is : IsFrontOf m k) (bo : IsBounderOf m b)
+    (same : k.horizon ≡ b.horizon) (lt : k.front.stage < k.horizon)
+    (cells : k.is_exact ≡ false → m.states * joint_observations m ^ k.front.stage ≤ 2 ^ 22) (C : ℕ)
+    (hC : C < product (class_counts k.front.agents)) (n : ℕ) (all : n ≡ m.states) (ws : List Span)
+    (are : ws ≡ map (kept_weight k C) (range_with_len 0 n)) where
   abbrev A : Arithmetic
   A = arithmetic b.is_exact m.scales
 
@@ -76,22 +85,31 @@ module _ (m : Model) (k : KeptFront) (b : KeptBounder) (is : IsFrontOf m k) (bo 
   pub row_weights : AreWeights b.is_exact m k.front.stage (weights_of ws)
   row_weights =
       let mode : b.is_exact ≡ is_exact_mode m k.horizon = sym one_mode ∙ is.mode in
-      let can = mode_can_refine m is.model k.horizon is.some_step is.horizon b.is_exact mode k.front is.front lt (λ e. cells (one_mode ∙ e)) in
-      weights_same b.is_exact m k.front.stage (class_weight_in A m k.front C) (weights_of ws) (λ s p. sym (weights_are s p))
-      (subst (λ (e : Bool). AreWeights e m k.front.stage (class_weight_in A m k.front C)) (arithmetic_is_exact b.is_exact m.scales) (can.weights C))
+      let can = mode_can_refine m is.model k.horizon is.some_step is.horizon b.is_exact mode k.front is.front lt
+      (λ e. cells (one_mode ∙ e)) in
+      weights_same b.is_exact m k.front.stage (class_weight_in A m k.front C) (weights_of ws)
+      (λ s p. sym (weights_are s p))
+      (subst (λ (e : Bool). AreWeights e m k.front.stage (class_weight_in A m k.front C))
+      (arithmetic_is_exact b.is_exact m.scales) (can.weights C))
 
-  pub row_is : map (λ a. action_look_ahead_in A m (b.horizon - k.front.stage - 1) (weights_of ws) a b.look) (range_with_len 0 (joint_actions m))
+  pub row_is : map (λ a. action_look_ahead_in A m (b.horizon - k.front.stage - 1) (weights_of ws) a b.look)
+      (range_with_len 0 (joint_actions m))
       ≡ look_ahead_row A m (b.horizon - k.front.stage - 1) k.front b.look C
   row_is =
       same_map (joint_actions m) (pos 0) _ _ (λ a p.
-      action_ext A m (b.horizon - k.front.stage - 1) b.look (weights_of ws) (class_weight_in A m k.front C) a weights_are)
+      action_ext A m (b.horizon - k.front.stage - 1) b.look (weights_of ws) (class_weight_in A m k.front C) a
+      weights_are)
 
 -- ---- the classes of a joint class
 
 pub are_parts : (ns : List ℕ) (C : ℕ) (ps : List ℕ) → C < product ns → ps ≡ parts_of ns C → AreParts ns ps
 are_parts ns C ps lt is =
     let below = parts_below ns C lt in
-    subst (AreParts ns) (sym is) (record { alike = length-below ns (parts_of ns C) below; below = λ i p. below_at i ns (parts_of ns C) p below })
+    subst (AreParts ns) (sym is) (record {
+      alike = length-below ns (parts_of ns C) below;
+      below = λ i p. below_at i
+          ns (parts_of ns C) p below;
+    })
 
 pub number_is : (ns : List ℕ) (C : ℕ) (ps : List ℕ) → C < product ns → ps ≡ parts_of ns C → joint_number ns ps ≡ C
 number_is ns C ps lt is = ap (joint_number ns) is ∙ joint_number-parts_of ns C lt

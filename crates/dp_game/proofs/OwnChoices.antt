@@ -1,7 +1,7 @@
 -- The choices of the agents' classes, in a front and in a game.
-use Rattle.std.proofs.Common.{◌≡◌, ◌≢◌, inl, inr, ℕ, zero, suc, ◌<◌, ◌≤◌, Bool, true, false, List, [], ◌∷◌, filter, map, length, get_or, set, Option, None, Some, refl, sym, ap, ◌∙◌, arith}
+use Rattle.std.proofs.Common.{◌≡◌, ℕ, zero, suc, ◌<◌, List, [], ◌∷◌, map, length, get_or, set, Option, None, Some, refl, sym, ap, ◌∙◌, arith}
 use Rattle.std.specs.Prelude.{◌&&◌}
-use Rattle.std.proofs.lemmas.List.{get_or-set_other, get_or-set_same, length-set}
+use Rattle.std.proofs.lemmas.List.{length-set}
 use Rattle.dp_base.proofs.Members.{filter_same}
 use Rattle.dp_base.specs.Sums.{numbers_below}
 use Rattle.dp_spec.specs.Bound.{agreeing_actions, agrees, all_agree}
@@ -31,9 +31,11 @@ agree_alike : (ds : List AgentFront) (cs as' : List ℕ) → length cs ≡ lengt
 agree_alike [] cs as' e = refl
 agree_alike (d ∷ ds) [] as' e = absurd (omega arith)
 agree_alike (d ∷ ds) (c ∷ cs) [] e = refl
-agree_alike (d ∷ ds) (c ∷ cs) (a ∷ as') e = ap (λ b. agrees (get_or d.chosen c None) a && b) (agree_alike ds cs as' (omega arith))
+agree_alike (d ∷ ds) (c ∷ cs) (a ∷ as') e = ap (λ b. agrees (get_or d.chosen c None) a && b)
+    (agree_alike ds cs as' (omega arith))
 
-pub agreeing_are_allowed : (m : Model) (F : Front) (C : ℕ) → agreeing_actions m F C ≡ allowed_actions m.actions (choices_in (choices_of F.agents) C)
+pub agreeing_are_allowed : (m : Model) (F : Front) (C : ℕ) → agreeing_actions m F C ≡ allowed_actions m.actions
+    (choices_in (choices_of F.agents) C)
 unfolding agreeing_actions joint_actions
 agreeing_are_allowed m F C =
     let ds = F.agents in
@@ -41,7 +43,8 @@ agreeing_are_allowed m F C =
     let many = as_many_counts ds in
     filter_same _ _ (numbers_below (product m.actions)) (λ a.
     agree_alike ds (parts_of (class_counts ds) C) (parts_of m.actions a) (omega arith)
-    ∙ ap (λ (ns : List ℕ). each_agrees (choices_for (choices_of ds) (parts_of ns C)) (parts_of m.actions a)) (sym (counts_of ds)))
+    ∙ ap (λ (ns : List ℕ). each_agrees (choices_for (choices_of ds) (parts_of ns C)) (parts_of m.actions a))
+    (sym (counts_of ds)))
   where
     as_many_counts : (ds : List AgentFront) → length (class_counts ds) ≡ length ds
     as_many_counts [] = refl
@@ -61,7 +64,8 @@ choices_taken i c [] lt = absurd (omega arith)
 choices_taken zero c (d ∷ ds) lt = refl
 choices_taken (suc i) c (d ∷ ds) lt = ap (λ l. d.chosen ∷ l) (choices_taken i c ds (omega arith))
 
-pub unassigned_of : (i c : ℕ) (ds : List AgentFront) → i < length (choices_of ds) → c < length (get_or (choices_of ds) i [])
+pub unassigned_of : (i c : ℕ) (ds : List AgentFront) → i < length (choices_of ds) → c < length
+    (get_or (choices_of ds) i [])
     → get_or (get_or (choices_of ds) i []) c None ≡ None → IsUnassigned i c ds
 unassigned_of i c [] hi hc none = absurd (omega arith)
 unassigned_of zero c (d ∷ ds) hi hc none = (hc, none)
@@ -75,7 +79,8 @@ assigned_of (suc i) c a (d ∷ ds) hi has = assigned_of i c a ds (omega arith) h
 
 -- ---- the choices for classes, agent by agent
 
-pub length-choices_for : (oss : List (List (Option ℕ))) (cs : List ℕ) → length cs ≡ length oss → length (choices_for oss cs) ≡ length oss
+pub length-choices_for : (oss : List (List (Option ℕ))) (cs : List ℕ) → length cs ≡ length oss → length
+    (choices_for oss cs) ≡ length oss
 length-choices_for [] cs e = refl
 length-choices_for (os ∷ oss) [] e = absurd (omega arith)
 length-choices_for (os ∷ oss) (c ∷ cs) e = let l = length-choices_for oss cs (omega arith) in omega arith
@@ -92,7 +97,8 @@ as_many_own [] = refl
 as_many_own (os ∷ oss) = let e = as_many_own oss in omega arith
 
 -- after a choice there are as many classes
-pub counts_kept : (oss : List (List (Option ℕ))) (i c : ℕ) (o : Option ℕ) → own_counts (set oss i (set (get_or oss i []) c o)) ≡ own_counts oss
+pub counts_kept : (oss : List (List (Option ℕ))) (i c : ℕ) (o : Option ℕ) → own_counts
+    (set oss i (set (get_or oss i []) c o)) ≡ own_counts oss
 counts_kept [] i c o = refl
 counts_kept (os ∷ oss) zero c o = ap (λ n. n ∷ own_counts oss) (length-set os c o)
 counts_kept (os ∷ oss) (suc i) c o = ap (λ ns. length os ∷ ns) (counts_kept oss i c o)

@@ -5,13 +5,21 @@ use Rattle.dp_base.proofs.Order.{last_or_before}
 use Rattle.dp_spec.proofs.JointNumberLaws.{row_below}
 use Rattle.dp_game.specs.Kept.{rows_of}
 
-pub rows_length : {X : Type 0} (f : ℕ → List X) (w n : ℕ) → ((C : ℕ) → C < n → length (f C) ≡ w) → length (rows_of f n) ≡ n * w
+pub rows_length : {X : Type 0} (f : ℕ → List X) (w n : ℕ) → ((C : ℕ) → C < n → length (f C) ≡ w) → length
+    (rows_of f n) ≡ n * w
 rows_length f w zero each = omega arith
 rows_length f w (suc n) each =
-    omega (arith, length-append (rows_of f n) (f n), rows_length f w n (λ C lt. each C (omega arith)), each n (omega arith))
+    omega (
+      arith,
+      length-append (rows_of f n) (f n),
+      rows_length f w n (λ C lt. each C (omega arith)),
+      each n
+          (omega arith),
+    )
 
 -- place s of row C
-pub rows_at : {X : Type 0} (f : ℕ → List X) (w n C s : ℕ) (d : X) → ((C : ℕ) → C < n → length (f C) ≡ w) → C < n → s < w
+pub rows_at : {X : Type 0} (f : ℕ → List X) (w n C s : ℕ) (d : X) → ((C : ℕ) → C < n → length (f C) ≡ w) → C < n → s
+    < w
     → get_or (rows_of f n) (C * w + s) d ≡ get_or (f C) s d
 rows_at f w zero C s d each hC hs = absurd (omega arith)
 rows_at f w (suc n) C s d each hC hs =
@@ -35,7 +43,8 @@ pushed_more old items new row j d x lt is so_far pushed =
     pushed ∙ (λ i. so_far i ++ is i ∷ []) ∙ append_assoc old (take j row) (get_or row j d ∷ [])
     ∙ ap (λ (l : List _). old ++ l) (sym (take_more row j d lt))
 
-pub pushed_all : {X : Type 0} (old items row : List X) (j : ℕ) → length row ≤ j → items ≡ old ++ take j row → items ≡ old ++ row
+pub pushed_all : {X : Type 0} (old items row : List X) (j : ℕ) → length row ≤ j → items ≡ old ++ take j row → items
+    ≡ old ++ row
 pushed_all old items row j le so_far = so_far ∙ ap (λ (l : List _). old ++ l) (take_all j row le)
 
 -- from nothing
@@ -46,10 +55,12 @@ pushed_first items new row j d x lt is so_far pushed =
 
 -- ---- rows that are pushed, item by item of each
 
-pub gone_on : {X : Type 0} (all items new : List X) (x : X) (rest more left : List X) → new ++ left ≡ new ++ rest → items ++ more ≡ all
+pub gone_on : {X : Type 0} (all items new : List X) (x : X) (rest more left : List X) → new ++ left ≡ new ++ rest →
+    items ++ more ≡ all
     → more ≡ x ∷ rest → new ≡ items ++ x ∷ [] → new ++ left ≡ all
 gone_on all items new x rest more left same so_far split pushed =
-    same ∙ ap (λ (l : List _). l ++ rest) pushed ∙ append_assoc items (x ∷ []) rest ∙ ap (λ (l : List _). items ++ l) (sym split) ∙ so_far
+    same ∙ ap (λ (l : List _). l ++ rest) pushed ∙ append_assoc items (x ∷ []) rest ∙ ap
+    (λ (l : List _). items ++ l) (sym split) ∙ so_far
 
 pub gone_through : {X : Type 0} (all items more : List X) → items ++ more ≡ all → more ≡ [] → items ≡ all
 gone_through all items more so_far none =

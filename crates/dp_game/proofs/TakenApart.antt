@@ -1,5 +1,5 @@
 -- A joint class taken apart, agent by agent.
-use Rattle.std.proofs.Common.{◌≡◌, ℕ, zero, suc, ◌+◌, ◌*◌, ◌/◌, ◌%◌, ◌^◌, ◌<◌, ◌≤◌, List, [], ◌∷◌, ◌++◌, map, length, get_or, drop, Option, None, add-one, refl, sym, ap, ◌∙◌, subst, arith}
+use Rattle.std.proofs.Common.{◌≡◌, ℕ, zero, suc, ◌+◌, ◌*◌, ◌/◌, ◌%◌, ◌^◌, ◌<◌, ◌≤◌, List, [], ◌∷◌, length, get_or, drop, Option, None, add-one, refl, sym, ap, ◌∙◌, subst, arith}
 use Rattle.std.proofs.Math.Seq.{drop-cons}
 use Rattle.std.proofs.Math.Nat.{mul_assoc}
 use Rattle.std.proofs.lemmas.List.{get_or-map, length-map}
@@ -15,11 +15,13 @@ pub record IsTakenApart (oss : List (List (Option ℕ))) (j left rest : ℕ) : T
   pub below : rest < left
   pub few : left ≤ 2 ^ 24
 
-pub apart_start : (oss : List (List (Option ℕ))) (count C : ℕ) → count ≡ product (own_counts oss) → count ≤ 2 ^ 24 → C < count
+pub apart_start : (oss : List (List (Option ℕ))) (count C : ℕ) → count ≡ product (own_counts oss) → count ≤ 2 ^ 24 →
+    C < count
     → IsTakenApart oss 0 count C
 apart_start oss count C is few lt = record { counted = is; below = lt; few = few }
 
-module _ (oss : List (List (Option ℕ))) (j left rest : ℕ) (lt : j < length oss) (own : List (Option ℕ)) (n : ℕ) (is : get_or oss j own ≡ own) (count : n ≡ length own) (u : IsTakenApart oss j left rest) where
+module _ (oss : List (List (Option ℕ))) (j left rest : ℕ) (lt : j < length oss) (own : List (Option ℕ)) (n : ℕ)
+    (is : get_or oss j own ≡ own) (count : n ≡ length own) (u : IsTakenApart oss j left rest) where
   abbrev P : ℕ
   P = product (own_counts (drop (suc j) oss))
 
@@ -78,10 +80,12 @@ no_more [] (suc j) le = refl
 no_more (x ∷ xs) zero le = absurd (omega arith)
 no_more (x ∷ xs) (suc j) le = no_more xs j (omega arith)
 
-pub no_parts : (oss : List (List (Option ℕ))) (j rest : ℕ) → length oss ≤ j → parts_of (own_counts (drop j oss)) rest ≡ []
+pub no_parts : (oss : List (List (Option ℕ))) (j rest : ℕ) → length oss ≤ j → parts_of (own_counts (drop j oss))
+    rest ≡ []
 no_parts oss j rest le = ap (λ l. parts_of (own_counts l) rest) (no_more oss j le)
 
-pub no_choices : (oss : List (List (Option ℕ))) (j : ℕ) (cs : List ℕ) → length oss ≤ j → choices_for (drop j oss) cs ≡ []
+pub no_choices : (oss : List (List (Option ℕ))) (j : ℕ) (cs : List ℕ) → length oss ≤ j → choices_for (drop j oss) cs
+    ≡ []
 no_choices oss j cs le = ap (λ l. choices_for l cs) (no_more oss j le)
 
 -- ---- the numbers of classes, multiplied agent by agent
@@ -94,12 +98,14 @@ pub count_at : (oss : List (List (Option ℕ))) (j : ℕ) (os : List (Option ℕ
 count_at oss j os lt is =
     ap (λ (l : List (Option ℕ)). length l) is ∙ sym (get_or-map (λ (l : List (Option ℕ)). length l) oss j os 0 lt)
 
-module _ (ns : List ℕ) (first j width n : ℕ) (lt : j < length ns) (is : n ≡ get_or ns j 0) (some : 0 < product ns) (few : product ns ≤ 2 ^ 24) (so_far : width * product (drop j ns) ≡ product (drop first ns)) where
+module _ (ns : List ℕ) (first j width n : ℕ) (lt : j < length ns) (is : n ≡ get_or ns j 0) (some : 0 < product ns)
+    (few : product ns ≤ 2 ^ 24) (so_far : width * product (drop j ns) ≡ product (drop first ns)) where
   pub width_next : width * n * product (drop (j + 1) ns) ≡ product (drop first ns)
   width_next =
       ap (λ (z : ℕ). width * n * product (drop z ns)) (add-one j)
       ∙ mul_assoc width n (product (drop (suc j) ns))
-      ∙ ap (λ (z : ℕ). width * (z * product (drop (suc j) ns))) is ∙ ap (λ (z : ℕ). width * z) (sym (product-drop ns j lt)) ∙ so_far
+      ∙ ap (λ (z : ℕ). width * (z * product (drop (suc j) ns))) is ∙ ap (λ (z : ℕ). width * z)
+      (sym (product-drop ns j lt)) ∙ so_far
 
   pub width_fits : width * n ≤ 2 ^ 24
   width_fits =
@@ -108,7 +114,8 @@ module _ (ns : List ℕ) (first j width n : ℕ) (lt : j < length ns) (is : n �
       let whole = width_next in
       most (width * n) (product (drop (j + 1) ns)) (2 ^ 24) rest (omega arith)
 
-pub width_end : (ns : List ℕ) (first j width : ℕ) → length ns ≤ j → width * product (drop j ns) ≡ product (drop first ns)
+pub width_end : (ns : List ℕ) (first j width : ℕ) → length ns ≤ j → width * product (drop j ns) ≡ product
+    (drop first ns)
     → width ≡ product (drop first ns)
 width_end ns first j width le so_far =
     sym (one width) ∙ ap (λ l. width * product l) (sym (no_more ns j le)) ∙ so_far

@@ -1,10 +1,9 @@
 -- The walk over the joint classes that hold a class whose choice changes, and the bound after it.
-use Rattle.std.proofs.Common.{◌≡◌, ◌≢◌, ℕ, suc, ◌+◌, ◌*◌, ◌/◌, ◌%◌, ◌^◌, ◌<◌, ◌≤◌, ℤ, pos, ◌+ℤ◌, ◌-ℤ◌, unsigned_abs, List, [], ◌++◌, length, get_or, set, drop, take, Option, None, add-one, refl, sym, ap, ◌∙◌, subst, arith}
+use Rattle.std.proofs.Common.{◌≡◌, ℕ, suc, ◌+◌, ◌*◌, ◌/◌, ◌%◌, ◌^◌, ◌<◌, ◌≤◌, ℤ, pos, ◌+ℤ◌, ◌-ℤ◌, unsigned_abs, List, [], ◌++◌, length, get_or, set, drop, take, Option, add-one, sym, ap, ◌∙◌, subst, arith}
 use Rattle.std.proofs.Math.Nat.{mul-le-mul, mul_comm, suc-mul}
-use Rattle.std.proofs.lemmas.Int.{ints}
 use Rattle.std.proofs.lemmas.List.{length-set, take-append-le, take_all}
 use Rattle.dp_base.specs.Sums.{int_sum, nat_sum}
-use Rattle.dp_spec.specs.JointNumbers.{parts_of, product}
+use Rattle.dp_spec.specs.JointNumbers.{product}
 use Rattle.dp_spec.specs.Merge.{placed_number, without}
 use Rattle.dp_spec.proofs.JointNumberLaws.{product-drop_above}
 use Rattle.dp_laws.proofs.SizeSums.{abs_add}
@@ -24,7 +23,9 @@ row_room J N w lt =
 abbrev pub earning : KeptGame → ℤ → KeptGame
 earning g e = record g { earned = e }
 
-module _ (g : KeptGame) (i c : ℕ) (o : Option ℕ) (hi : i < length g.choices) (hc : c < length (get_or g.choices i [])) (before : (e : ℤ) × IsOfSomeFront (earning g e)) (after : (e : ℤ) × IsOfSomeFront (with_own_choice (earning g e) i c o)) where
+module _ (g : KeptGame) (i c : ℕ) (o : Option ℕ) (hi : i < length g.choices)
+    (hc : c < length (get_or g.choices i [])) (before : (e : ℤ) × IsOfSomeFront (earning g e))
+    (after : (e : ℤ) × IsOfSomeFront (with_own_choice (earning g e) i c o)) where
   abbrev ns : List ℕ
   ns = own_counts g.choices
 
@@ -42,14 +43,18 @@ module _ (g : KeptGame) (i c : ℕ) (o : Option ℕ) (hi : i < length g.choices)
       let part = part_small i ns (hi' g i c o hi hc) (best_entry g) c k (class_in g i c o hi hc) hk in
       let all = all_small (earning g before.0) before.1 in omega arith
 
-  sum_small_after : (k : ℕ) → k ≤ product (without i ns) → unsigned_abs (int_sum k (λ y. best_entry (with_own_choice g i c o) (J y))) < 2 ^ 127
+  sum_small_after : (k : ℕ) → k ≤ product (without i ns) → unsigned_abs
+      (int_sum k (λ y. best_entry (with_own_choice g i c o) (J y))) < 2 ^ 127
   sum_small_after k hk =
-      let part = part_small i ns (hi' g i c o hi hc) (best_entry (with_own_choice g i c o)) c k (class_in g i c o hi hc) hk in
+      let part = part_small i ns (hi' g i c o hi hc) (best_entry (with_own_choice g i c o)) c k
+      (class_in g i c o hi hc) hk in
       let all =
-      subst (λ (l : List ℕ). unsigned_abs after.0 + nat_sum (product l) (λ C. unsigned_abs (best_entry (with_own_choice g i c o) C)) ≤ 2 ^ 126)
+      subst (λ (l : List ℕ). unsigned_abs after.0 + nat_sum (product l)
+      (λ C. unsigned_abs (best_entry (with_own_choice g i c o) C)) ≤ 2 ^ 126)
       (same_counts g i c o hi hc) (all_small (with_own_choice (earning g after.0) i c o) after.1) in omega arith
 
-  module _ (count width : ℕ) (ec : count ≡ get_or (own_counts g.choices) i 0) (ew : width ≡ product (drop (i + 1) (own_counts g.choices))) where
+  module _ (count width : ℕ) (ec : count ≡ get_or (own_counts g.choices) i 0)
+      (ew : width ≡ product (drop (i + 1) (own_counts g.choices))) where
     width_is : width ≡ product (drop (suc i) ns)
     width_is = ew ∙ ap (λ (z : ℕ). product (drop z ns)) (add-one i)
 
@@ -59,10 +64,12 @@ module _ (g : KeptGame) (i c : ℕ) (o : Option ℕ) (hi : i < length g.choices)
     pub some_count : 0 < count
     some_count = let lt = class_in g i c o hi hc in omega arith
 
-    pub places_are : (N : ℕ) → N ≡ product (own_counts g.choices) → N / count ≡ product (without i (own_counts g.choices))
+    pub places_are : (N : ℕ) → N ≡ product (own_counts g.choices) → N / count ≡ product
+        (without i (own_counts g.choices))
     places_are N is =
         divided count (product (without i ns)) N some_count
-        (is ∙ as_many_places i ns (hi' g i c o hi hc) ∙ ap (λ (z : ℕ). product (without i ns) * z) (sym ec) ∙ mul_comm (product (without i ns)) count)
+        (is ∙ as_many_places i ns (hi' g i c o hi hc) ∙ ap (λ (z : ℕ). product (without i ns) * z) (sym ec) ∙
+        mul_comm (product (without i ns)) count)
 
     module _ (x : ℕ) (hx : x < product (without i (own_counts g.choices))) where
       pub joint_is : (x / width * count + c) * width + x % width ≡ placed_number i (own_counts g.choices) c x
@@ -101,39 +108,56 @@ module _ (g : KeptGame) (i c : ℕ) (o : Option ℕ) (hi : i < length g.choices)
           in_best = let lt : j < product ns = rw at J_below in let one = u.one_each in omega arith
 
           pub gone_is : get_or best j (pos 0) ≡ best_entry g (J x)
-          gone_is = ap (λ (z : ℕ). get_or best z (pos 0)) at ∙ (u.rest c x (class_in g i c o hi hc) hx (λ e. omega arith)).best
+          gone_is = ap (λ (z : ℕ). get_or best z (pos 0)) at ∙
+              (u.rest c x (class_in g i c o hi hc) hx (λ e. omega arith)).best
 
-          pub gone_fits : (total gone : ℤ) → total ≡ int_sum x (λ y. best_entry g (J y)) → gone ≡ get_or best j (pos 0)
+          pub gone_fits : (total gone : ℤ) → total ≡ int_sum x (λ y. best_entry g (J y)) → gone ≡ get_or best j
+              (pos 0)
               → unsigned_abs (total +ℤ gone) < 2 ^ 127
           gone_fits total gone et eg = rw (et, eg, gone_is) (sum_small (suc x) (omega arith))
 
-          pub gone_next : (total gone new : ℤ) → total ≡ int_sum x (λ y. best_entry g (J y)) → gone ≡ get_or best j (pos 0)
+          pub gone_next : (total gone new : ℤ) → total ≡ int_sum x (λ y. best_entry g (J y)) → gone ≡ get_or best j
+              (pos 0)
               → new ≡ total +ℤ gone → new ≡ int_sum (x + 1) (λ y. best_entry g (J y))
           gone_next total gone new et eg en =
-              en ∙ (λ k. et k +ℤ (eg ∙ gone_is) k) ∙ ap (λ (n : ℕ). int_sum n (λ y. best_entry g (J y))) (sym (add-one x))
+              en ∙ (λ k. et k +ℤ (eg ∙ gone_is) k) ∙ ap (λ (n : ℕ). int_sum n (λ y. best_entry g (J y)))
+              (sym (add-one x))
 
-          module _ (wanted' : List (Option ℕ)) (best' : List ℤ) (come : ℤ) (ew' : wanted' ≡ set wanted (j * length g.actions + i) o) (eb' : best' ≡ set best j come) (is : come ≡ greatest_in g.actions g.table wanted' j) where
+          module _ (wanted' : List (Option ℕ)) (best' : List ℤ) (come : ℤ)
+              (ew' : wanted' ≡ set wanted (j * length g.actions + i) o) (eb' : best' ≡ set best j come)
+              (is : come ≡ greatest_in g.actions g.table wanted' j) where
             both : IsChanging g i c o (x + 1) wanted' best' × (come ≡ best_entry (with_own_choice g i c o) (J x))
-            both = changing_on g i c o hi hc x hx wanted wanted' best best' come j (length g.actions) u at (same_agents (earning g before.0) before.1) (same_agents (earning g before.0) before.1) ew' eb' is
+            both = changing_on g i c o hi hc x hx wanted wanted' best best' come j (length g.actions) u at
+                (same_agents (earning g before.0) before.1) (same_agents (earning g before.0) before.1) ew' eb' is
 
             pub walk_next : IsChanging g i c o (x + 1) wanted' best'
             walk_next = both.0
 
-            pub come_fits : (total : ℤ) → total ≡ int_sum x (λ y. best_entry (with_own_choice g i c o) (J y)) → unsigned_abs (total +ℤ come) < 2 ^ 127
+            pub come_fits : (total : ℤ) → total ≡ int_sum x (λ y. best_entry (with_own_choice g i c o) (J y)) →
+                unsigned_abs (total +ℤ come) < 2 ^ 127
             come_fits total et = rw (et, both.1) (sum_small_after (suc x) (omega arith))
 
-            pub come_next : (total new : ℤ) → total ≡ int_sum x (λ y. best_entry (with_own_choice g i c o) (J y)) → new ≡ total +ℤ come
+            pub come_next : (total new : ℤ) → total ≡ int_sum x (λ y. best_entry (with_own_choice g i c o) (J y)) →
+                new ≡ total +ℤ come
                 → new ≡ int_sum (x + 1) (λ y. best_entry (with_own_choice g i c o) (J y))
             come_next total new et en =
-                en ∙ (λ k. et k +ℤ both.1 k) ∙ ap (λ (n : ℕ). int_sum n (λ y. best_entry (with_own_choice g i c o) (J y))) (sym (add-one x))
+                en ∙ (λ k. et k +ℤ both.1 k) ∙ ap (λ (n : ℕ). int_sum n
+                (λ y. best_entry (with_own_choice g i c o) (J y))) (sym (add-one x))
 
 -- ---- the bound after it
 
-module _ (g : KeptGame) (i c : ℕ) (o : Option ℕ) (hi : i < length g.choices) (hc : c < length (get_or g.choices i [])) (before : IsOfSomeFront g) (after : IsOfSomeFront (with_own_choice g i c o)) (sum gone come : ℤ) (is : sum ≡ game_bound g) (eg : gone ≡ int_sum (product (without i (own_counts g.choices))) (λ y. best_entry g (placed_number i (own_counts g.choices) c y))) (ec : come ≡ int_sum (product (without i (own_counts g.choices))) (λ y. best_entry (with_own_choice g i c o) (placed_number i (own_counts g.choices) c y))) where
+module _ (g : KeptGame) (i c : ℕ) (o : Option ℕ) (hi : i < length g.choices)
+    (hc : c < length (get_or g.choices i [])) (before : IsOfSomeFront g)
+    (after : IsOfSomeFront (with_own_choice g i c o)) (sum gone come : ℤ) (is : sum ≡ game_bound g)
+    (eg : gone ≡ int_sum (product (without i (own_counts g.choices)))
+    (λ y. best_entry g (placed_number i (own_counts g.choices) c y)))
+    (ec : come ≡ int_sum (product (without i (own_counts g.choices)))
+    (λ y. best_entry (with_own_choice g i c o) (placed_number i (own_counts g.choices) c y))) where
   abbrev ms : List ℕ
   ms = own_counts g.choices
 
-  split : sum ≡ g.earned +ℤ (other_sum i ms (hi' g i c o hi hc) (best_entry g) c +ℤ class_sum i ms (hi' g i c o hi hc) (best_entry g) c)
+  split : sum ≡ g.earned +ℤ (other_sum i ms (hi' g i c o hi hc) (best_entry g) c +ℤ class_sum i ms
+      (hi' g i c o hi hc) (best_entry g) c)
   split = is ∙ ap (λ x. g.earned +ℤ x) (sum_splits i ms (hi' g i c o hi hc) (best_entry g) c (class_in g i c o hi hc))
 
   pub less_fits : unsigned_abs (sum -ℤ gone) < 2 ^ 127
@@ -143,10 +167,12 @@ module _ (g : KeptGame) (i c : ℕ) (o : Option ℕ) (hi : i < length g.choices)
       let all = all_small g before in
       rw (less_is g.earned (other_sum i ms (hi' g i c o hi hc) (best_entry g) c) _ sum gone split eg) (omega arith)
 
-  kept : other_sum i ms (hi' g i c o hi hc) (best_entry g) c ≡ other_sum i ms (hi' g i c o hi hc) (best_entry (with_own_choice g i c o)) c
+  kept : other_sum i ms (hi' g i c o hi hc) (best_entry g) c ≡ other_sum i ms (hi' g i c o hi hc)
+      (best_entry (with_own_choice g i c o)) c
   kept =
       other_sum_kept i ms (hi' g i c o hi hc) (best_entry g) (best_entry (with_own_choice g i c o)) c (λ b y hb hy ne.
-      sym (best_elsewhere g i c o hi hc (placed_number i ms b y) (λ e. ne (sym (part_there i ms (hi' g i c o hi hc) b y hb hy) ∙ e))))
+      sym (best_elsewhere g i c o hi hc (placed_number i ms b y)
+      (λ e. ne (sym (part_there i ms (hi' g i c o hi hc) b y hb hy) ∙ e))))
 
   pub bound_after : (sum -ℤ gone) +ℤ come ≡ game_bound (with_own_choice g i c o)
   bound_after =
@@ -166,30 +192,41 @@ module _ (g : KeptGame) (i c : ℕ) (o : Option ℕ) (hi : i < length g.choices)
 -- a list that was written through a slice of it
 pub written : {X : Type 0} (n : ℕ) (new old : List X) → n ≡ length new → take n (new ++ drop (length new) old) ≡ new
 written n new old e =
-    ap (λ (k : ℕ). take k (new ++ drop (length new) old)) e ∙ take-append-le (length new) new (drop (length new) old) (omega arith) ∙ take_all (length new) new (omega arith)
+    ap (λ (k : ℕ). take k (new ++ drop (length new) old)) e ∙ take-append-le (length new) new
+    (drop (length new) old) (omega arith) ∙ take_all (length new) new (omega arith)
 
-pub kept_before : (g : KeptGame) (oss : List (List (Option ℕ))) (table best' : List ℤ) (wanted wanted' : List (Option ℕ)) (best : List ℤ)
-    → oss ≡ g.choices → table ≡ g.table → wanted' ≡ wanted → best' ≡ best → ((C : ℕ) → C < joint_classes g → IsKeptAt g wanted best C)
+pub kept_before : (g : KeptGame) (oss : List (List (Option ℕ))) (table best' : List ℤ)
+    (wanted wanted' : List (Option ℕ)) (best : List ℤ)
+    → oss ≡ g.choices → table ≡ g.table → wanted' ≡ wanted → best' ≡ best →
+    ((C : ℕ) → C < joint_classes g → IsKeptAt g wanted best C)
     → (C : ℕ) → C < product (own_counts oss) → IsKeptAt (game_with g.actions oss table (pos 0)) wanted' best' C
 kept_before g oss table best' wanted wanted' best eo et ew eb at C lt =
     let lt' : C < joint_classes g = subst (λ (l : List (List (Option ℕ))). C < product (own_counts l)) eo lt in
     let kept = at C lt' in
-    let here : IsKeptAt (game_with g.actions g.choices g.table (pos 0)) wanted best C = record { choices = kept.choices; best = kept.best } in
+    let here : IsKeptAt (game_with g.actions g.choices g.table (pos 0)) wanted best C = record
+    { choices = kept.choices; best = kept.best } in
     subst (λ l. IsKeptAt (game_with g.actions l table (pos 0)) wanted' best' C) (sym eo)
     (subst (λ t. IsKeptAt (game_with g.actions g.choices t (pos 0)) wanted' best' C) (sym et)
     (subst (λ w. IsKeptAt (game_with g.actions g.choices g.table (pos 0)) w best' C) (sym ew)
     (subst (λ b. IsKeptAt (game_with g.actions g.choices g.table (pos 0)) wanted b C) (sym eb) here)))
 
-pub kept_after : (g : KeptGame) (i c : ℕ) (o : Option ℕ) (oss oss' : List (List (Option ℕ))) (table : List ℤ) (wanted wanted' : List (Option ℕ))
-    (best best' : List ℤ) (bound : ℤ) → i < length g.choices → c < length (get_or g.choices i []) → IsOfSomeFront (with_own_choice g i c o)
+pub kept_after : (g : KeptGame) (i c : ℕ) (o : Option ℕ) (oss oss' : List (List (Option ℕ))) (table : List ℤ)
+    (wanted wanted' : List (Option ℕ))
+    (best best' : List ℤ) (bound : ℤ) → i < length g.choices → c < length (get_or g.choices i []) → IsOfSomeFront
+    (with_own_choice g i c o)
     → oss ≡ g.choices → table ≡ g.table → oss' ≡ set g.choices i (set (get_or g.choices i []) c o)
-    → ((C : ℕ) → C < product (own_counts oss) → IsKeptAt (with_own_choice (game_with g.actions oss table (pos 0)) i c o) wanted best C)
-    → length wanted ≡ joint_classes g * length g.choices → length best ≡ joint_classes g → wanted' ≡ wanted → best' ≡ best
-    → bound ≡ game_bound (with_own_choice g i c o) → IsKept (game_with g.actions oss' g.table g.earned) wanted' best' bound
+    → ((C : ℕ) → C < product (own_counts oss) → IsKeptAt
+    (with_own_choice (game_with g.actions oss table (pos 0)) i c o) wanted best C)
+    → length wanted ≡ joint_classes g * length g.choices → length best ≡ joint_classes g → wanted' ≡ wanted → best'
+    ≡ best
+    → bound ≡ game_bound (with_own_choice g i c o) → IsKept (game_with g.actions oss' g.table g.earned) wanted'
+    best' bound
 kept_after g i c o oss oss' table wanted wanted' best best' bound hi hc after eo et eo' at long one ew eb is =
     let counts = ap product (same_counts g i c o hi hc) in
-    let many : length (set g.choices i (set (get_or g.choices i []) c o)) ≡ length g.choices = length-set g.choices i _ in
-    let all : (C : ℕ) → C < joint_classes g → IsKeptAt (with_own_choice (game_with g.actions g.choices g.table (pos 0)) i c o) wanted best C =
+    let many : length (set g.choices i (set (get_or g.choices i []) c o)) ≡ length g.choices = length-set g.choices
+    i _ in
+    let all : (C : ℕ) → C < joint_classes g → IsKeptAt
+    (with_own_choice (game_with g.actions g.choices g.table (pos 0)) i c o) wanted best C =
     λ C lt.
     subst (λ l. IsKeptAt (with_own_choice (game_with g.actions l g.table (pos 0)) i c o) wanted best C) eo
     (subst (λ t. IsKeptAt (with_own_choice (game_with g.actions oss t (pos 0)) i c o) wanted best C) et
@@ -198,7 +235,8 @@ kept_after g i c o oss oss' table wanted wanted' best best' bound hi hc after eo
       of_front = after;
       as_many = long ∙ (λ j. sym counts j * sym many j);
       one_each = one ∙ sym counts;
-      at = λ C lt. let kept = all C (subst (λ (n : ℕ). C < n) counts lt) in record { choices = kept.choices; best = kept.best };
+      at = λ C lt. let kept = all C (subst (λ (n : ℕ). C < n) counts lt) in record
+          { choices = kept.choices; best = kept.best };
       is_bound = is;
     } in
     subst (λ l. IsKept (game_with g.actions l g.table g.earned) wanted' best' bound) (sym eo')

@@ -1,12 +1,14 @@
 -- What a game keeps besides what contracts see of it.
-use Rattle.std.specs.Prelude.{ℕ, zero, suc, ◌+◌, ◌*◌, ◌-◌, ◌^◌, ◌<◌, ◌≤◌, ◌≡◌, Bool, ℤ, pos, List, [], ◌++◌, map, length, get_or, drop, take, Option, None}
+use Rattle.std.specs.Prelude.{ℕ, zero, suc, ◌+◌, ◌*◌, ◌-◌, ◌^◌, ◌<◌, ◌≤◌, ◌≡◌, false, ℤ, pos, List, [], ◌++◌, map, length, get_or, drop, take, Option, None}
 use Rattle.std.specs.List.{range_with_len}
 use Rattle.dp_base.specs.Sums.{greatest}
-use Rattle.dp_spec.specs.Arithmetic.{Arithmetic}
+use Rattle.dp_spec.specs.Arithmetic.{Arithmetic, arithmetic}
 use Rattle.dp_spec.specs.Front.{Front}
 use Rattle.dp_spec.specs.JointNumbers.{parts_of, product}
-use Rattle.dp_spec.specs.Model.{Model, joint_actions}
+use Rattle.dp_spec.specs.Model.{Model, joint_actions, joint_observations}
 use Rattle.dp_spec.specs.Quantities.{action_look_ahead_in, class_weight_in}
+use Rattle.dp_cluster.specs.KeptFronts.{KeptFront}
+use Rattle.dp_game.specs.Bounders.{KeptBounder}
 use Rattle.dp_game.specs.Games.{IsGameOf, KeptGame, allowed_actions, best_entry, choices_in, game_bound, joint_classes}
 
 -- rows f 0 to f (n - 1), one after the other
@@ -25,6 +27,14 @@ pub record AreActionParts (bs : List ℕ) (count : ℕ) (all : List ℕ) : Type 
 abbrev pub look_ahead_row : Arithmetic → Model → ℕ → Front → ℕ → ℕ → List ℤ
 look_ahead_row A m r F look C =
     map (λ a. action_look_ahead_in A m r (class_weight_in A m F C) a look) (range_with_len 0 (joint_actions m))
+
+-- in outward mode the stage of a front is within the limit on stage cells
+abbrev pub IsWithinCells : Model → KeptFront → Type 0
+IsWithinCells m k = k.is_exact ≡ false → m.states * joint_observations m ^ k.front.stage ≤ 2 ^ 22
+
+-- the look-aheads of joint class C of a front, with the look and the mode of a bounder
+abbrev pub class_row : Model → KeptFront → KeptBounder → ℕ → List ℤ
+class_row m k b C = look_ahead_row (arithmetic b.is_exact m.scales) m (b.horizon - k.front.stage - 1) k.front b.look C
 
 -- it is the game of some front
 abbrev pub IsOfSomeFront : KeptGame → Type 0
@@ -51,4 +61,5 @@ pub record IsKept (g : KeptGame) (wanted : List (Option ℕ)) (greatest : List �
 -- the greatest entry of joint class C that agrees with the choices that are kept for it
 abbrev pub greatest_in : List ℕ → List ℤ → List (Option ℕ) → ℕ → ℤ
 greatest_in bs table wanted C =
-    greatest (λ a. get_or table (C * product bs + a) (pos 0)) (allowed_actions bs (take (length bs) (drop (C * length bs) wanted)))
+    greatest (λ a. get_or table (C * product bs + a) (pos 0))
+    (allowed_actions bs (take (length bs) (drop (C * length bs) wanted)))

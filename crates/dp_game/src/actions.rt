@@ -147,7 +147,8 @@ fn is_allowed(choice: Option<u8>, action: u8) -> bool
 
 // Joint action by joint action, the part of each agent.
 fn action_parts(alloc: Global, model: &Model) -> Result<Vec<u8>, Memory>
-    ensures { IfOk result (λ v. v.items ≡ rows_of (parts_of model.now.model.actions) (joint_actions model.now.model)) }
+    ensures { IfOk result (λ v. v.items ≡ rows_of (parts_of model.now.model.actions)
+        (joint_actions model.now.model)) }
 {
     let mut parts = Vec::new(alloc);
     for action in 0..model.joint_actions() {

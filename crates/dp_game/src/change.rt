@@ -24,7 +24,8 @@ pub(crate) fn greatest_entries(
     requires few { count ≤ 2 ^ 24 }
     requires table { length table.now ≡ count * product actions.now }
     requires wanted { length wanted.now ≡ count * length actions.now }
-    ensures { IfOk result (λ v. v.items ≡ map (greatest_in actions.now table.now wanted.now) (range_with_len 0 count)) }
+    ensures { IfOk result (λ v. v.items ≡ map (greatest_in actions.now table.now wanted.now)
+        (range_with_len 0 count)) }
 {
     let mut greatest = Vec::new(alloc);
     for joint in 0..count {
@@ -75,7 +76,8 @@ fn choices_of(wanted: &[Option<u8>], joint: usize, agents: usize) -> &[Option<u8
 
 // A number, and the greatest entries with it.
 pub(crate) fn bound_with(earned: i128, greatest: &[i128]) -> i128
-    requires { (k : ℕ) → k ≤ length greatest.now → unsigned_abs (earned +ℤ int_sum k (λ C. get_or greatest.now C (pos 0))) < 2 ^ 127 }
+    requires { (k : ℕ) → k ≤ length greatest.now → unsigned_abs
+        (earned +ℤ int_sum k (λ C. get_or greatest.now C (pos 0))) < 2 ^ 127 }
     ensures { result ≡ earned +ℤ int_sum (length greatest.now) (λ C. get_or greatest.now C (pos 0)) }
 {
     let mut bound = earned;
@@ -104,7 +106,8 @@ pub(crate) fn change_class(
     greatest: &mut [i128],
 ) -> Change
     requires of_front { (e : ℤ) × IsOfSomeFront (game_with actions.now choices.now table.now e) }
-    requires after { (e : ℤ) × IsOfSomeFront (with_own_choice (game_with actions.now choices.now table.now e) agent class choice) }
+    requires after { (e : ℤ) × IsOfSomeFront (with_own_choice (game_with actions.now choices.now table.now e) agent
+        class choice) }
     requires agent { agent < length choices.now }
     requires class { class < length (get_or choices.now agent []) }
     requires as_many { length wanted.old ≡ product (own_counts choices.now) * length choices.now }
@@ -112,9 +115,11 @@ pub(crate) fn change_class(
     requires before { (C : ℕ) → C < product (own_counts choices.now) →
         IsKeptAt (game_with actions.now choices.now table.now (pos 0)) wanted.old greatest.old C }
     ensures after { (C : ℕ) → C < product (own_counts choices.now) →
-        IsKeptAt (with_own_choice (game_with actions.now choices.now table.now (pos 0)) agent class choice) wanted.new greatest.new C }
+        IsKeptAt (with_own_choice (game_with actions.now choices.now table.now (pos 0)) agent class choice)
+        wanted.new greatest.new C }
     ensures gone { result.gone ≡ int_sum (product (without agent (own_counts choices.now))) (λ x.
-        best_entry (game_with actions.now choices.now table.now (pos 0)) (placed_number agent (own_counts choices.now) class x)) }
+        best_entry (game_with actions.now choices.now table.now (pos 0))
+        (placed_number agent (own_counts choices.now) class x)) }
     ensures come { result.come ≡ int_sum (product (without agent (own_counts choices.now))) (λ x.
         best_entry (with_own_choice (game_with actions.now choices.now table.now (pos 0)) agent class choice)
         (placed_number agent (own_counts choices.now) class x)) }

@@ -51,7 +51,8 @@ impl std::marker::Model for Game {
 
     ghost view = { λ g. game_with g.actions g.choices.items g.table.items g.earned };
 
-    ghost invariant = { λ g. IsKept (game_with g.actions g.choices.items g.table.items g.earned) g.wanted.items g.greatest.items g.bound };
+    ghost invariant = { λ g. IsKept (game_with g.actions g.choices.items g.table.items g.earned) g.wanted.items
+        g.greatest.items g.bound };
 }
 
 impl Game {
@@ -69,7 +70,8 @@ impl Game {
         requires stage { front.now.front.stage < front.now.horizon }
         requires room { has_room model.now.model front.now.horizon front.now.front ≡ true }
         ensures is { IfOk result (IsGameOf model.now.model front.now.horizon bounder.now.look front.now.front) }
-        ensures sound { IfOk result (λ g. BoundsKeepers model.now.model front.now.horizon front.now.front (game_bound g)) }
+        ensures sound { IfOk result (λ g. BoundsKeepers model.now.model front.now.horizon front.now.front
+            (game_bound g)) }
     {
         let actions = JointActions::of(alloc, model)?;
         let choices = choices_of(alloc, front, model.agents())?;

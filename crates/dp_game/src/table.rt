@@ -1,17 +1,17 @@
 // What each joint class of a front can earn by each joint action.
-ghost use Rattle.std.specs.Prelude.{◌≡◌, ◌<◌, ◌≤◌, ◌*◌, ◌-◌, ◌^◌, ◌++◌, ℕ, true, false, map, length, IfOk};
+ghost use Rattle.std.specs.Prelude.{◌≡◌, ◌<◌, ◌≤◌, ◌*◌, ◌-◌, ◌^◌, ◌++◌, true, map, length, IfOk};
 ghost use Rattle.std.specs.List.{range_with_len};
 ghost use Rattle.dp_spec.specs.Arithmetic.{arithmetic};
 ghost use Rattle.dp_spec.specs.Front.{AgentFront, class_counts};
 ghost use Rattle.dp_spec.specs.JointNumbers.{joint_number, product};
-ghost use Rattle.dp_spec.specs.Model.{joint_actions, joint_observations};
+ghost use Rattle.dp_spec.specs.Model.{joint_actions};
 ghost use Rattle.dp_spec.specs.Quantities.{action_look_ahead_in};
 ghost use Rattle.dp_spec.specs.Sizes.{AreWeights};
 ghost use Rattle.dp_model.specs.Parts.{AreParts};
 ghost use Rattle.dp_cluster.specs.KeptFronts.{IsFrontOf, kept_weight};
 ghost use Rattle.dp_pomdp.specs.Looking.{AreZero, weights_of};
 ghost use Rattle.dp_game.specs.Bounders.{IsBounderOf};
-ghost use Rattle.dp_game.specs.Kept.{look_ahead_row, rows_of};
+ghost use Rattle.dp_game.specs.Kept.{IsWithinCells, class_row, rows_of};
 
 use crate::Bounder;
 use crate::choices::AgentChoices;
@@ -45,12 +45,11 @@ pub(crate) fn look_ahead_table(
     requires bounder { IsBounderOf model.now.model bounder.now }
     requires horizon { front.now.horizon ≡ bounder.now.horizon }
     requires stage { front.now.front.stage < front.now.horizon }
-    requires cells { front.now.is_exact ≡ false → model.now.model.states * joint_observations model.now.model ^ front.now.front.stage ≤ 2 ^ 22 }
+    requires cells { IsWithinCells model.now.model front.now }
     requires choices { choices.now ≡ map (λ (d : AgentFront). d.chosen) front.now.front.agents }
     requires count { count ≡ product (class_counts front.now.front.agents) }
     requires few { count ≤ 2 ^ 24 }
-    ensures { IfOk result (λ v. v.items ≡ rows_of (look_ahead_row (arithmetic bounder.now.is_exact model.now.model.scales) model.now.model
-        (bounder.now.horizon - front.now.front.stage - 1) front.now.front bounder.now.look) count) }
+    ensures { IfOk result (λ v. v.items ≡ rows_of (class_row model.now.model front.now bounder.now) count) }
 {
     let mut scratch = Scratch {
         classes: Vec::new(alloc),
@@ -88,14 +87,14 @@ fn push_class(
     requires bounder { IsBounderOf model.now.model bounder.now }
     requires horizon { front.now.horizon ≡ bounder.now.horizon }
     requires stage { front.now.front.stage < front.now.horizon }
-    requires cells { front.now.is_exact ≡ false → model.now.model.states * joint_observations model.now.model ^ front.now.front.stage ≤ 2 ^ 22 }
+    requires cells { IsWithinCells model.now.model front.now }
     requires choices { choices.now ≡ map (λ (d : AgentFront). d.chosen) front.now.front.agents }
     requires count { count ≡ product (class_counts front.now.front.agents) }
     requires few { count ≤ 2 ^ 24 }
     requires joint { joint < count }
     requires room { bounder.now.look * model.now.model.states ≤ scratch.old.room }
-    ensures row { IfOk result (λ _. table.new.items ≡ table.old.items ++ look_ahead_row (arithmetic bounder.now.is_exact model.now.model.scales)
-        model.now.model (bounder.now.horizon - front.now.front.stage - 1) front.now.front bounder.now.look joint) }
+    ensures row { IfOk result (λ _. table.new.items ≡ table.old.items ++ class_row model.now.model front.now
+        bounder.now joint) }
     ensures room { IfOk result (λ _. scratch.new.room ≡ scratch.old.room) }
 {
     class_parts(choices, count, joint, &mut scratch.classes)?;
@@ -127,7 +126,8 @@ fn fill_weights(
     requires classes { AreParts (class_counts front.now.front.agents) classes.now }
     requires states { states ≡ front.now.states }
     ensures { IfOk result (λ _. weights.new.items
-        ≡ map (kept_weight front.now (joint_number (class_counts front.now.front.agents) classes.now)) (range_with_len 0 states)) }
+        ≡ map (kept_weight front.now (joint_number (class_counts front.now.front.agents) classes.now))
+        (range_with_len 0 states)) }
 {
     weights.clear();
     for state in 0..states {
@@ -150,8 +150,10 @@ fn push_row(
     requires one_each { length weights.now ≡ model.now.model.states }
     requires weights { AreWeights bounder.now.is_exact model.now.model stage (weights_of weights.now) }
     requires room { bounder.now.look * model.now.model.states ≤ room.old }
-    ensures row { IfOk result (λ _. table.new.items ≡ table.old.items ++ map (λ a. action_look_ahead_in (arithmetic bounder.now.is_exact model.now.model.scales)
-        model.now.model (bounder.now.horizon - stage - 1) (weights_of weights.now) a bounder.now.look) (range_with_len 0 (joint_actions model.now.model))) }
+    ensures row { IfOk result (λ _. table.new.items ≡ table.old.items ++ map
+        (λ a. action_look_ahead_in (arithmetic bounder.now.is_exact model.now.model.scales)
+        model.now.model (bounder.now.horizon - stage - 1) (weights_of weights.now) a bounder.now.look)
+        (range_with_len 0 (joint_actions model.now.model))) }
     ensures room { room.new ≡ room.old }
 {
     let none = all_zero(weights);
@@ -178,7 +180,8 @@ fn look_ahead(
     requires none { none ≡ true → AreZero weights.now }
     requires action { action < joint_actions model.now.model }
     requires room { bounder.now.look * model.now.model.states ≤ room.old }
-    ensures is { result ≡ action_look_ahead_in (arithmetic bounder.now.is_exact model.now.model.scales) model.now.model
+    ensures is { result ≡ action_look_ahead_in (arithmetic bounder.now.is_exact model.now.model.scales)
+        model.now.model
         (bounder.now.horizon - stage - 1) (weights_of weights.now) action bounder.now.look }
     ensures room { room.new ≡ room.old }
 {

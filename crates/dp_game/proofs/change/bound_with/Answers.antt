@@ -1,4 +1,4 @@
-use Rattle.std.proofs.Common.{◌≡◌, ◌<◌, ◌+◌, ℕ, length, get_or, pos, suc, ◌∙◌, arith, rules}
+use Rattle.std.proofs.Common.{get_or, pos, suc, ◌∙◌, arith, rules}
 use Rattle.std.specs.Int.{w128}
 use Rattle.std.proofs.lemmas.Int.{to_z-of_z}
 use mir.Val.{SFits}
@@ -10,11 +10,13 @@ overflow_add-bound c =
     let fits : SFits w128 c.entry_at-bound.result = search rules in
     let earned-fits : SFits w128 c.args.earned = search rules in
     offset_fits _ c.loop-joint.joint (λ C. get_or c.args.greatest.now C (pos 0)) _ _ c.loop-joint.invariant
-    (to_z-of_z w128 _ fits ∙ c.entry_at-bound.ensures) (rw (to_z-of_z w128 _ earned-fits) (c.requires (suc c.loop-joint.joint) (omega arith)))
+    (to_z-of_z w128 _ fits ∙ c.entry_at-bound.ensures)
+    (rw (to_z-of_z w128 _ earned-fits) (c.requires (suc c.loop-joint.joint) (omega arith)))
 
 pub loop-joint-preserved : goal.loop-joint-preserved
 loop-joint-preserved c =
     let fits : SFits w128 c.entry_at-bound.result = search rules in
     let earned-fits : SFits w128 c.args.earned = search rules in
     offset_next _ c.loop-joint.joint (λ C. get_or c.args.greatest.now C (pos 0)) _ _ c.loop-joint.invariant
-    (to_z-of_z w128 _ fits ∙ c.entry_at-bound.ensures) (rw (to_z-of_z w128 _ earned-fits) (c.requires (suc c.loop-joint.joint) (omega arith)))
+    (to_z-of_z w128 _ fits ∙ c.entry_at-bound.ensures)
+    (rw (to_z-of_z w128 _ earned-fits) (c.requires (suc c.loop-joint.joint) (omega arith)))

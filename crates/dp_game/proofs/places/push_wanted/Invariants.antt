@@ -7,5 +7,6 @@ use Rattle.dp_game.proofs.places.push_wanted.Given as goal
 abbrev pub invariant-loop-own : goal.invariant-loop-own
 invariant-loop-own l =
     IsTakenApart l.choices l.own-index l.left l.rest
-    × (l.wanted.items ++ choices_for (drop l.own-index l.choices) (parts_of (own_counts (drop l.own-index l.choices)) l.rest)
+    × (l.wanted.items ++ choices_for (drop l.own-index l.choices)
+    (parts_of (own_counts (drop l.own-index l.choices)) l.rest)
     ≡ l.fn.wanted.items ++ choices_in l.choices l.joint)

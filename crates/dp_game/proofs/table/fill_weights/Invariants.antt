@@ -7,4 +7,5 @@ use Rattle.dp_game.proofs.table.fill_weights.Given as goal
 
 abbrev pub invariant-loop-state : goal.invariant-loop-state
 invariant-loop-state l =
-    l.weights.items ≡ map (kept_weight l.front (joint_number (class_counts l.front.front.agents) l.classes)) (range_with_len 0 l.state)
+    l.weights.items ≡ map (kept_weight l.front (joint_number (class_counts l.front.front.agents) l.classes))
+    (range_with_len 0 l.state)

@@ -8,4 +8,5 @@ use Rattle.dp_game.proofs.actions.JointActions.greatest_allowed.Given as goal
 abbrev pub invariant-loop-action : goal.invariant-loop-action
 invariant-loop-action l =
     (l.some ≡ has_some (filter (λ a. each_agrees l.wanted (parts_of l.self a)) (numbers_below l.action)))
-    × (l.best ≡ greatest (λ a. get_or l.row a (pos 0)) (filter (λ a. each_agrees l.wanted (parts_of l.self a)) (numbers_below l.action)))
+    × (l.best ≡ greatest (λ a. get_or l.row a (pos 0))
+    (filter (λ a. each_agrees l.wanted (parts_of l.self a)) (numbers_below l.action)))
