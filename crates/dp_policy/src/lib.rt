@@ -6,7 +6,6 @@ mod fault;
 mod joined_rows;
 mod joined_trees;
 mod lines;
-mod plain;
 mod plain_rows;
 mod plainness;
 mod policy;
