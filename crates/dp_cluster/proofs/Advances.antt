@@ -50,7 +50,8 @@ module _ (A : Arithmetic) (C : Calls) (m : Model) (k : KeptFront) (is : IsAdvanc
   pub act_below : (D : ℕ) → D < product counts → act D < joint_actions m
   act_below D lt = chosen_below m k.horizon F is.model is.front D lt
 
-  module _ (D : ℕ) (lt : D < product counts) (ws : ℕ → Span) (are : (s : ℕ) → s < k.states → ws s ≡ kept_weight k D s) where
+  module _ (D : ℕ) (lt : D < product counts) (ws : ℕ → Span)
+      (are : (s : ℕ) → s < k.states → ws s ≡ kept_weight k D s) where
     same : (s : ℕ) → s < m.states → ws s ≡ class_weight_in A m F D s
     same s p = are s (subst (λ (n : ℕ). s < n) (sym is.states) p) ∙ is.weights D s lt p
 
@@ -60,7 +61,8 @@ module _ (A : Arithmetic) (C : Calls) (m : Model) (k : KeptFront) (is : IsAdvanc
       can = is.update;
       time = F.stage;
       early = is.early;
-      weights = weights_same A.is_exact m F.stage (class_weight_in A m F D) ws (λ s p. sym (same s p)) (is.classes D lt);
+      weights = weights_same A.is_exact m F.stage (class_weight_in A m F D) ws (λ s p. sym (same s p))
+          (is.classes D lt);
     }
 
     pub rewardable : (r : ℕ) → F.stage + suc r ≡ k.horizon → IsRewardable A C m r ws
@@ -70,17 +72,20 @@ module _ (A : Arithmetic) (C : Calls) (m : Model) (k : KeptFront) (is : IsAdvanc
       can = is.reward;
       time = F.stage;
       left = e;
-      weights = weights_same A.is_exact m F.stage (class_weight_in A m F D) ws (λ s p. sym (same s p)) (is.classes D lt);
+      weights = weights_same A.is_exact m F.stage (class_weight_in A m F D) ws (λ s p. sym (same s p))
+          (is.classes D lt);
     }
 
     -- a pushed weight is that of the joint class of the next stage
     pub pushed_is : (o t : ℕ) → o < joint_observations m
-        → weights_after_in A m ws (act D) o t ≡ class_weight_in A m (advanced_front m F) (pair_number counts m.observations D o) t
+        → weights_after_in A m ws (act D) o t ≡ class_weight_in A m (advanced_front m F)
+        (pair_number counts m.observations D o) t
     pushed_is o t po =
         weights_after_in_ext A m ws (class_weight_in A m F D) (act D) o t same
         ∙ sym (pair_weight_in A m k.horizon F is.front is.steps D o t lt po)
 
-    pub rewarded_is : (r : ℕ) → weighted_reward_in A m r ws (act D) ≡ weighted_reward_in A m r (class_weight_in A m F D) (act D)
+    pub rewarded_is : (r : ℕ) → weighted_reward_in A m r ws (act D)
+        ≡ weighted_reward_in A m r (class_weight_in A m F D) (act D)
     rewarded_is r = weighted_reward_in_ext A m r ws (class_weight_in A m F D) (act D) same
 
   -- ---- what is earned, joint class by joint class
@@ -90,7 +95,8 @@ module _ (A : Arithmetic) (C : Calls) (m : Model) (k : KeptFront) (is : IsAdvanc
   pub earned_start : (r : ℕ) → k.earned ≡ earned_to r 0
   earned_start r = sym (span_add_none k.earned)
 
-  pub earned_next : (r n : ℕ) (total reward : Span) → total ≡ earned_to r n → reward ≡ weighted_reward_in A m r (class_weight_in A m F n) (act n)
+  pub earned_next : (r n : ℕ) (total reward : Span) → total ≡ earned_to r n
+      → reward ≡ weighted_reward_in A m r (class_weight_in A m F n) (act n)
       → span_add total reward ≡ earned_to r (suc n)
   earned_next r n total reward e f = (λ j. span_add (e j) (f j)) ∙ span_add_assoc k.earned _ _
 
@@ -99,9 +105,12 @@ module _ (A : Arithmetic) (C : Calls) (m : Model) (k : KeptFront) (is : IsAdvanc
   earned_room r n e le =
       let W = λ (D : ℕ). weighted_reward_in A m r (class_weight_in A m F D) (act D) in
       let before : size k.earned ≤ earned_size A m (fixed_joint_action m F) k.horizon F.stage =
-      subst (λ (w : Span). size w ≤ earned_size A m (fixed_joint_action m F) k.horizon F.stage) (sym is.earned) (earned_size_le A m (fixed_joint_action m F) k.horizon F.stage) in
+      subst (λ (w : Span). size w ≤ earned_size A m (fixed_joint_action m F) k.horizon F.stage) (sym is.earned)
+      (earned_size_le A m (fixed_joint_action m F) k.horizon F.stage) in
       let part = span_sum_part n (product counts) W le in
-      let parts = nat_sum_le (product counts) (λ D. size (W D)) (λ D. reward_size A m r (class_weight_in A m F D) (act D)) (λ D p. reward_size_le A m r (class_weight_in A m F D) (act D)) in
+      let parts = nat_sum_le (product counts) (λ D. size (W D))
+      (λ D. reward_size A m r (class_weight_in A m F D) (act D))
+      (λ D p. reward_size_le A m r (class_weight_in A m F D) (act D)) in
       let all = is.room r e in
       let both = size_add k.earned (span_sum n W) in
       omega arith
@@ -109,13 +118,15 @@ module _ (A : Arithmetic) (C : Calls) (m : Model) (k : KeptFront) (is : IsAdvanc
   pub earned_end : (r n : ℕ) (total : Span) → F.stage + suc r ≡ k.horizon → n ≡ product counts → total ≡ earned_to r n
       → total ≡ earned_reward_in A m (fixed_joint_action m (advanced_front m F)) k.horizon (suc F.stage)
   earned_end r n total e all is_total =
-      is_total ∙ ap (earned_to r) all ∙ ap (λ (w : Span). span_add w (span_sum (product counts) (λ D. weighted_reward_in A m r (class_weight_in A m F D) (act D)))) is.earned
+      is_total ∙ ap (earned_to r) all ∙ ap (λ (w : Span). span_add w
+      (span_sum (product counts) (λ D. weighted_reward_in A m r (class_weight_in A m F D) (act D)))) is.earned
       ∙ sym (advanced_earned_in A m k.horizon F is.front is.steps k.horizon r e)
 
 -- ---- a front of a model can be advanced in the arithmetic of its mode
 
 -- in outward mode its stage is within the limit of stage cells, since it has one joint class for each joint history
-stage_cells : (m : Model) (k : KeptFront) → IsFrontOf m k → IsStored k → k.front.stage < k.horizon → k.is_exact ≡ false
+stage_cells : (m : Model) (k : KeptFront) → IsFrontOf m k → IsStored k → k.front.stage < k.horizon
+    → k.is_exact ≡ false
     → m.states * joint_observations m ^ k.front.stage ≤ 2 ^ 22
 stage_cells m k is stored lt e =
     let classes = apart_classes m k.horizon k.front is.front (is.apart e) in
@@ -126,7 +137,8 @@ stage_cells m k is stored lt e =
 mode_advanceable : (m : Model) (k : KeptFront) → IsFrontOf m k → IsStored k → k.front.stage < k.horizon
     → IsAdvanceable (arithmetic k.is_exact m.scales) (calls_in k.is_exact m.scales) m k
 mode_advanceable m k is stored lt =
-    let can = mode_can_refine m is.model k.horizon is.some_step is.horizon k.is_exact is.mode k.front is.front lt (stage_cells m k is stored lt) in
+    let can = mode_can_refine m is.model k.horizon is.some_step is.horizon k.is_exact is.mode k.front is.front lt
+    (stage_cells m k is stored lt) in
     record {
       model = is.model;
       states = is.states;
@@ -139,16 +151,19 @@ mode_advanceable m k is stored lt =
       classes = λ D p. can.weights D;
       weights = λ D s p q. is.weights lt D s p q;
       earned = is.earned;
-      room = λ r e. can.rewards r (chosen_joint_action m k.front) e (λ D p. chosen_below m k.horizon k.front is.model is.front D p);
+      room = λ r e. can.rewards r (chosen_joint_action m k.front) e
+          (λ D p. chosen_below m k.horizon k.front is.model is.front D p);
     }
 
 -- made of the scales c, in the branch of a test of the mode where it is e
-pub advanceable : (e : Bool) (c : Scales) (m : Model) (k : KeptFront) → IsFrontOf m k → IsStored k → k.front.stage < k.horizon
+pub advanceable : (e : Bool) (c : Scales) (m : Model) (k : KeptFront) → IsFrontOf m k → IsStored k
+    → k.front.stage < k.horizon
     → c ≡ m.scales → k.is_exact ≡ e
     → IsAdvanceable (arithmetic e c) (calls_in e c) m k
 advanceable e c m k is stored lt same branch =
     subst (λ (c : Scales). IsAdvanceable (arithmetic e c) (calls_in e c) m k) (sym same)
-    (subst (λ (b : Bool). IsAdvanceable (arithmetic b m.scales) (calls_in b m.scales) m k) branch (mode_advanceable m k is stored lt))
+    (subst (λ (b : Bool). IsAdvanceable (arithmetic b m.scales) (calls_in b m.scales) m k) branch
+    (mode_advanceable m k is stored lt))
 
 -- ---- room
 
@@ -170,15 +185,20 @@ advanced_count m h F front =
     ∙ ap (λ (z : ℕ). product (class_counts F.agents) * z) (sym (seen_product m))
 
 -- so has the advanced front
-pub advanced_weights_few : (m : Model) (k : KeptFront) → IsFrontOf m k → has_room m k.horizon (advanced_front m k.front) ≡ true
+pub advanced_weights_few : (m : Model) (k : KeptFront) → IsFrontOf m k
+    → has_room m k.horizon (advanced_front m k.front) ≡ true
     → suc k.front.stage < k.horizon → product (class_counts k.front.agents) * joint_observations m * m.states ≤ 2 ^ 22
 advanced_weights_few m k is room early =
     let few = room_weights m k.horizon (advanced_front m k.front) early room in
-    let moved = subst (λ (n : ℕ). m.states * n ≤ 2 ^ 22) (advanced_count m k.horizon k.front is.front) few in omega arith
+    let moved = subst (λ (n : ℕ). m.states * n ≤ 2 ^ 22) (advanced_count m k.horizon k.front is.front) few in
+    omega arith
 
 -- ---- what is kept of the next stage
 
-module _ (m : Model) (k : KeptFront) (is : IsFrontOf m k) (lt : k.front.stage < k.horizon) (all : is_complete k.front.agents ≡ true) (parts : List OwnPart) (ws : List Span) (earned : Span) (fronts_are : part_fronts parts ≡ advanced_agents m.observations k.front.stage k.front.agents) (seen_are : part_observations parts ≡ m.observations) where
+module _ (m : Model) (k : KeptFront) (is : IsFrontOf m k) (lt : k.front.stage < k.horizon)
+    (all : is_complete k.front.agents ≡ true) (parts : List OwnPart) (ws : List Span) (earned : Span)
+    (fronts_are : part_fronts parts ≡ advanced_agents m.observations k.front.stage k.front.agents)
+    (seen_are : part_observations parts ≡ m.observations) where
   abbrev A : Arithmetic
   A = arithmetic k.is_exact m.scales
 
@@ -192,17 +212,24 @@ module _ (m : Model) (k : KeptFront) (is : IsFrontOf m k) (lt : k.front.stage < 
   next_front = λ j. record { stage = suc k.front.stage; agents = fronts_are j }
 
   -- how many joint classes there are
-  pub next_count : product (class_counts next.front.agents) ≡ product (class_counts k.front.agents) * joint_observations m
+  pub next_count : product (class_counts next.front.agents) ≡ product
+      (class_counts k.front.agents) * joint_observations m
   next_count =
       ap (λ l. product (class_counts l)) fronts_are ∙ advanced_count m k.horizon k.front is.front
 
-  module _ (room : suc k.front.stage < k.horizon → product (class_counts k.front.agents) * joint_observations m * m.states ≤ 2 ^ 22) (rows : suc k.front.stage < k.horizon → ws ≡ weight_rows (class_weight_in A m G) m.states (product (class_counts k.front.agents) * joint_observations m)) (earned_is : earned ≡ earned_reward_in A m (fixed_joint_action m G) k.horizon (suc k.front.stage)) where
-    next_weights : suc k.front.stage < k.horizon → (C s : ℕ) → C < product (class_counts next.front.agents) → s < m.states
+  module _ (room : suc k.front.stage < k.horizon → product (class_counts k.front.agents) * joint_observations
+      m * m.states ≤ 2 ^ 22) (rows : suc k.front.stage < k.horizon
+      → ws ≡ weight_rows (class_weight_in A m G) m.states (product
+      (class_counts k.front.agents) * joint_observations m))
+      (earned_is : earned ≡ earned_reward_in A m (fixed_joint_action m G) k.horizon (suc k.front.stage)) where
+    next_weights : suc k.front.stage < k.horizon → (C s : ℕ) → C < product (class_counts next.front.agents)
+        → s < m.states
         → kept_weight next C s ≡ class_weight_in A m next.front C s
     next_weights early C s hC hs =
         ap (λ (n : ℕ). get_or ws (C * n + s) (point (pos 0))) is.states
         ∙ ap (λ l. get_or l (C * m.states + s) (point (pos 0))) (rows early)
-        ∙ rows_at (class_weight_in A m G) m.states (product (class_counts k.front.agents) * joint_observations m) C s (point (pos 0)) (subst (λ (n : ℕ). C < n) next_count hC) hs
+        ∙ rows_at (class_weight_in A m G) m.states (product (class_counts k.front.agents) * joint_observations m)
+        C s (point (pos 0)) (subst (λ (n : ℕ). C < n) next_count hC) hs
         ∙ ap (λ (z : Front). class_weight_in A m z C s) (sym next_front)
 
     pub next_kept : IsFrontOf m next
@@ -213,16 +240,21 @@ module _ (m : Model) (k : KeptFront) (is : IsFrontOf m k) (lt : k.front.stage < 
       mode = is.mode;
       states = is.states;
       observations = seen_are;
-      front = subst (λ (z : Front). IsFront m k.horizon z) (sym next_front) (advanced_is_front m k.horizon k.front is.front lt all);
-      apart = λ e. subst (λ (z : Front). KeepsHistoriesApart m z) (sym next_front) (advanced_keeps_apart m k.front (is.apart e));
+      front = subst (λ (z : Front). IsFront m k.horizon z) (sym next_front)
+          (advanced_is_front m k.horizon k.front is.front lt all);
+      apart = λ e. subst (λ (z : Front). KeepsHistoriesApart m z) (sym next_front)
+          (advanced_keeps_apart m k.front (is.apart e));
       weights = next_weights;
-      earned = earned_is ∙ ap (λ (z : Front). earned_reward_in A m (fixed_joint_action m z) k.horizon z.stage) (sym next_front);
+      earned = earned_is ∙ ap (λ (z : Front). earned_reward_in A m (fixed_joint_action m z) k.horizon z.stage)
+          (sym next_front);
     }
 
     pub next_stored : IsStored next
     next_stored = record {
-      agents = let n = sym (agents_of next_kept.front.agents) in let alike = is.model.sizes.agents_limit in omega arith;
+      agents = let n = sym (agents_of next_kept.front.agents) in let alike = is.model.sizes.agents_limit in
+          omega arith;
       limit = lt;
       room = λ early. let le = room early in rw (next_count, is.states) le;
-      weights = λ early. ap length (rows early) ∙ rows_length (class_weight_in A m G) m.states _ ∙ (λ j. sym next_count j * sym is.states j);
+      weights = λ early. ap length (rows early) ∙ rows_length (class_weight_in A m G) m.states _
+          ∙ (λ j. sym next_count j * sym is.states j);
     }

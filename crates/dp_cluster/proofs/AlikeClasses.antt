@@ -81,7 +81,8 @@ module _ (m : Model) (h : ℕ) (F : Front) (front : IsFront m h F) (i : ℕ) (ag
       let tells = primitive_vectors_tell m h F i c d us vs front agent one.2.1 other.2.1 one.1 other.1 in
       one.2.2 ∙ ap (map pos) (tells.0 pair.equivalent) ∙ sym other.2.2
 
-  module _ (n : ℕ) (count : n ≡ get_or (class_counts F.agents) i 0) (vs : List OwnVector) (are : AreVectorsOf m F i n vs) where
+  module _ (n : ℕ) (count : n ≡ get_or (class_counts F.agents) i 0) (vs : List OwnVector)
+      (are : AreVectorsOf m F i n vs) where
     unassigned_below : (c : ℕ) → IsUnassigned i c F.agents → c < n
     unassigned_below c free = subst (λ x. c < x) (sym count) (unassigned_in F.agents i c free).1
 
@@ -122,25 +123,30 @@ module _ (m : Model) (h : ℕ) (F : Front) (front : IsFront m h F) (i : ℕ) (ag
         (alike_of c d (record { order = order; first = first; second = second; equivalent = equivalent }))
 
   -- what is kept of one class more
-  pub vectors_next : (c : ℕ) (vs vs' : List OwnVector) (v : OwnVector) → AreVectorsOf m F i c vs → IsVectorOf m F i c v
+  pub vectors_next : (c : ℕ) (vs vs' : List OwnVector) (v : OwnVector) → AreVectorsOf m F i c vs
+      → IsVectorOf m F i c v
       → vs' ≡ vs ++ v ∷ [] → AreVectorsOf m F i (c + 1) vs'
   vectors_next c vs vs' v are is pushed =
-      let size : length vs' ≡ c + 1 = let one = are.one_each in let more = length_push vs v in ap length pushed ∙ more ∙ ap (λ x. x + 1) one in
+      let size : length vs' ≡ c + 1 = let one = are.one_each in let more = length_push vs v in ap length pushed
+      ∙ more ∙ ap (λ x. x + 1) one in
       record {
         one_each = size;
         are = λ d lt.
             elim (cases_lt d c) [
               | inl earlier ↦
-                  subst (IsVectorOf m F i d) (sym (ap (λ l. get_or l d Assigned) pushed ∙ front_read vs v d (let one = are.one_each in omega arith)))
+                  subst (IsVectorOf m F i d) (sym (ap (λ l. get_or l d Assigned) pushed
+                  ∙ front_read vs v d (let one = are.one_each in omega arith)))
                   (are.are d earlier)
               | inr last ↦
                   let same : c ≡ d = omega arith in
-                  subst (IsVectorOf m F i d) (sym (ap (λ l. get_or l d Assigned) pushed ∙ last_read vs v d (are.one_each ∙ same)))
+                  subst (IsVectorOf m F i d) (sym (ap (λ l. get_or l d Assigned) pushed
+                  ∙ last_read vs v d (are.one_each ∙ same)))
                   (subst (λ x. IsVectorOf m F i x v) same is)
             ];
       }
     where
-      front_read : (xs : List OwnVector) (x : OwnVector) (d : ℕ) → d < length xs → get_or (xs ++ x ∷ []) d Assigned ≡ get_or xs d Assigned
+      front_read : (xs : List OwnVector) (x : OwnVector) (d : ℕ) → d < length xs
+          → get_or (xs ++ x ∷ []) d Assigned ≡ get_or xs d Assigned
       front_read [] x d lt = absurd (omega arith)
       front_read (y ∷ ys) x zero lt = refl
       front_read (y ∷ ys) x (suc d) lt = front_read ys x d (omega arith)

@@ -25,9 +25,11 @@ split x y some = omega arith
 pub same_whole : (x y p q : ℕ) → 0 < y → 0 < q → x * q ≡ p * y → x / y ≡ p / q
 same_whole x y p q hy hq e =
     elim (cases_lt (x / y) (p / q)) [
-      | inl lt ↦ absurd (let less = whole_less x y p q (x / y) (p / q) (x % y) (p % q) (split x y hy) (mod_below x y hy) (split p q hq) hq lt in omega arith)
+      | inl lt ↦ absurd (let less = whole_less x y p q (x / y) (p / q) (x % y) (p % q) (split x y hy)
+          (mod_below x y hy) (split p q hq) hq lt in omega arith)
       | inr le ↦ elim (cases_lt (p / q) (x / y)) [
-        | inl lt ↦ absurd (let less = whole_less p q x y (p / q) (x / y) (p % q) (x % y) (split p q hq) (mod_below p q hq) (split x y hy) hy lt in omega arith)
+        | inl lt ↦ absurd (let less = whole_less p q x y (p / q) (x / y) (p % q) (x % y) (split p q hq)
+            (mod_below p q hq) (split x y hy) hy lt in omega arith)
         | inr le' ↦ omega arith
       ]
     ]
@@ -55,7 +57,11 @@ pub record IsComparing (a t b u x y p q : ℕ) : Type 0 where
   pub right_top : q ≡ 0 → 0 < p
 
 pub comparing_start : (a t b u : ℕ) → 0 < t → 0 < u → IsComparing a t b u a t b u
-comparing_start a t b u ht hu = record { same = (λ e. e, λ e. e); left_top = λ e. absurd (omega arith); right_top = λ e. absurd (omega arith) }
+comparing_start a t b u ht hu = record {
+  same = (λ e. e, λ e. e);
+  left_top = λ e. absurd (omega arith);
+  right_top = λ e. absurd (omega arith);
+}
 
 pub comparing_next : (a t b u x y p q : ℕ) → IsComparing a t b u x y p q → 0 < y → 0 < q → x / y ≡ p / q
     → IsComparing a t b u y (x % y) q (p % q)
@@ -68,7 +74,8 @@ comparing_next a t b u x y p q c hy hq e =
     }
 
 -- different whole parts
-pub comparing_apart : (a t b u x y p q : ℕ) → IsComparing a t b u x y p q → 0 < y → 0 < q → x / y ≢ p / q → a * u ≢ b * t
+pub comparing_apart : (a t b u x y p q : ℕ) → IsComparing a t b u x y p q → 0 < y → 0 < q → x / y ≢ p / q
+    → a * u ≢ b * t
 comparing_apart a t b u x y p q c hy hq ne e = ne (same_whole x y p q hy hq (c.same.0 e))
 
 -- at the end

@@ -30,7 +30,8 @@ pub full_policy_is : (m : Model) (F : Front) → trees_doing_fixed F.stage m.obs
 unfolding full_policy
 full_policy_is m F = refl
 
-pub trees_next : (all all' rest more whole : List PolicyTree) (q : PolicyTree) → all' ≡ all ++ q ∷ [] → more ≡ q ∷ rest
+pub trees_next : (all all' rest more whole : List PolicyTree) (q : PolicyTree) → all' ≡ all ++ q ∷ []
+    → more ≡ q ∷ rest
     → all ++ more ≡ whole → all' ++ rest ≡ whole
 trees_next all all' rest more whole q pushed next before =
     ap (λ l. l ++ rest) pushed ∙ append_assoc all (q ∷ []) rest ∙ ap (λ l. all ++ l) (sym next) ∙ before
@@ -47,14 +48,17 @@ module _ (m : Model) (k : KeptFront) (is : IsFrontOf m k) (full : k.front.stage 
   pub keeps : KeepsFront m k.front (full_policy m k.front)
   keeps = (full_policy_keeps m k.horizon k.front is.front full).1
 
-  pub alone : (qs : List PolicyTree) → IsPolicyOf m k.horizon qs → KeepsFront m k.front qs → qs ≡ full_policy m k.front
+  pub alone : (qs : List PolicyTree) → IsPolicyOf m k.horizon qs → KeepsFront m k.front qs
+      → qs ≡ full_policy m k.front
   alone qs policy kept =
-      full_front_keepers_equal m k.horizon k.front qs (full_policy m k.front) is.some_step full policy of_model kept keeps
+      full_front_keepers_equal m k.horizon k.front qs (full_policy m k.front)
+      is.some_step full policy of_model kept keeps
 
   pub value : k.is_exact ≡ true → k.earned ≡ point (policy_value m k.horizon (full_policy m k.front))
   value exact =
       is.earned
-      ∙ ap (λ (b : Bool). earned_reward_in (arithmetic b m.scales) m (fixed_joint_action m k.front) k.horizon k.front.stage) exact
+      ∙ ap (λ (b : Bool). earned_reward_in (arithmetic b m.scales) m (fixed_joint_action m k.front)
+      k.horizon k.front.stage) exact
       ∙ ap (λ f. earned_reward_in (arithmetic true m.scales) m (fixed_joint_action m k.front) k.horizon f) full
       ∙ (exact_quantities m is.model).earned_rewards (fixed_joint_action m k.front) k.horizon k.horizon (omega arith)
       ∙ ap (λ v. point v) (sym (value_at_full_front m k.horizon k.front (full_policy m k.front) full keeps))

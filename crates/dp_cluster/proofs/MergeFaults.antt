@@ -25,7 +25,8 @@ none_unassigned (d ∷ ds) zero c agent class none = (class, none)
 none_unassigned (d ∷ ds) (suc i) c agent class none = none_unassigned ds i c (omega arith) class none
 
 -- as it was read
-pub assigned : (ds : List AgentFront) (i c : ℕ) (o : Option ℕ) → o ≡ choice_at ds i c → is_some o ≡ true → ¬ IsUnassigned i c ds
+pub assigned : (ds : List AgentFront) (i c : ℕ) (o : Option ℕ) → o ≡ choice_at ds i c → is_some o ≡ true
+    → ¬ IsUnassigned i c ds
 assigned ds i c o read some free =
     let none : o ≡ None = read ∙ unassigned_none ds i c free in
     let no : true ≡ false = sym some ∙ ap is_some none in cc
@@ -48,12 +49,14 @@ comparable k i a b x y exact order apart agent class first no_first second no_se
     }
 
 -- the first difference that was found
-pub unequal : (m : Model) (k : KeptFront) (i a b p : ℕ) (o : Option ℕ) → o ≡ first_unequal m k.front i a b → o ≡ Some p
+pub unequal : (m : Model) (k : KeptFront) (i a b p : ℕ) (o : Option ℕ) → o ≡ first_unequal m k.front i a b
+    → o ≡ Some p
     → IsFirstUnequal m k.front i a b p
 unequal m k i a b p o is found = (first_unequal_is m k.front i a b p).0 (sym is ∙ found)
 
 -- none was found
-pub merged : (m : Model) (k : KeptFront) (i a b : ℕ) (o : Option ℕ) → AreComparable k i a b → o ≡ first_unequal m k.front i a b
+pub merged : (m : Model) (k : KeptFront) (i a b : ℕ) (o : Option ℕ) → AreComparable k i a b
+    → o ≡ first_unequal m k.front i a b
     → o ≡ None → AreMerged m k i a b
 merged m k i a b o are is none = record {
   comparable = are;
@@ -61,11 +64,13 @@ merged m k i a b o are is none = record {
 }
 
 -- then nothing is lost
-pub loses_nothing : (m : Model) (k : KeptFront) (i a b : ℕ) → IsFrontOf m k → k.front.stage < k.horizon → AreMerged m k i a b
+pub loses_nothing : (m : Model) (k : KeptFront) (i a b : ℕ) → IsFrontOf m k → k.front.stage < k.horizon
+    → AreMerged m k i a b
     → LosesNothing m k.horizon k.front (merged_front k.front i a b)
 loses_nothing m k i a b is lt are qs policy keeps =
     merging_loses_nothing m k.horizon k.front i a b is.front lt are.comparable.order are.comparable.first
     are.comparable.second are.equivalent qs policy keeps
 
-pub keeps_too : (m : Model) (k : KeptFront) (i a b : ℕ) → AreComparable k i a b → KeepsToo m (merged_front k.front i a b) k.front
+pub keeps_too : (m : Model) (k : KeptFront) (i a b : ℕ) → AreComparable k i a b
+    → KeepsToo m (merged_front k.front i a b) k.front
 keeps_too m k i a b are qs keeps = merged_keeps_front m k.front i a b are.order are.second qs keeps

@@ -24,7 +24,8 @@ use Rattle.dp_cluster.specs.AgentParts.{AreMergedStages, ArePastStages, OwnPart,
 pub same_map : {X : Type 0} (n : ℕ) (d : X) (f g : ℕ → X) → ((i : ℕ) → i < n → f i ≡ g i)
     → map f (range_with_len 0 n) ≡ map g (range_with_len 0 n)
 same_map n d f g h =
-    fill_by_all g (map f (range_with_len 0 n)) n d (length-map-range_with_len f 0 n) (λ i lt. get_or-map-range_with_len f 0 n i i d lt (omega arith) ∙ h i lt)
+    fill_by_all g (map f (range_with_len 0 n)) n d (length-map-range_with_len f 0 n)
+    (λ i lt. get_or-map-range_with_len f 0 n i i d lt (omega arith) ∙ h i lt)
 
 -- a made list, read
 pub made_at : {X : Type 0} (n i : ℕ) (d : X) (f : ℕ → X) → i < n → get_or (map f (range_with_len 0 n)) i d ≡ f i
@@ -50,7 +51,12 @@ module _ (n : ℕ) (ss : List PastStage) (k : ℕ) (cs : List (Option ℕ)) wher
 
   pub part_stages : (ss : List PastStage) → length (actions_after n ss) ≡ length ss
   part_stages [] = refl
-  part_stages (s ∷ ss) = omega (arith, length-append (actions_after n ss) (map (λ x. get_or s.actions.items (class_after n ss x) 0) (range_with_len 0 (n ^ length ss)) ∷ []), part_stages ss)
+  part_stages (s ∷ ss) = omega (
+    arith,
+    length-append (actions_after n ss)
+        (map (λ x. get_or s.actions.items (class_after n ss x) 0) (range_with_len 0 (n ^ length ss)) ∷ []),
+    part_stages ss,
+  )
 
   -- its stage
   pub part_stage : length (part_of n ss k cs).fixed ≡ length ss
@@ -76,26 +82,34 @@ abbrev pub with_action : List (Option ℕ) → ℕ → ℕ → ℕ → Option �
 with_action cs c a i = cond (eqb i c) (Some a) (get_or cs i None)
 
 with_action_same : (cs : List (Option ℕ)) (c a : ℕ) → with_action cs c a c ≡ Some a
-with_action_same cs c a = let e : eqb c c ≡ true = grind (arith, nat_tests) in ap (λ b. cond b (Some a) (get_or cs c None)) e
+with_action_same cs c a = let e : eqb c c ≡ true = grind (arith, nat_tests) in
+    ap (λ b. cond b (Some a) (get_or cs c None)) e
 
 with_action_other : (cs : List (Option ℕ)) (c a i : ℕ) → (i ≡ c → ⊥) → with_action cs c a i ≡ get_or cs i None
-with_action_other cs c a i ne = let e : eqb i c ≡ false = grind (arith, nat_tests) in ap (λ b. cond b (Some a) (get_or cs i None)) e
+with_action_other cs c a i ne = let e : eqb i c ≡ false = grind (arith, nat_tests) in
+    ap (λ b. cond b (Some a) (get_or cs i None)) e
 
-pub with_same : (cs : List (Option ℕ)) (c a i : ℕ) (new : Option ℕ) → i ≡ c → new ≡ Some a → new ≡ with_action cs c a i
+pub with_same : (cs : List (Option ℕ)) (c a i : ℕ) (new : Option ℕ) → i ≡ c → new ≡ Some a
+    → new ≡ with_action cs c a i
 with_same cs c a i new e is = is ∙ sym (with_action_same cs c a) ∙ ap (with_action cs c a) (sym e)
 
-pub with_other : (cs : List (Option ℕ)) (c a i : ℕ) (new : Option ℕ) → (i ≡ c → ⊥) → new ≡ get_or cs i None → new ≡ with_action cs c a i
+pub with_other : (cs : List (Option ℕ)) (c a i : ℕ) (new : Option ℕ) → (i ≡ c → ⊥) → new ≡ get_or cs i None
+    → new ≡ with_action cs c a i
 with_other cs c a i new ne is = is ∙ sym (with_action_other cs c a i ne)
 
 chosen_with : (k : ℕ) (cs : List (Option ℕ)) (c a : ℕ) → c < k
-    → map (with_action cs c a) (range_with_len 0 k) ≡ set (map (λ i. get_or cs i None) (range_with_len 0 k)) c (Some a)
+    → map (with_action cs c a) (range_with_len 0 k) ≡ set (map (λ i. get_or cs i None) (range_with_len 0 k)) c
+    (Some a)
 chosen_with k cs c a lt =
     let old = map (λ i. get_or cs i None) (range_with_len 0 k) in
     let long : length old ≡ k = length-map-range_with_len (λ i. get_or cs i None) 0 k in
     sym (fill_by_all (with_action cs c a) (set old c (Some a)) k None (length-set old c (Some a) ∙ long)
     (λ i p. elim (cases_eq i c) [
-      | inl e ↦ ap (λ (z : ℕ). get_or (set old c (Some a)) z None) e ∙ get_or-set_same old c (Some a) None (omega arith) ∙ sym (with_action_same cs c a) ∙ ap (with_action cs c a) (sym e)
-      | inr ne ↦ get_or-set_other old c i (Some a) None (λ e. ne e) ∙ made_at k i None (λ i. get_or cs i None) p ∙ sym (with_action_other cs c a i ne)
+      | inl e ↦ ap (λ (z : ℕ). get_or (set old c (Some a)) z None) e
+          ∙ get_or-set_same old c (Some a) None (omega arith) ∙ sym (with_action_same cs c a)
+          ∙ ap (with_action cs c a) (sym e)
+      | inr ne ↦ get_or-set_other old c i (Some a) None (λ e. ne e) ∙ made_at k i None (λ i. get_or cs i None) p
+          ∙ sym (with_action_other cs c a i ne)
     ]))
 
 pub part_with_choice : (n : ℕ) (ss : List PastStage) (k : ℕ) (cs : List (Option ℕ)) (c a : ℕ) → c < k
@@ -104,7 +118,11 @@ pub part_with_choice : (n : ℕ) (ss : List PastStage) (k : ℕ) (cs : List (Opt
 unfolding part_of
 part_with_choice n ss k cs c a lt =
     let chosen = read_again k (with_action cs c a) ∙ chosen_with k cs c a lt in
-    λ j. record { fixed = actions_after n ss; class_of = map (class_after n ss) (range_with_len 0 (n ^ length ss)); chosen = chosen j }
+    λ j. record {
+      fixed = actions_after n ss;
+      class_of = map (class_after n ss) (range_with_len 0 (n ^ length ss));
+      chosen = chosen j;
+    }
 
 -- ---- the next stage
 
@@ -112,45 +130,52 @@ part_with_choice n ss k cs c a lt =
 abbrev pub HasClasses : ℕ → AgentFront → Type 0
 HasClasses n d = (x : ℕ) → x < n ^ length d.fixed → get_or d.class_of x 0 < length d.chosen
 
-module _ (n : ℕ) (ss : List PastStage) (k : ℕ) (cs : List (Option ℕ)) (classes : HasClasses n (part_of n ss k cs)) where
-  pub class_in : (x : ℕ) → x < n ^ length ss → class_after n ss x < k
-  class_in x lt =
-      let there : x < n ^ length (part_of n ss k cs).fixed = subst (λ (t : ℕ). x < n ^ t) (sym (part_stage n ss k cs)) lt in
-      let below = classes x there in
-      let is = part_class n ss k cs x lt in
-      let count = part_classes n ss k cs in omega arith
+module _ (n : ℕ) (ss : List PastStage) (k : ℕ) (cs : List (Option ℕ)) (classes : HasClasses n (part_of n ss k cs))
+  where
+    pub class_in : (x : ℕ) → x < n ^ length ss → class_after n ss x < k
+    class_in x lt =
+        let there : x < n ^ length (part_of n ss k cs).fixed = subst (λ (t : ℕ). x < n ^ t)
+        (sym (part_stage n ss k cs)) lt in
+        let below = classes x there in
+        let is = part_class n ss k cs x lt in
+        let count = part_classes n ss k cs in omega arith
 
-  pub part_advanced : (s : PastStage) → s.links.items ≡ []
-      → s.actions.items ≡ map (λ c. unwrap_or (get_or cs c None) 0) (range_with_len 0 k)
-      → part_of n (s ∷ ss) (k * n) [] ≡ advanced_agent n (length (part_of n ss k cs).fixed) (part_of n ss k cs)
-  unfolding part_of advanced_agent
-  part_advanced s no_links actions =
-      let P = part_of n ss k cs in
-      let t = length ss in
-      let stage : length P.fixed ≡ t = part_stage n ss k cs in
-      let act : ℕ → ℕ = λ x. unwrap_or (get_or P.chosen (get_or P.class_of x 0) None) 0 in
-      let acts : map (λ x. get_or s.actions.items (class_after n ss x) 0) (range_with_len 0 (n ^ t)) ≡ map act (range_with_len 0 (n ^ length P.fixed)) =
-      same_map (n ^ t) 0 _ act (λ x lt.
-      ap (λ l. get_or l (class_after n ss x) 0) actions
-      ∙ made_at k (class_after n ss x) 0 (λ c. unwrap_or (get_or cs c None) 0) (class_in x lt)
-      ∙ ap (λ o. unwrap_or o 0) (part_action n ss k cs (class_after n ss x) (class_in x lt))
-      ∙ ap (λ (c : ℕ). unwrap_or (get_or P.chosen c None) 0) (part_class n ss k cs x lt))
-      ∙ ap (λ (u : ℕ). map act (range_with_len 0 (n ^ u))) (sym stage) in
-      let next : ℕ → ℕ = λ x. get_or P.class_of (x / n) 0 * n + x % n in
-      let led : (p : ℕ) → class_led_to s p ≡ p = λ p. ap (λ (l : List ℕ). get_or l p p) no_links in
-      let class_of : map (class_after n (s ∷ ss)) (range_with_len 0 (n ^ suc t)) ≡ map next (range_with_len 0 (n ^ suc (length P.fixed))) =
-      same_map (n ^ suc t) 0 _ next (λ x lt.
-      let lt' : x < n ^ t * n = rw pow-suc at lt in
-      led (class_after n ss (x / n) * n + x % n) ∙ ap (λ (c : ℕ). c * n + x % n) (part_class n ss k cs (x / n) (part_below (n ^ t) n x lt')))
-      ∙ ap (λ (u : ℕ). map next (range_with_len 0 (n ^ suc u))) (sym stage) in
-      let nothing : Option ℕ = None in
-      let chosen : map (λ c. get_or {A = Option ℕ} [] c None) (range_with_len 0 (k * n)) ≡ replicate (length P.chosen * n) nothing =
-      sym (fill_by_all (λ c. get_or {A = Option ℕ} [] c None) (replicate (k * n) nothing) (k * n) None (length-replicate (k * n) nothing) (λ c lt. get_or-replicate (k * n) c nothing None lt ∙ none_left c))
-      ∙ ap (λ (z : ℕ). replicate (z * n) nothing) (part_classes n ss k cs) in
-      λ j. record { fixed = actions_after n ss ++ acts j ∷ []; class_of = class_of j; chosen = chosen j }
-    where
-      none_left : (c : ℕ) → None ≡ get_or {A = Option ℕ} [] c None
-      none_left c = refl
+    pub part_advanced : (s : PastStage) → s.links.items ≡ []
+        → s.actions.items ≡ map (λ c. unwrap_or (get_or cs c None) 0) (range_with_len 0 k)
+        → part_of n (s ∷ ss) (k * n) [] ≡ advanced_agent n (length (part_of n ss k cs).fixed) (part_of n ss k cs)
+    unfolding part_of advanced_agent
+    part_advanced s no_links actions =
+        let P = part_of n ss k cs in
+        let t = length ss in
+        let stage : length P.fixed ≡ t = part_stage n ss k cs in
+        let act : ℕ → ℕ = λ x. unwrap_or (get_or P.chosen (get_or P.class_of x 0) None) 0 in
+        let acts : map (λ x. get_or s.actions.items (class_after n ss x) 0) (range_with_len 0 (n ^ t))
+        ≡ map act (range_with_len 0 (n ^ length P.fixed)) =
+        same_map (n ^ t) 0 _ act (λ x lt.
+        ap (λ l. get_or l (class_after n ss x) 0) actions
+        ∙ made_at k (class_after n ss x) 0 (λ c. unwrap_or (get_or cs c None) 0) (class_in x lt)
+        ∙ ap (λ o. unwrap_or o 0) (part_action n ss k cs (class_after n ss x) (class_in x lt))
+        ∙ ap (λ (c : ℕ). unwrap_or (get_or P.chosen c None) 0) (part_class n ss k cs x lt))
+        ∙ ap (λ (u : ℕ). map act (range_with_len 0 (n ^ u))) (sym stage) in
+        let next : ℕ → ℕ = λ x. get_or P.class_of (x / n) 0 * n + x % n in
+        let led : (p : ℕ) → class_led_to s p ≡ p = λ p. ap (λ (l : List ℕ). get_or l p p) no_links in
+        let class_of : map (class_after n (s ∷ ss)) (range_with_len 0 (n ^ suc t))
+        ≡ map next (range_with_len 0 (n ^ suc (length P.fixed))) =
+        same_map (n ^ suc t) 0 _ next (λ x lt.
+        let lt' : x < n ^ t * n = rw pow-suc at lt in
+        led (class_after n ss (x / n) * n + x % n) ∙ ap (λ (c : ℕ). c * n + x % n)
+        (part_class n ss k cs (x / n) (part_below (n ^ t) n x lt')))
+        ∙ ap (λ (u : ℕ). map next (range_with_len 0 (n ^ suc u))) (sym stage) in
+        let nothing : Option ℕ = None in
+        let chosen : map (λ c. get_or {A = Option ℕ} [] c None) (range_with_len 0 (k * n))
+        ≡ replicate (length P.chosen * n) nothing =
+        sym (fill_by_all (λ c. get_or {A = Option ℕ} [] c None) (replicate (k * n) nothing) (k * n) None
+        (length-replicate (k * n) nothing) (λ c lt. get_or-replicate (k * n) c nothing None lt ∙ none_left c))
+        ∙ ap (λ (z : ℕ). replicate (z * n) nothing) (part_classes n ss k cs) in
+        λ j. record { fixed = actions_after n ss ++ acts j ∷ []; class_of = class_of j; chosen = chosen j }
+      where
+        none_left : (c : ℕ) → None ≡ get_or {A = Option ℕ} [] c None
+        none_left c = refl
 
 -- ---- two classes joined
 
@@ -162,64 +187,88 @@ chosen_without : (k : ℕ) (cs : List (Option ℕ)) (b : ℕ) → b < k
 chosen_without k cs b lt =
     let old = map (λ i. get_or cs i None) (range_with_len 0 k) in
     let long : length old ≡ k = length-map-range_with_len (λ i. get_or cs i None) 0 k in
-    sym (fill_by_all (kept_action cs b) (without b old) (k - 1) None (let e = length-without b old (omega arith) in omega arith)
+    sym (fill_by_all (kept_action cs b) (without b old) (k - 1) None
+    (let e = length-without b old (omega arith) in omega arith)
     (λ i p. elim (cases_lt i b) [
-      | inl low ↦ get_or-without_below b old i None low ∙ made_at k i None (λ i. get_or cs i None) (omega arith) ∙ ap (λ (z : ℕ). get_or cs z None) (kept_low b i low)
-      | inr high ↦ get_or-without_above b old i None high ∙ made_at k (suc i) None (λ i. get_or cs i None) (omega arith) ∙ ap (λ (z : ℕ). get_or cs z None) (kept_high b i high)
+      | inl low ↦ get_or-without_below b old i None low ∙ made_at k i None (λ i. get_or cs i None) (omega arith)
+          ∙ ap (λ (z : ℕ). get_or cs z None) (kept_low b i low)
+      | inr high ↦ get_or-without_above b old i None high ∙ made_at k (suc i) None (λ i. get_or cs i None)
+          (omega arith) ∙ ap (λ (z : ℕ). get_or cs z None) (kept_high b i high)
     ]))
 
 module _ (n k : ℕ) (cs : List (Option ℕ)) (a b : ℕ) (ab : a < b) (lt : b < k) where
-  joined_chosen : map (λ c. get_or (map (kept_action cs b) (range_with_len 0 (k - 1))) c None) (range_with_len 0 (k - 1))
+  joined_chosen : map (λ c. get_or (map (kept_action cs b) (range_with_len 0 (k - 1))) c None)
+      (range_with_len 0 (k - 1))
       ≡ without b (map (λ i. get_or cs i None) (range_with_len 0 k))
   joined_chosen = read_again (k - 1) (kept_action cs b) ∙ chosen_without k cs b lt
 
-  first_class : (n : ℕ) → map (class_after n []) (range_with_len 0 (n ^ 0)) ≡ map (renumbered a b) (map (class_after n []) (range_with_len 0 (n ^ 0)))
+  first_class : (n : ℕ) → map (class_after n []) (range_with_len 0 (n ^ 0))
+      ≡ map (renumbered a b) (map (class_after n []) (range_with_len 0 (n ^ 0)))
   first_class n =
       let zero_is : 0 ≡ renumbered a b 0 = grind (arith, nat_tests) in
-      sym (fill_by_all (class_after n []) (map (renumbered a b) (map (class_after n []) (range_with_len 0 (n ^ 0)))) (n ^ 0) 0
-      (length-map (map (class_after n []) (range_with_len 0 (n ^ 0))) (renumbered a b) ∙ length-map-range_with_len (class_after n []) 0 (n ^ 0))
-      (λ x p. get_or-map (renumbered a b) (map (class_after n []) (range_with_len 0 (n ^ 0))) x 0 0 (omega (arith, length-map-range_with_len (class_after n []) 0 (n ^ 0)))
+      sym (fill_by_all (class_after n []) (map (renumbered a b)
+      (map (class_after n []) (range_with_len 0 (n ^ 0)))) (n ^ 0) 0
+      (length-map (map (class_after n []) (range_with_len 0 (n ^ 0))) (renumbered a b)
+      ∙ length-map-range_with_len (class_after n []) 0 (n ^ 0))
+      (λ x p. get_or-map (renumbered a b) (map (class_after n []) (range_with_len 0 (n ^ 0))) x 0 0
+      (omega (arith, length-map-range_with_len (class_after n []) 0 (n ^ 0)))
       ∙ ap (renumbered a b) (made_at (n ^ 0) x 0 (class_after n []) p) ∙ sym zero_is))
 
-  pub root_part_merged : part_of n [] (k - 1) (map (kept_action cs b) (range_with_len 0 (k - 1))) ≡ merged_agent a b (part_of n [] k cs)
+  pub root_part_merged : part_of n [] (k - 1) (map (kept_action cs b) (range_with_len 0 (k - 1)))
+      ≡ merged_agent a b (part_of n [] k cs)
   unfolding part_of
   root_part_merged = λ j. record { fixed = []; class_of = first_class n j; chosen = joined_chosen j }
 
-  pub part_merged : (s s' : PastStage) (ss : List PastStage) → ArePastStages n (s ∷ ss) → s'.actions.items ≡ s.actions.items
+  pub part_merged : (s s' : PastStage) (ss : List PastStage) → ArePastStages n (s ∷ ss)
+      → s'.actions.items ≡ s.actions.items
       → ((p : ℕ) → p < length s.actions.items * n → class_led_to s' p ≡ renumbered a b (class_led_to s p))
-      → part_of n (s' ∷ ss) (k - 1) (map (kept_action cs b) (range_with_len 0 (k - 1))) ≡ merged_agent a b (part_of n (s ∷ ss) k cs)
+      → part_of n (s' ∷ ss) (k - 1) (map (kept_action cs b) (range_with_len 0 (k - 1)))
+      ≡ merged_agent a b (part_of n (s ∷ ss) k cs)
   unfolding part_of
   part_merged s s' ss past actions links =
       let N = n ^ suc (length ss) in
       let old = map (class_after n (s ∷ ss)) (range_with_len 0 N) in
       let long : length old ≡ N = length-map-range_with_len (class_after n (s ∷ ss)) 0 N in
       let class_of : map (class_after n (s' ∷ ss)) (range_with_len 0 N) ≡ map (renumbered a b) old =
-      sym (fill_by_all (class_after n (s' ∷ ss)) (map (renumbered a b) old) N 0 (length-map old (renumbered a b) ∙ long)
+      sym (fill_by_all (class_after n (s' ∷ ss)) (map (renumbered a b) old) N 0
+      (length-map old (renumbered a b) ∙ long)
       (λ x p.
       let p' : x < n ^ length ss * n = rw pow-suc at p in
       let last : x % n < n = mod_below x n (positive_right (n ^ length ss) n x p') in
-      let place = row_below (class_after n ss (x / n)) (length s.actions.items) n (x % n) (past.0 (x / n) (part_below (n ^ length ss) n x p')) last in
-      get_or-map (renumbered a b) old x 0 0 (omega arith) ∙ ap (renumbered a b) (made_at N x 0 (class_after n (s ∷ ss)) p) ∙ sym (links (class_after n ss (x / n) * n + x % n) place))) in
+      let place = row_below (class_after n ss (x / n)) (length s.actions.items) n (x % n)
+      (past.0 (x / n) (part_below (n ^ length ss) n x p')) last in
+      get_or-map (renumbered a b) old x 0 0 (omega arith) ∙ ap (renumbered a b)
+      (made_at N x 0 (class_after n (s ∷ ss)) p) ∙ sym (links (class_after n ss (x / n) * n + x % n) place))) in
       λ j. record {
-        fixed = actions_after n ss ++ map (λ x. get_or (actions j) (class_after n ss x) 0) (range_with_len 0 (n ^ length ss)) ∷ [];
+        fixed = actions_after n ss ++ map (λ x. get_or (actions j) (class_after n ss x) 0)
+            (range_with_len 0 (n ^ length ss)) ∷ [];
         class_of = class_of j;
         chosen = joined_chosen j;
       }
 
   -- whatever the stages are
   pub parts_merged : (ss ss' : List PastStage) → AreMergedStages n a b ss ss' → ArePastStages n ss
-      → part_of n ss' (k - 1) (map (kept_action cs b) (range_with_len 0 (k - 1))) ≡ merged_agent a b (part_of n ss k cs)
-  parts_merged [] ss' same past = ap (λ z. part_of n z (k - 1) (map (kept_action cs b) (range_with_len 0 (k - 1)))) same ∙ root_part_merged
+      → part_of n ss' (k - 1) (map (kept_action cs b) (range_with_len 0 (k - 1)))
+      ≡ merged_agent a b (part_of n ss k cs)
+  parts_merged [] ss' same past = ap (λ z. part_of n z (k - 1) (map (kept_action cs b) (range_with_len 0 (k - 1))))
+      same ∙ root_part_merged
   parts_merged (s ∷ ss) [] same past = absurd same
   parts_merged (s ∷ ss) (s' ∷ ss') same past =
-      ap (λ z. part_of n (s' ∷ z) (k - 1) (map (kept_action cs b) (range_with_len 0 (k - 1)))) same.2 ∙ part_merged s s' ss past same.0 same.1
+      ap (λ z. part_of n (s' ∷ z) (k - 1) (map (kept_action cs b) (range_with_len 0 (k - 1)))) same.2
+      ∙ part_merged s s' ss past same.0 same.1
 
-  pub past_merged : (ss ss' : List PastStage) → AreMergedStages n a b ss ss' → ArePastStages n ss → ArePastStages n ss'
+  pub past_merged : (ss ss' : List PastStage) → AreMergedStages n a b ss ss' → ArePastStages n ss
+      → ArePastStages n ss'
   past_merged [] ss' same past = subst (ArePastStages n) (sym same) tt
   past_merged (s ∷ ss) [] same past = absurd same
   past_merged (s ∷ ss) (s' ∷ ss') same past =
       let as_many : length s'.actions.items ≡ length s.actions.items = ap length same.0 in
-      subst (λ z. ArePastStages n (s' ∷ z)) (sym same.2) (λ x lt. let old = past.0 x lt in omega arith, rw as_many past.1, past.2)
+      subst (λ z. ArePastStages n (s' ∷ z)) (sym same.2) (
+        λ x lt. let old = past.0 x lt in
+            omega arith,
+        rw as_many past.1,
+        past.2,
+      )
 
 -- ---- what loops keep
 
@@ -236,7 +285,8 @@ pub next_value : {X Y : Type 0} (f : X → Y) (pre : List Y) (xs all all' : List
 next_value f pre xs all all' i x new lt e same pushed before =
     ap (map f) pushed ∙ map_push f all new ∙ ap (λ l. l ++ f new ∷ []) before
     ∙ append_assoc pre (take i (map f xs)) (f new ∷ [])
-    ∙ ap (λ l. pre ++ l) (ap (λ y. take i (map f xs) ++ y ∷ []) same ∙ sym (take_next f xs i x lt e) ∙ ap (λ (k : ℕ). take k (map f xs)) (sym (add-one i)))
+    ∙ ap (λ l. pre ++ l) (ap (λ y. take i (map f xs) ++ y ∷ []) same ∙ sym (take_next f xs i x lt e)
+    ∙ ap (λ (k : ℕ). take k (map f xs)) (sym (add-one i)))
 
 -- a made list goes on with one item more
 pub next_made : {X : Type 0} (f : ℕ → X) (all all' : List X) (i : ℕ) (new : X) → new ≡ f i → all' ≡ all ++ new ∷ []
@@ -245,20 +295,24 @@ next_made f all all' i new same pushed before =
     pushed ∙ (λ j. before j ++ same j ∷ []) ∙ sym (map-range_with_len_more f 0 i i (omega arith))
 
 -- the same after a list
-pub next_after : {X : Type 0} (f : ℕ → X) (pre all all' : List X) (i : ℕ) (new : X) → new ≡ f i → all' ≡ all ++ new ∷ []
+pub next_after : {X : Type 0} (f : ℕ → X) (pre all all' : List X) (i : ℕ) (new : X) → new ≡ f i
+    → all' ≡ all ++ new ∷ []
     → all ≡ pre ++ map f (range_with_len 0 i) → all' ≡ pre ++ map f (range_with_len 0 (i + 1))
 next_after f pre all all' i new same pushed before =
-    pushed ∙ (λ j. before j ++ same j ∷ []) ∙ append_assoc pre (map f (range_with_len 0 i)) (f i ∷ []) ∙ ap (λ l. pre ++ l) (sym (map-range_with_len_more f 0 i i (omega arith)))
+    pushed ∙ (λ j. before j ++ same j ∷ []) ∙ append_assoc pre (map f (range_with_len 0 i)) (f i ∷ [])
+    ∙ ap (λ l. pre ++ l) (sym (map-range_with_len_more f 0 i i (omega arith)))
 
 -- made links are read
-pub links_made : (s : PastStage) (i : ℕ) (f : ℕ → ℕ) (p : ℕ) → p < i → s.links.items ≡ map f (range_with_len 0 i) → class_led_to s p ≡ f p
+pub links_made : (s : PastStage) (i : ℕ) (f : ℕ → ℕ) (p : ℕ) → p < i → s.links.items ≡ map f (range_with_len 0 i)
+    → class_led_to s p ≡ f p
 links_made s i f p lt made = ap (λ l. get_or l p p) made ∙ made_at i p p f lt
 
 -- all have an action
 pub all_chosen_is : (os : List (Option ℕ)) → ((k : ℕ) → k < length os → is_some (get_or os k None) ≡ true)
     → true ≡ all_chosen os
 all_chosen_is [] h = refl
-all_chosen_is (o ∷ os) h = sym (and_from _ _ (h 0 (omega arith)) (sym (all_chosen_is os (λ k lt. h (suc k) (omega arith)))))
+all_chosen_is (o ∷ os) h = sym (and_from _ _ (h 0 (omega arith))
+    (sym (all_chosen_is os (λ k lt. h (suc k) (omega arith)))))
 
 -- one has none
 pub not_all_chosen : (os : List (Option ℕ)) (k : ℕ) → k < length os → is_some (get_or os k None) ≡ false
@@ -293,49 +347,69 @@ pub after_choice : (n : ℕ) (ss ss' : List PastStage) (k i : ℕ) (cs cs' : Lis
     → cs' ≡ map (with_action cs c a) (range_with_len 0 i)
     → record { observations = n; front = part_of n ss' k cs' } ≡ chosen_in v c a
 after_choice n ss ss' k i cs cs' v c a is lt stages all chosen =
-    let list : cs' ≡ map (with_action cs c a) (range_with_len 0 k) = chosen ∙ ap (λ (z : ℕ). map (with_action cs c a) (range_with_len 0 z)) all in
-    let part : part_of n ss' k cs' ≡ record (part_of n ss k cs) { chosen = set (part_of n ss k cs).chosen c (Some a) } =
+    let list : cs' ≡ map (with_action cs c a) (range_with_len 0 k) = chosen
+    ∙ ap (λ (z : ℕ). map (with_action cs c a) (range_with_len 0 z)) all in
+    let part : part_of n ss' k cs' ≡ record (part_of n ss k cs)
+    { chosen = set (part_of n ss k cs).chosen c (Some a) } =
     (λ j. part_of n (stages j) k (list j)) ∙ part_with_choice n ss k cs c a (below_count n ss k cs v c is lt) in
     (λ j. record { observations = n; front = part j }) ∙ ap (λ (w : OwnPart). chosen_in w c a) is
 
 -- the actions of all classes
-pub after_advance : (n : ℕ) (ss ss' : List PastStage) (k i : ℕ) (cs cs' : List (Option ℕ)) (s : PastStage) (v : OwnPart)
-    → record { observations = n; front = part_of n ss k cs } ≡ v → ((x : ℕ) → x < v.observations ^ length v.front.fixed → get_or v.front.class_of x 0 < length v.front.chosen)
-    → ss' ≡ s ∷ ss → i ≡ k → s.actions.items ≡ map (λ c. unwrap_or (get_or cs c None) 0) (range_with_len 0 i) → s.links.items ≡ [] → cs' ≡ []
+pub after_advance : (n : ℕ) (ss ss' : List PastStage) (k i : ℕ) (cs cs' : List (Option ℕ)) (s : PastStage)
+    (v : OwnPart)
+    → record { observations = n; front = part_of n ss k cs } ≡ v
+    → ((x : ℕ) → x < v.observations ^ length v.front.fixed → get_or v.front.class_of x 0 < length v.front.chosen)
+    → ss' ≡ s ∷ ss → i ≡ k → s.actions.items ≡ map (λ c. unwrap_or (get_or cs c None) 0) (range_with_len 0 i)
+    → s.links.items ≡ [] → cs' ≡ []
     → record { observations = n; front = part_of n ss' (k * n) cs' } ≡ advanced_in v
 after_advance n ss ss' k i cs cs' s v is classes stages all actions links none =
-    let classes' : HasClasses n (part_of n ss k cs) = subst (λ (w : OwnPart). HasClasses w.observations w.front) (sym is) classes in
+    let classes' : HasClasses n (part_of n ss k cs) = subst (λ (w : OwnPart). HasClasses w.observations w.front)
+    (sym is) classes in
     let list = actions ∙ ap (λ (z : ℕ). map (λ c. unwrap_or (get_or cs c None) 0) (range_with_len 0 z)) all in
     let part : part_of n ss' (k * n) cs' ≡ advanced_agent n (length (part_of n ss k cs).fixed) (part_of n ss k cs) =
     (λ j. part_of n (stages j) (k * n) (none j)) ∙ part_advanced n ss k cs classes' s links list in
     (λ j. record { observations = n; front = part j }) ∙ ap advanced_in is
 
 pub past_after : (n : ℕ) (ss ss' : List PastStage) (k i : ℕ) (cs : List (Option ℕ)) (s : PastStage) (v : OwnPart)
-    → record { observations = n; front = part_of n ss k cs } ≡ v → ((x : ℕ) → x < v.observations ^ length v.front.fixed → get_or v.front.class_of x 0 < length v.front.chosen)
+    → record { observations = n; front = part_of n ss k cs } ≡ v
+    → ((x : ℕ) → x < v.observations ^ length v.front.fixed → get_or v.front.class_of x 0 < length v.front.chosen)
     → length v.front.chosen * v.observations < 2 ^ 32
     → ss' ≡ s ∷ ss → i ≡ k → s.actions.items ≡ map (λ c. unwrap_or (get_or cs c None) 0) (range_with_len 0 i)
     → ArePastStages n ss → ArePastStages n ss'
 past_after n ss ss' k i cs s v is classes room stages all actions past =
-    let classes' : HasClasses n (part_of n ss k cs) = subst (λ (w : OwnPart). HasClasses w.observations w.front) (sym is) classes in
+    let classes' : HasClasses n (part_of n ss k cs) = subst (λ (w : OwnPart). HasClasses w.observations w.front)
+    (sym is) classes in
     let count : k ≡ length (part_of n ss k cs).chosen = part_classes n ss k cs in
-    let room' : length (part_of n ss k cs).chosen * n < 2 ^ 32 = subst (λ (w : OwnPart). length w.front.chosen * w.observations < 2 ^ 32) (sym is) room in
+    let room' : length (part_of n ss k cs).chosen * n < 2 ^ 32 = subst
+    (λ (w : OwnPart). length w.front.chosen * w.observations < 2 ^ 32) (sym is) room in
     let room'' : k * n < 2 ^ 32 = subst (λ (z : ℕ). z * n < 2 ^ 32) (sym count) room' in
-    let as_many : length s.actions.items ≡ k = ap length actions ∙ length-map-range_with_len (λ c. unwrap_or (get_or cs c None) 0) 0 i ∙ all in
-    subst (ArePastStages n) (sym stages) (λ x lt. let old = class_in n ss k cs classes' x lt in omega arith, rw as_many room'', past)
+    let as_many : length s.actions.items ≡ k = ap length actions
+    ∙ length-map-range_with_len (λ c. unwrap_or (get_or cs c None) 0) 0 i ∙ all in
+    subst (ArePastStages n) (sym stages) (
+      λ x lt. let old = class_in n ss k cs classes' x lt in
+          omega arith,
+      rw as_many room'',
+      past,
+    )
 
 pub next_count : (n : ℕ) (ss : List PastStage) (k : ℕ) (cs : List (Option ℕ)) (v : OwnPart)
-    → record { observations = n; front = part_of n ss k cs } ≡ v → length v.front.chosen * v.observations < 2 ^ 32 → k * n < 2 ^ 32
+    → record { observations = n; front = part_of n ss k cs } ≡ v → length v.front.chosen * v.observations < 2 ^ 32
+    → k * n < 2 ^ 32
 next_count n ss k cs v is room =
     let count : k ≡ length (part_of n ss k cs).chosen = part_classes n ss k cs in
-    let room' : length (part_of n ss k cs).chosen * n < 2 ^ 32 = subst (λ (w : OwnPart). length w.front.chosen * w.observations < 2 ^ 32) (sym is) room in
+    let room' : length (part_of n ss k cs).chosen * n < 2 ^ 32 = subst
+    (λ (w : OwnPart). length w.front.chosen * w.observations < 2 ^ 32) (sym is) room in
     subst (λ (z : ℕ). z * n < 2 ^ 32) (sym count) room'
 
 pub after_merge : (n : ℕ) (ss ss' : List PastStage) (k i : ℕ) (cs cs' : List (Option ℕ)) (v : OwnPart) (a b : ℕ)
     → record { observations = n; front = part_of n ss k cs } ≡ v → a < b → b < length v.front.chosen
-    → AreMergedStages n a b ss ss' → ArePastStages n ss → i ≡ k - 1 → cs' ≡ map (kept_action cs b) (range_with_len 0 i)
+    → AreMergedStages n a b ss ss' → ArePastStages n ss → i ≡ k - 1
+    → cs' ≡ map (kept_action cs b) (range_with_len 0 i)
     → record { observations = n; front = part_of n ss' (k - 1) cs' } ≡ merged_in v a b
 after_merge n ss ss' k i cs cs' v a b is ab lt stages past all chosen =
-    let list : cs' ≡ map (kept_action cs b) (range_with_len 0 (k - 1)) = chosen ∙ ap (λ (z : ℕ). map (kept_action cs b) (range_with_len 0 z)) all in
+    let list : cs' ≡ map (kept_action cs b) (range_with_len 0 (k - 1)) = chosen
+    ∙ ap (λ (z : ℕ). map (kept_action cs b) (range_with_len 0 z)) all in
     let part : part_of n ss' (k - 1) cs' ≡ merged_agent a b (part_of n ss k cs) =
-    ap (part_of n ss' (k - 1)) list ∙ parts_merged n k cs a b ab (below_count n ss k cs v b is lt) ss ss' stages past in
+    ap (part_of n ss' (k - 1)) list ∙ parts_merged n k cs a b ab (below_count n ss k cs v b is lt)
+    ss ss' stages past in
     (λ j. record { observations = n; front = part j }) ∙ ap (λ (w : OwnPart). merged_in w a b) is

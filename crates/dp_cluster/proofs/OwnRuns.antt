@@ -26,7 +26,8 @@ module _ (k : KeptFront) (i joint count width states : ℕ) (are : AreCounted k 
   rows = product (take i (class_counts k.front.agents))
 
   whole : product (class_counts k.front.agents) ≡ rows * own_count k i * behind k i
-  whole = product_split i (class_counts k.front.agents) (let n = as_many_counts k.front.agents in let lt = are.agent in omega arith)
+  whole = product_split i (class_counts k.front.agents) (let n = as_many_counts k.front.agents in
+      let lt = are.agent in omega arith)
 
   -- none of the factors is 0
   record AreSome (h n l : ℕ) : Type 0 where
@@ -38,13 +39,18 @@ module _ (k : KeptFront) (i joint count width states : ℕ) (are : AreCounted k 
   factors zero n l x some e = absurd (omega arith)
   factors (suc h) zero l x some e = absurd (omega arith)
   factors (suc h) (suc n) zero x some e = absurd (omega arith)
-  factors (suc h) (suc n) (suc l) x some e = record { some_row = omega arith; some_count = omega arith; some_behind = omega arith }
+  factors (suc h) (suc n) (suc l) x some e = record {
+    some_row = omega arith;
+    some_count = omega arith;
+    some_behind = omega arith;
+  }
 
   some : AreSome rows (own_count k i) (behind k i)
   some = factors rows (own_count k i) (behind k i) _ are.some_class whole
 
   few : product (class_counts k.front.agents) ≤ 2 ^ 22
-  few = count_most (product (class_counts k.front.agents)) k.states (2 ^ 22) are.some_state (are.stored.room are.stage)
+  few = count_most (product (class_counts k.front.agents)) k.states (2 ^ 22) are.some_state
+      (are.stored.room are.stage)
 
   at_most : (x h : ℕ) → 0 < h → x ≤ h * x
   at_most x zero none = absurd (omega arith)
@@ -77,7 +83,8 @@ module _ (k : KeptFront) (i joint count width states : ℕ) (are : AreCounted k 
 
   all_weights : rows * own_count k i * (behind k i * k.states) ≡ length k.weights
   all_weights =
-      regroup rows (own_count k i) (behind k i) k.states ∙ ap (λ (x : ℕ). x * k.states) (sym whole) ∙ sym (are.stored.weights are.stage)
+      regroup rows (own_count k i) (behind k i) k.states ∙ ap (λ (x : ℕ). x * k.states) (sym whole)
+      ∙ sym (are.stored.weights are.stage)
     where
       regroup : (h n l s : ℕ) → h * n * (l * s) ≡ h * n * l * s
       regroup h n l s = omega arith

@@ -10,12 +10,14 @@ use Rattle.dp_spec.specs.ClassSteps.{pair_counts, pair_number}
 use Rattle.dp_cluster.specs.Pairs.{pair_class, pair_seen}
 
 pair_step : (c n : ℕ) (cs ns : List ℕ) (x C p o : ℕ) → C < product cs → o < product ns →
-    (x * n + p) * product (pair_counts cs ns) + pair_number cs ns C o ≡ pair_number (c ∷ cs) (n ∷ ns) (x * product cs + C) (p * product ns + o)
+    (x * n + p) * product (pair_counts cs ns) + pair_number cs ns C o
+    ≡ pair_number (c ∷ cs) (n ∷ ns) (x * product cs + C) (p * product ns + o)
 pair_step c n cs ns x C p o hC ho =
     let first : (x * product cs + C) / product cs ≡ x = div-mul-add x (product cs) C hC in
     let rest : (x * product cs + C) % product cs ≡ C = mod-mul-add x (product cs) C hC in
     let first' : (p * product ns + o) / product ns ≡ p = div-mul-add p (product ns) o ho in
-    let rest' : (p * product ns + o) % product ns ≡ o = mod-mul-add p (product ns) o ho in rw (first, rest, first', rest')
+    let rest' : (p * product ns + o) % product ns ≡ o = mod-mul-add p (product ns) o ho in
+    rw (first, rest, first', rest')
 
 put_together : (x P d n r : ℕ) → d ≡ x / P → r ≡ x % P → (d / n * n + d % n) * P + r ≡ x
 put_together x P d n r e f = rw (e, f) (whole x P n)
@@ -25,7 +27,8 @@ put_together x P d n r e f = rw (e, f) (whole x P n)
 
 -- the two are in range, and their number is the joint class
 pub pair_of : (cs ns : List ℕ) (x : ℕ) → length ns ≡ length cs → x < product (pair_counts cs ns)
-    → (pair_class cs ns x < product cs) × (pair_seen cs ns x < product ns) × (pair_number cs ns (pair_class cs ns x) (pair_seen cs ns x) ≡ x)
+    → (pair_class cs ns x < product cs) × (pair_seen cs ns x < product ns)
+    × (pair_number cs ns (pair_class cs ns x) (pair_seen cs ns x) ≡ x)
 pair_of [] [] x e h = (omega arith, omega arith, omega arith)
 pair_of [] (n ∷ ns) x e h = absurd (omega arith)
 pair_of (c ∷ cs) [] x e h = absurd (omega arith)
@@ -36,7 +39,8 @@ pair_of (c ∷ cs) (n ∷ ns) x e h =
     let some : 0 < n = positive_right c n (x / P) here in (
       row_below (x / P / n) c (product cs) _ (part_below c n (x / P) here) rest.0,
       row_below (x / P % n) n (product ns) _ (mod_below (x / P) n some) rest.1,
-      sym (pair_step c n cs ns (x / P / n) (pair_class cs ns (x % P)) (x / P % n) (pair_seen cs ns (x % P)) rest.0 rest.1)
+      sym (pair_step c n cs ns (x / P / n) (pair_class cs ns (x % P)) (x / P % n) (pair_seen cs ns (x % P))
+          rest.0 rest.1)
           ∙ put_together x P (x / P) n _ refl rest.2,
     )
 
@@ -69,7 +73,8 @@ pub record StepRoom (cs ns : List ℕ) (c n left rest class seen P : ℕ) : Type
   pub seen_room : seen * n + rest / P % n < product ns
 
 pub divided : (k P left : ℕ) → 0 < k → left ≡ k * P → left / k ≡ P
-divided k P left some e = let all : P * k + 0 ≡ left = omega arith in ap (λ (z : ℕ). z / k) (sym all) ∙ div-mul-add P k 0 some
+divided k P left some e = let all : P * k + 0 ≡ left = omega arith in ap (λ (z : ℕ). z / k) (sym all)
+    ∙ div-mul-add P k 0 some
 
 pub most : (k P n : ℕ) → 0 < P → k * P ≤ n → k ≤ n
 most k zero n some le = absurd (omega arith)
@@ -82,7 +87,8 @@ first_factor c (suc n) some = omega arith
 class_regroup : (a n p k r : ℕ) → a * (n * k) + (p * k + r) ≡ (a * n + p) * k + r
 class_regroup a n p k r = omega arith
 
-module _ (cs ns : List ℕ) (alike : length ns ≡ length cs) (i left rest class seen next : ℕ) (lt : i < length cs) (whole : next < product (pair_counts cs ns)) (u : IsUnpairing cs ns i left rest class seen next) where
+module _ (cs ns : List ℕ) (alike : length ns ≡ length cs) (i left rest class seen next : ℕ) (lt : i < length cs)
+    (whole : next < product (pair_counts cs ns)) (u : IsUnpairing cs ns i left rest class seen next) where
   abbrev c : ℕ
   c = get_or cs i 0
 
@@ -99,13 +105,16 @@ module _ (cs ns : List ℕ) (alike : length ns ≡ length cs) (i left rest class
   left_split = u.left_is ∙ (λ j. product (pair_counts (drop-cons cs i 0 lt j) (drop-cons ns i 0 lt' j)))
 
   class_split : class * product (drop i cs) + pair_class (drop i cs) (drop i ns) rest
-      ≡ (class * c + rest / P / n) * product (drop (suc i) cs) + pair_class (drop (suc i) cs) (drop (suc i) ns) (rest % P)
+      ≡ (class * c + rest / P / n) * product (drop (suc i) cs) + pair_class (drop (suc i) cs) (drop (suc i) ns)
+      (rest % P)
   class_split =
-      (λ j. class * product (drop-cons cs i 0 lt j) + pair_class (drop-cons cs i 0 lt j) (drop-cons ns i 0 lt' j) rest)
+      (λ j. class * product (drop-cons cs i 0 lt j) + pair_class (drop-cons cs i 0 lt j) (drop-cons ns i 0 lt' j)
+      rest)
       ∙ class_regroup class c (rest / P / n) (product (drop (suc i) cs)) _
 
   seen_split : seen * product (drop i ns) + pair_seen (drop i cs) (drop i ns) rest
-      ≡ (seen * n + rest / P % n) * product (drop (suc i) ns) + pair_seen (drop (suc i) cs) (drop (suc i) ns) (rest % P)
+      ≡ (seen * n + rest / P % n) * product (drop (suc i) ns) + pair_seen (drop (suc i) cs) (drop (suc i) ns)
+      (rest % P)
   seen_split =
       (λ j. seen * product (drop-cons ns i 0 lt' j) + pair_seen (drop-cons cs i 0 lt j) (drop-cons ns i 0 lt' j) rest)
       ∙ class_regroup seen n (rest / P % n) (product (drop (suc i) ns)) _
@@ -122,8 +131,10 @@ module _ (cs ns : List ℕ) (alike : length ns ≡ length cs) (i left rest class
       let some_seen : 0 < product ns = let x = pair.1 in omega arith in
       let few = u.few in
       let counted : c * n ≤ 2 ^ 22 = most (c * n) P (2 ^ 22) some_left (omega arith) in
-      let class_le = joint_within (class * c + rest / P / n) (product (drop (suc i) cs)) _ _ (product-drop_above cs (suc i) some_classes) (sym class_split ∙ u.class_is) in
-      let seen_le = joint_within (seen * n + rest / P % n) (product (drop (suc i) ns)) _ _ (product-drop_above ns (suc i) some_seen) (sym seen_split ∙ u.seen_is) in
+      let class_le = joint_within (class * c + rest / P / n) (product (drop (suc i) cs)) _ _
+      (product-drop_above cs (suc i) some_classes) (sym class_split ∙ u.class_is) in
+      let seen_le = joint_within (seen * n + rest / P % n) (product (drop (suc i) ns)) _ _
+      (product-drop_above ns (suc i) some_seen) (sym seen_split ∙ u.seen_is) in
       record {
         after = divided (c * n) P left some split;
         some = some;
@@ -146,7 +157,8 @@ module _ (cs ns : List ℕ) (alike : length ns ≡ length cs) (i left rest class
         seen_is = sym seen_split ∙ u.seen_is;
       }
 
-pub unpair_start : (cs ns : List ℕ) (count next : ℕ) → length ns ≡ length cs → count ≡ product cs * product ns → count ≤ 2 ^ 22 → next < count
+pub unpair_start : (cs ns : List ℕ) (count next : ℕ) → length ns ≡ length cs → count ≡ product cs * product ns
+    → count ≤ 2 ^ 22 → next < count
     → IsUnpairing cs ns 0 count next 0 0 next
 unpair_start cs ns count next alike is few lt = record {
   left_is = is ∙ sym (product_pairs cs ns alike);
@@ -166,13 +178,17 @@ last_of : (a : ℕ) → a * 1 + 0 ≡ a
 last_of a = omega arith
 
 -- all agents are done
-pub unpair_end : (cs ns : List ℕ) (i left rest class seen next : ℕ) → length ns ≡ length cs → length cs ≤ i → next < product (pair_counts cs ns)
-    → IsUnpairing cs ns i left rest class seen next → (class < product cs) × (seen < product ns) × (pair_number cs ns class seen ≡ next)
+pub unpair_end : (cs ns : List ℕ) (i left rest class seen next : ℕ) → length ns ≡ length cs → length cs ≤ i
+    → next < product (pair_counts cs ns)
+    → IsUnpairing cs ns i left rest class seen next → (class < product cs) × (seen < product ns)
+    × (pair_number cs ns class seen ≡ next)
 unpair_end cs ns i left rest class seen next alike le whole u =
     let no_cs = drop_all cs i le in
     let no_ns = drop_all ns i (omega arith) in
-    let class_is : class ≡ pair_class cs ns next = sym (last_of class) ∙ (λ j. class * product (sym no_cs j) + pair_class (sym no_cs j) (sym no_ns j) rest) ∙ u.class_is in
-    let seen_is : seen ≡ pair_seen cs ns next = sym (last_of seen) ∙ (λ j. seen * product (sym no_ns j) + pair_seen (sym no_cs j) (sym no_ns j) rest) ∙ u.seen_is in
+    let class_is : class ≡ pair_class cs ns next = sym (last_of class)
+    ∙ (λ j. class * product (sym no_cs j) + pair_class (sym no_cs j) (sym no_ns j) rest) ∙ u.class_is in
+    let seen_is : seen ≡ pair_seen cs ns next = sym (last_of seen)
+    ∙ (λ j. seen * product (sym no_ns j) + pair_seen (sym no_cs j) (sym no_ns j) rest) ∙ u.seen_is in
     let pair = pair_of cs ns next alike whole in
     (rw class_is pair.0, rw seen_is pair.1, (λ j. pair_number cs ns (class_is j) (seen_is j)) ∙ pair.2)
 
@@ -187,8 +203,11 @@ pub record CodeRoom (cs ns : List ℕ) (k o left rest class seen : ℕ) : Type 0
   pub class_room : class * k + rest / (left / (k * o)) / o < product cs
   pub seen_room : seen * o + rest / (left / (k * o)) % o < product ns
 
-module _ (cs ns : List ℕ) (alike : length ns ≡ length cs) (i left rest class seen next k o : ℕ) (ek : k ≡ get_or cs i 0) (eo : o ≡ get_or ns i 0) (lt : i < length cs) (whole : next < product (pair_counts cs ns)) (u : IsUnpairing cs ns i left rest class seen next) where
-  room : StepRoom cs ns (get_or cs i 0) (get_or ns i 0) left rest class seen (product (pair_counts (drop (suc i) cs) (drop (suc i) ns)))
+module _ (cs ns : List ℕ) (alike : length ns ≡ length cs) (i left rest class seen next k o : ℕ)
+    (ek : k ≡ get_or cs i 0) (eo : o ≡ get_or ns i 0) (lt : i < length cs)
+    (whole : next < product (pair_counts cs ns)) (u : IsUnpairing cs ns i left rest class seen next) where
+  room : StepRoom cs ns (get_or cs i 0) (get_or ns i 0) left rest class seen
+      (product (pair_counts (drop (suc i) cs) (drop (suc i) ns)))
   room = step_room cs ns alike i left rest class seen next lt whole u
 
   after_is : left / (k * o) ≡ product (pair_counts (drop (suc i) cs) (drop (suc i) ns))
@@ -204,13 +223,18 @@ module _ (cs ns : List ℕ) (alike : length ns ≡ length cs) (i left rest class
     seen_room = rw after_is (rw eo room.seen_room);
   }
 
-  pub code_next : IsUnpairing cs ns (i + 1) (left / (k * o)) (rest % (left / (k * o))) (class * k + rest / (left / (k * o)) / o) (seen * o + rest / (left / (k * o)) % o) next
+  pub code_next : IsUnpairing cs ns (i + 1) (left / (k * o)) (rest % (left / (k * o)))
+      (class * k + rest / (left / (k * o)) / o) (seen * o + rest / (left / (k * o)) % o) next
   code_next =
       let P = product (pair_counts (drop (suc i) cs) (drop (suc i) ns)) in
-      subst (λ (Q : ℕ). IsUnpairing cs ns (i + 1) Q (rest % Q) (class * k + rest / Q / o) (seen * o + rest / Q % o) next) (sym after_is)
-      (subst (λ (z : ℕ). IsUnpairing cs ns (i + 1) P (rest % P) (class * z + rest / P / o) (seen * o + rest / P % o) next) (sym ek)
-      (subst (λ (z : ℕ). IsUnpairing cs ns (i + 1) P (rest % P) (class * get_or cs i 0 + rest / P / z) (seen * z + rest / P % z) next) (sym eo)
-      (subst (λ (z : ℕ). IsUnpairing cs ns z P (rest % P) (class * get_or cs i 0 + rest / P / get_or ns i 0) (seen * get_or ns i 0 + rest / P % get_or ns i 0) next) (sym (add-one i))
+      subst (λ (Q : ℕ). IsUnpairing cs ns (i + 1) Q (rest % Q) (class * k + rest / Q / o) (seen * o + rest / Q % o)
+      next) (sym after_is)
+      (subst (λ (z : ℕ). IsUnpairing cs ns (i + 1) P (rest % P) (class * z + rest / P / o)
+      (seen * o + rest / P % o) next) (sym ek)
+      (subst (λ (z : ℕ). IsUnpairing cs ns (i + 1) P (rest % P) (class * get_or cs i 0 + rest / P / z)
+      (seen * z + rest / P % z) next) (sym eo)
+      (subst (λ (z : ℕ). IsUnpairing cs ns z P (rest % P) (class * get_or cs i 0 + rest / P / get_or ns i 0)
+      (seen * get_or ns i 0 + rest / P % get_or ns i 0) next) (sym (add-one i))
       (unpair_next cs ns alike i left rest class seen next lt whole u))))
 
 -- as many joint observations as the product
@@ -222,14 +246,19 @@ pub actions_product : (m : Model) → joint_actions m ≡ product m.actions
 unfolding joint_actions
 actions_product m = refl
 
-pub whole_is : (count next : ℕ) (cs ns : List ℕ) → length ns ≡ length cs → count ≡ product cs * product ns → next < count → next < product (pair_counts cs ns)
+pub whole_is : (count next : ℕ) (cs ns : List ℕ) → length ns ≡ length cs → count ≡ product cs * product ns
+    → next < count → next < product (pair_counts cs ns)
 whole_is count next cs ns alike is lt = rw (product_pairs cs ns alike) (omega arith)
 
 -- each factor is small
-pub classes_few : (count : ℕ) (cs ns : List ℕ) → length ns ≡ length cs → count ≡ product cs * product ns → count ≤ 2 ^ 22 → (next : ℕ) → next < count → product cs ≤ 2 ^ 22
+pub classes_few : (count : ℕ) (cs ns : List ℕ) → length ns ≡ length cs → count ≡ product cs * product ns
+    → count ≤ 2 ^ 22 → (next : ℕ) → next < count → product cs ≤ 2 ^ 22
 classes_few count cs ns alike is le next lt =
-    let some : 0 < product cs * product ns = omega arith in most (product cs) (product ns) (2 ^ 22) (positive_right (product cs) (product ns) 0 some) (omega arith)
+    let some : 0 < product cs * product ns = omega arith in most (product cs) (product ns) (2 ^ 22)
+    (positive_right (product cs) (product ns) 0 some) (omega arith)
 
-pub seen_few : (count : ℕ) (cs ns : List ℕ) → length ns ≡ length cs → count ≡ product cs * product ns → count ≤ 2 ^ 22 → (next : ℕ) → next < count → product ns ≤ 2 ^ 22
+pub seen_few : (count : ℕ) (cs ns : List ℕ) → length ns ≡ length cs → count ≡ product cs * product ns
+    → count ≤ 2 ^ 22 → (next : ℕ) → next < count → product ns ≤ 2 ^ 22
 seen_few count cs ns alike is le next lt =
-    let some : 0 < product cs * product ns = omega arith in most (product ns) (product cs) (2 ^ 22) (positive_left (product cs) (product ns) 0 some) (omega arith)
+    let some : 0 < product cs * product ns = omega arith in most (product ns) (product cs) (2 ^ 22)
+    (positive_left (product cs) (product ns) 0 some) (omega arith)

@@ -24,15 +24,18 @@ use Rattle.dp_cluster.proofs.OwnParts.{made_at}
 -- ---- trees of a list
 
 -- the policy tree of a tree that is made of its fields
-pub tree_made : (t : PTree-F PTree) → policy_tree (roll-PTree t) ≡ node t.action (policy_trees (map policy_tree t.kids.items))
+pub tree_made : (t : PTree-F PTree) → policy_tree (roll-PTree t)
+    ≡ node t.action (policy_trees (map policy_tree t.kids.items))
 unfolding policy_tree
 tree_made t = fold-roll-PTree PolicyTree policy_tree_node t
 
 trees_alike : (n : ℕ) (g h : ℕ → PolicyTree) → ((o : ℕ) → g o ≡ h o) → trees_from n g ≡ trees_from n h
 trees_alike zero g h same = refl
-trees_alike (suc n) g h same = λ j. more_trees (same 0 j) (trees_alike n (λ o. g (suc o)) (λ o. h (suc o)) (λ o. same (suc o)) j)
+trees_alike (suc n) g h same = λ j. more_trees (same 0 j) (trees_alike n (λ o. g (suc o)) (λ o. h (suc o))
+    (λ o. same (suc o)) j)
 
-trees_listed : (n a : ℕ) (g : ℕ → PolicyTree) → policy_trees (map g (range_with_len a n)) ≡ trees_from n (λ o. g (a + o))
+trees_listed : (n a : ℕ) (g : ℕ → PolicyTree) → policy_trees (map g (range_with_len a n))
+    ≡ trees_from n (λ o. g (a + o))
 trees_listed zero a g = refl
 trees_listed (suc n) a g =
     let first : a ≡ a + 0 = omega arith in
@@ -43,7 +46,8 @@ trees_listed (suc n) a g =
     later o = omega arith
 
 pub trees_made : (n : ℕ) (g : ℕ → PolicyTree) → policy_trees (map g (range_with_len 0 n)) ≡ trees_from n g
-trees_made n g = trees_listed n 0 g ∙ trees_alike n (λ o. g (0 + o)) g (λ o. ap g (let e : 0 + o ≡ o = omega arith in e))
+trees_made n g = trees_listed n 0 g ∙ trees_alike n (λ o. g (0 + o)) g
+    (λ o. ap g (let e : 0 + o ≡ o = omega arith in e))
 
 -- ---- the stages
 
@@ -65,7 +69,8 @@ as_many : (n : ℕ) (ss : List PastStage) → length (actions_after n ss) ≡ le
 as_many n [] = refl
 as_many n (s ∷ ss) =
     let rest = as_many n ss in
-    let more = length-append (actions_after n ss) (map (λ x. get_or s.actions.items (class_after n ss x) 0) (range_with_len 0 (n ^ length ss)) ∷ []) in
+    let more = length-append (actions_after n ss) (map (λ x. get_or s.actions.items (class_after n ss x) 0)
+    (range_with_len 0 (n ^ length ss)) ∷ []) in
     omega arith
 
 -- the actions of a stage that others are behind
@@ -82,7 +87,8 @@ stage_actions n (suc r) (q ∷ qs) ss' s e =
     let rest = length-drop r qs in
     let size : length (drop r qs) ≡ suc (length ss') = ap (λ l. length l) e in
     let many = as_many n qs in
-    front_of (actions_after n qs) (map (λ x. get_or q.actions.items (class_after n qs x) 0) (range_with_len 0 (n ^ length qs)) ∷ []) (length ss') [] (omega arith)
+    front_of (actions_after n qs) (map (λ x. get_or q.actions.items (class_after n qs x) 0)
+    (range_with_len 0 (n ^ length qs)) ∷ []) (length ss') [] (omega arith)
     ∙ stage_actions n r qs ss' s e
 
 -- a stage that is read of shared stages
@@ -95,7 +101,8 @@ stage_read past left some within r s read is =
     ap (λ q. q.value) read ∙ sym (get_or-map (λ q. q.value) past (left - 1) r r.value (omega arith)) in
     is ∙ there ∙ ap (get_or (map (λ q. q.value) past) (left - 1)) (sym is)
 
-module _ (n : ℕ) (ss : List PastStage) (past : ArePastStages n ss) (left : ℕ) (some : 0 < left) (within : left ≤ length ss) (s : PastStage) (read : s ≡ get_or ss (left - 1) s) where
+module _ (n : ℕ) (ss : List PastStage) (past : ArePastStages n ss) (left : ℕ) (some : 0 < left)
+    (within : left ≤ length ss) (s : PastStage) (read : s ≡ get_or ss (left - 1) s) where
   here : drop (left - 1) ss ≡ s ∷ drop left ss
   here =
       let next : suc (left - 1) ≡ left = omega arith in
@@ -130,7 +137,8 @@ module _ (n : ℕ) (ss : List PastStage) (past : ArePastStages n ss) (left : ℕ
   pub below_next : (t x o : ℕ) → x < n ^ t → o < n → x * n + o < n ^ suc t
   below_next t x o lt seen = let more = row_below x (n ^ t) n o lt seen in rw (pow-suc n t) more
 
-  pub reached_next : (c o next : ℕ) → IsReached n ss left c → o < n → next ≡ class_led_to s (c * n + o) → IsReached n ss (left - 1) next
+  pub reached_next : (c o next : ℕ) → IsReached n ss left c → o < n → next ≡ class_led_to s (c * n + o)
+      → IsReached n ss (left - 1) next
   reached_next c o next reached lt is = record {
     time = suc reached.time;
     history = reached.history * n + o;
@@ -145,7 +153,8 @@ module _ (n : ℕ) (ss : List PastStage) (past : ArePastStages n ss) (left : ℕ
       let size = behind_here t e in
       ap (λ k. get_or (get_or (actions_after n ss) k []) x 0) (sym size)
       ∙ ap (λ l. get_or l x 0) (stage_actions n (left - 1) ss (drop left ss) s here)
-      ∙ made_at (n ^ length (drop left ss)) x 0 (λ y. get_or s.actions.items (class_after n (drop left ss) y) 0) (subst (λ k. x < n ^ k) (sym size) lt)
+      ∙ made_at (n ^ length (drop left ss)) x 0 (λ y. get_or s.actions.items (class_after n (drop left ss) y) 0)
+      (subst (λ k. x < n ^ k) (sym size) lt)
       ∙ ap (λ k. get_or s.actions.items k 0) leads
 
   abbrev act : ℕ → ℕ → ℕ
@@ -155,32 +164,38 @@ module _ (n : ℕ) (ss : List PastStage) (past : ArePastStages n ss) (left : ℕ
   doing_last t x e = ap (λ k. tree_doing_after n act k t x) e
 
   doing_more : (t x : ℕ) → 1 < left
-      → tree_doing_after n act left t x ≡ node (act t x) (trees_from n (λ o. tree_doing_after n act (left - 1) (suc t) (x * n + o)))
+      → tree_doing_after n act left t x ≡ node (act t x) (trees_from n
+      (λ o. tree_doing_after n act (left - 1) (suc t) (x * n + o)))
   doing_more t x more =
       let two : left ≡ suc (suc (left - 2)) = omega arith in
       let one : suc (left - 2) ≡ left - 1 = omega arith in
       ap (λ k. tree_doing_after n act k t x) two
       ∙ ap (λ k. node (act t x) (trees_from n (λ o. tree_doing_after n act k (suc t) (x * n + o)))) one
 
-  pub last_is : (t x c a : ℕ) (ks : List PolicyTree) → t + left ≡ length ss → x < n ^ t → class_after n (drop left ss) x ≡ c
-      → left ≤ 1 → a ≡ get_or s.actions.items c 0 → ks ≡ [] → node a (policy_trees ks) ≡ tree_doing_after n act left t x
+  pub last_is : (t x c a : ℕ) (ks : List PolicyTree) → t + left ≡ length ss → x < n ^ t
+      → class_after n (drop left ss) x ≡ c
+      → left ≤ 1 → a ≡ get_or s.actions.items c 0 → ks ≡ [] → node a (policy_trees ks)
+      ≡ tree_doing_after n act left t x
   last_is t x c a ks e lt leads last action none =
       let one : left ≡ 1 = omega arith in
       (λ j. node ((action ∙ sym (action_is t x c e lt leads)) j) (policy_trees (none j))) ∙ sym (doing_last t x one)
 
-  pub more_is : (t x c a : ℕ) (ks : List PolicyTree) (seen : ℕ) → t + left ≡ length ss → x < n ^ t → class_after n (drop left ss) x ≡ c
+  pub more_is : (t x c a : ℕ) (ks : List PolicyTree) (seen : ℕ) → t + left ≡ length ss → x < n ^ t
+      → class_after n (drop left ss) x ≡ c
       → 1 < left → a ≡ get_or s.actions.items c 0 → seen ≡ n
       → ks ≡ map (λ o. tree_doing_after n act (left - 1) (suc t) (x * n + o)) (range_with_len 0 seen)
       → node a (policy_trees ks) ≡ tree_doing_after n act left t x
   more_is t x c a ks seen e lt leads more action all kids =
       let g = λ (o : ℕ). tree_doing_after n act (left - 1) (suc t) (x * n + o) in
-      (λ j. node ((action ∙ sym (action_is t x c e lt leads)) j) (policy_trees ((kids ∙ ap (λ k. map g (range_with_len 0 k)) all) j)))
+      (λ j. node ((action ∙ sym (action_is t x c e lt leads)) j)
+      (policy_trees ((kids ∙ ap (λ k. map g (range_with_len 0 k)) all) j)))
       ∙ ap (node (act t x)) (trees_made n g)
       ∙ sym (doing_more t x more)
 
 -- ---- the whole tree of a part
 
-module _ (n : ℕ) (ss : List PastStage) (k : ℕ) (cs : List (Option ℕ)) (v : OwnPart) (is : record { observations = n; front = part_of n ss k cs } ≡ v) where
+module _ (n : ℕ) (ss : List PastStage) (k : ℕ) (cs : List (Option ℕ)) (v : OwnPart)
+    (is : record { observations = n; front = part_of n ss k cs } ≡ v) where
   pub stages_counted : length ss ≡ length v.front.fixed
   unfolding part_of
   stages_counted = sym (as_many n ss) ∙ ap (λ (p : OwnPart). length p.front.fixed) is
@@ -190,7 +205,8 @@ module _ (n : ℕ) (ss : List PastStage) (k : ℕ) (cs : List (Option ℕ)) (v :
   unfolding part_of
   whole_is =
       ap (λ r. tree_doing_after n (action_after n ss) r 0 0) (sym (as_many n ss))
-      ∙ ap (λ (p : OwnPart). tree_doing p.observations (λ t x. get_or (get_or p.front.fixed t []) x 0) (length p.front.fixed)) is
+      ∙ ap (λ (p : OwnPart). tree_doing p.observations (λ t x. get_or (get_or p.front.fixed t []) x 0)
+      (length p.front.fixed)) is
 
 -- no own history is before the first stage
 pub first_class : (n : ℕ) (ss : List PastStage) (left : ℕ) → left ≡ length ss → class_after n (drop left ss) 0 ≡ 0
@@ -206,21 +222,26 @@ first_below n = let one = pow-zero n in omega arith
 -- ---- the trees of all agents
 
 -- the parts of a front have its stage
-pub fixed_stages : {f : ℕ} {bs ns : List ℕ} {ds : List AgentFront} → AreAgentFronts f bs ns ds → (i : ℕ) (d : AgentFront)
+pub fixed_stages : {f : ℕ} {bs ns : List ℕ} {ds : List AgentFront} → AreAgentFronts f bs ns ds
+    → (i : ℕ) (d : AgentFront)
     → i < length ds → get_or ds i d ≡ d → length d.fixed ≡ f
 fixed_stages no_agents i d lt read = absurd (omega arith)
 fixed_stages (and_agent is more) zero d lt read = ap (λ (z : AgentFront). length z.fixed) (sym read) ∙ is.of_stage
 fixed_stages (and_agent is more) (suc i) d lt read = fixed_stages more i d (omega arith) read
 
-pub doing_step : (f : ℕ) (ns : List ℕ) (ds : List AgentFront) (i n : ℕ) (d : AgentFront) → i < length ns → i < length ds
+pub doing_step : (f : ℕ) (ns : List ℕ) (ds : List AgentFront) (i n : ℕ) (d : AgentFront) → i < length ns
+    → i < length ds
     → get_or ns i 0 ≡ n → get_or ds i d ≡ d
     → trees_doing_fixed f (drop i ns) (drop i ds)
-    ≡ tree_doing n (λ t x. get_or (get_or d.fixed t []) x 0) f ∷ trees_doing_fixed f (drop (suc i) ns) (drop (suc i) ds)
+    ≡ tree_doing n (λ t x. get_or (get_or d.fixed t []) x 0) f ∷ trees_doing_fixed f (drop (suc i) ns)
+    (drop (suc i) ds)
 doing_step f ns ds i n d ns_in ds_in seen read =
     (λ j. trees_doing_fixed f (drop-cons ns i 0 ns_in j) (drop-cons ds i d ds_in j))
-    ∙ (λ j. tree_doing (seen j) (λ t x. get_or (get_or (read j).fixed t []) x 0) f ∷ trees_doing_fixed f (drop (suc i) ns) (drop (suc i) ds))
+    ∙ (λ j. tree_doing (seen j) (λ t x. get_or (get_or (read j).fixed t []) x 0) f ∷ trees_doing_fixed f
+    (drop (suc i) ns) (drop (suc i) ds))
 
-pub doing_end : (f : ℕ) (ns : List ℕ) (ds : List AgentFront) (i : ℕ) → length ds ≤ i → trees_doing_fixed f (drop i ns) (drop i ds) ≡ []
+pub doing_end : (f : ℕ) (ns : List ℕ) (ds : List AgentFront) (i : ℕ) → length ds ≤ i
+    → trees_doing_fixed f (drop i ns) (drop i ds) ≡ []
 doing_end f ns ds i le = ap (trees_doing_fixed f (drop i ns)) (drop_all i ds le) ∙ no_agents_left (drop i ns)
   where
     no_agents_left : (ns : List ℕ) → trees_doing_fixed f ns [] ≡ []

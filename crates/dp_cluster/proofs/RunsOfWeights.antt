@@ -28,7 +28,8 @@ map_plus f a (suc b) =
     ∙ ap (λ l. map f (range_with_len 0 a) ++ l) (sym (map-range_with_len_more (λ j. f (a + j)) 0 b b (omega arith)))
     ∙ ap (λ k. map f (range_with_len 0 a) ++ map (λ j. f (a + j)) (range_with_len 0 k)) next
 
-pub map_alike : (f g : ℕ → ℤ) (n : ℕ) → ((j : ℕ) → j < n → f j ≡ g j) → map f (range_with_len 0 n) ≡ map g (range_with_len 0 n)
+pub map_alike : (f g : ℕ → ℤ) (n : ℕ) → ((j : ℕ) → j < n → f j ≡ g j)
+    → map f (range_with_len 0 n) ≡ map g (range_with_len 0 n)
 map_alike f g zero same = refl
 map_alike f g (suc n) same =
     let next : suc n ≡ n + 1 = omega arith in
@@ -75,31 +76,38 @@ module _ (ws : List Span) (rows n w : ℕ) (runs : AreOwnRuns ws rows n w) where
         → all' ≡ all ++ map (low_end run) (range_with_len 0 (length run))
         → all' ≡ map (own_low ws n w c) (range_with_len 0 ((row + 1) * w))
     weights_next run all all' size are before pushed =
-        let last : map (low_end run) (range_with_len 0 (length run)) ≡ map (λ j. own_low ws n w c (row * w + j)) (range_with_len 0 w) =
+        let last : map (low_end run) (range_with_len 0 (length run))
+        ≡ map (λ j. own_low ws n w c (row * w + j)) (range_with_len 0 w) =
         ap (λ k. map (low_end run) (range_with_len 0 k)) size
-        ∙ map_alike (low_end run) (λ j. own_low ws n w c (row * w + j)) w (λ j lt. are j lt ∙ sym (low_in_run j lt)) in
+        ∙ map_alike (low_end run) (λ j. own_low ws n w c (row * w + j)) w
+        (λ j lt. are j lt ∙ sym (low_in_run j lt)) in
         let both : row * w + w ≡ (row + 1) * w = omega arith in
         pushed ∙ (λ j. before j ++ last j) ∙ sym (map_plus (own_low ws n w c) (row * w) w)
         ∙ ap (λ k. map (own_low ws n w c) (range_with_len 0 k)) both
 
     -- the total after the run
-    pub total_next : (run : List Span) → length run ≡ w → ((j : ℕ) → j < w → low_end run j ≡ low_end ws ((row * n + c) * w + j))
+    pub total_next : (run : List Span) → length run ≡ w → ((j : ℕ) → j < w
+        → low_end run j ≡ low_end ws ((row * n + c) * w + j))
         → own_total ws n w (row * w) c + nat_sum (length run) (low_at run) ≡ own_total ws n w ((row + 1) * w) c
     total_next run size are =
         let last : nat_sum (length run) (low_at run) ≡ nat_sum w (λ j. own_weight ws n w c (row * w + j)) =
-        ap (λ k. nat_sum k (low_at run)) size ∙ nat_sum_ext w _ _ (λ j lt. ap unsigned_abs (are j lt) ∙ sym (place_in_run j lt)) in
+        ap (λ k. nat_sum k (low_at run)) size ∙ nat_sum_ext w _ _
+        (λ j lt. ap unsigned_abs (are j lt) ∙ sym (place_in_run j lt)) in
         let all : row * w + w ≡ (row + 1) * w = omega arith in
-        (λ j. own_total ws n w (row * w) c + last j) ∙ sym (nat_sum_plus (row * w) w (own_weight ws n w c)) ∙ ap (λ k. own_total ws n w k c) all
+        (λ j. own_total ws n w (row * w) c + last j) ∙ sym (nat_sum_plus (row * w) w (own_weight ws n w c))
+        ∙ ap (λ k. own_total ws n w k c) all
 
     pub total_within : own_total ws n w ((row + 1) * w) c ≤ own_total ws n w (rows * w) c
-    total_within = nat_sum_part ((row + 1) * w) (rows * w) (own_weight ws n w c) (rows_le (row + 1) rows w (omega arith))
+    total_within = nat_sum_part ((row + 1) * w) (rows * w) (own_weight ws n w c)
+        (rows_le (row + 1) rows w (omega arith))
       where
         rows_le : (x y w : ℕ) → x ≤ y → x * w ≤ y * w
         rows_le x y w le = mul-le-mul_right w le
 
     -- a place of the run can be counted
     pub place_few : (j : ℕ) → j < w → row * w + j < 2 ^ 22
-    place_few j lt = let all = run_within in let limit = runs.limit in few_places row n w c j lt class_in (omega arith)
+    place_few j lt = let all = run_within in let limit = runs.limit in
+        few_places row n w c j lt class_in (omega arith)
       where
         few_places : (row n w c j : ℕ) → j < w → c < n → (row * n + c) * w + w ≤ 2 ^ 22 → row * w + j < 2 ^ 22
         few_places row zero w c j lt some all = absurd (omega arith)
@@ -137,18 +145,23 @@ pub record AreRunsOf (ws : List Span) (rows n w row a b : ℕ) (one other : List
   pub first_total : t ≡ own_total ws n w (rows * w) a
   pub second_total : u ≡ own_total ws n w (rows * w) b
 
-module _ (ws : List Span) (rows n w row a b : ℕ) (one other : List Span) (t u : ℕ) (are : AreRunsOf ws rows n w row a b one other t u) where
+module _ (ws : List Span) (rows n w row a b : ℕ) (one other : List Span) (t u : ℕ)
+    (are : AreRunsOf ws rows n w row a b one other t u) where
   first_here : (j : ℕ) → j < w → low_at one j ≡ own_weight ws n w a (row * w + j)
-  first_here j lt = ap unsigned_abs (are.first j lt) ∙ sym (place_in_run ws rows n w are.runs row a are.row_in are.first_in j lt)
+  first_here j lt = ap unsigned_abs (are.first j lt) ∙ sym (place_in_run ws rows n w are.runs row a are.row_in
+      are.first_in j lt)
 
   second_here : (j : ℕ) → j < w → low_at other j ≡ own_weight ws n w b (row * w + j)
-  second_here j lt = ap unsigned_abs (are.second j lt) ∙ sym (place_in_run ws rows n w are.runs row b are.row_in are.second_in j lt)
+  second_here j lt = ap unsigned_abs (are.second j lt) ∙ sym
+      (place_in_run ws rows n w are.runs row b are.row_in are.second_in j lt)
 
-  in_proportion : (j : ℕ) → j < w → low_at one j * u ≡ low_at other j * t → AreInProportion ws n w (rows * w) a b (row * w + j)
+  in_proportion : (j : ℕ) → j < w → low_at one j * u ≡ low_at other j * t
+      → AreInProportion ws n w (rows * w) a b (row * w + j)
   in_proportion j lt same =
       (λ i. sym (first_here j lt) i * sym are.second_total i) ∙ same ∙ (λ i. second_here j lt i * are.first_total i)
 
-  as_runs : (j : ℕ) → j < w → AreInProportion ws n w (rows * w) a b (row * w + j) → low_at one j * u ≡ low_at other j * t
+  as_runs : (j : ℕ) → j < w → AreInProportion ws n w (rows * w) a b (row * w + j)
+      → low_at one j * u ≡ low_at other j * t
   as_runs j lt same =
       (λ i. first_here j lt i * are.second_total i) ∙ same ∙ (λ i. sym (second_here j lt) i * sym are.first_total i)
 

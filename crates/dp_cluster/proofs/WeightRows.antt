@@ -11,10 +11,16 @@ use Rattle.dp_cluster.proofs.OwnParts.{made_at}
 
 pub rows_length : (W : ℕ → ℕ → Span) (S n : ℕ) → length (weight_rows W S n) ≡ n * S
 rows_length W S zero = omega arith
-rows_length W S (suc n) = omega (arith, length-append (weight_rows W S n) (map (W n) (range_with_len 0 S)), rows_length W S n, length-map-range_with_len (W n) 0 S)
+rows_length W S (suc n) = omega (
+  arith,
+  length-append (weight_rows W S n) (map (W n) (range_with_len 0 S)),
+  rows_length W S n,
+  length-map-range_with_len (W n) 0 S,
+)
 
 -- the weight of a joint class and a state
-pub rows_at : (W : ℕ → ℕ → Span) (S n C s : ℕ) (d : Span) → C < n → s < S → get_or (weight_rows W S n) (C * S + s) d ≡ W C s
+pub rows_at : (W : ℕ → ℕ → Span) (S n C s : ℕ) (d : Span) → C < n → s < S
+    → get_or (weight_rows W S n) (C * S + s) d ≡ W C s
 rows_at W S zero C s d hC hs = absurd (omega arith)
 rows_at W S (suc n) C s d hC hs =
     let long = rows_length W S n in
@@ -26,5 +32,6 @@ rows_at W S (suc n) C s d hC hs =
           ∙ made_at S s d (W n) hs ∙ ap (λ (z : ℕ). W z s) (sym e)
       | inr lt ↦
           let inside : C * S + s < length (weight_rows W S n) = rw long (row_below C n S s lt hs) in
-          get_or_append_left (weight_rows W S n) (map (W n) (range_with_len 0 S)) d (C * S + s) inside ∙ rows_at W S n C s d lt hs
+          get_or_append_left (weight_rows W S n) (map (W n) (range_with_len 0 S)) d (C * S + s) inside
+          ∙ rows_at W S n C s d lt hs
     ]

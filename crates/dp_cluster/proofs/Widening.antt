@@ -43,7 +43,8 @@ next_product (n ∷ ns) [] e = absurd (omega arith)
 next_product (n ∷ ns) (d ∷ ds) e = rw (next_product ns ds (omega arith)) (omega arith)
 
 next_classes : (m : Model) (k : KeptFront) → IsFrontOf m k → (joint seen : ℕ)
-    → joint ≡ product (class_counts k.front.agents) → seen ≡ joint_observations m → joint * seen ≡ product (next_class_counts m.observations k.front.agents)
+    → joint ≡ product (class_counts k.front.agents) → seen ≡ joint_observations m
+    → joint * seen ≡ product (next_class_counts m.observations k.front.agents)
 unfolding joint_observations
 next_classes m k is joint seen ej es =
     let observed = as_many_agents is.front.agents in
@@ -52,7 +53,8 @@ next_classes m k is joint seen ej es =
     (λ j. ej j * es j) ∙ sym (next_product m.observations k.front.agents alike)
 
 pub widens_by_room : (m : Model) (k : KeptFront) → IsFrontOf m k → (joint seen : ℕ)
-    → joint ≡ product (class_counts k.front.agents) → seen ≡ joint_observations m → (r : Bool) → r ≡ is_room m (joint * seen) → suc k.front.stage < k.horizon
+    → joint ≡ product (class_counts k.front.agents) → seen ≡ joint_observations m → (r : Bool)
+    → r ≡ is_room m (joint * seen) → suc k.front.stage < k.horizon
     → not r ≡ widens m k.horizon k.front
 unfolding widens
 widens_by_room m k is joint seen ej es r room lt =

@@ -20,8 +20,8 @@ abbrev pub weight_rows : (ℕ → ℕ → Span) → ℕ → ℕ → List Span
 weight_rows W states zero = []
 weight_rows W states (suc n) = weight_rows W states n ++ map (W n) (range_with_len 0 states)
 
--- The weights that are kept are those of the joint classes in the arithmetic, each joint class steps as the sum of its
--- joint histories, and every call and every sum of the step is allowed.
+-- The weights that are kept are those of the joint classes in the arithmetic, each joint class steps as the sum of
+-- its joint histories, and every call and every sum of the step is allowed.
 pub record IsAdvanceable (A : Arithmetic) (C : Calls) (m : Model) (k : KeptFront) : Type 0 where
   pub model : IsModel m
   pub states : k.states ≡ m.states
@@ -37,5 +37,6 @@ pub record IsAdvanceable (A : Arithmetic) (C : Calls) (m : Model) (k : KeptFront
       → kept_weight k D s ≡ class_weight_in A m k.front D s
   pub earned : k.earned ≡ earned_reward_in A m (fixed_joint_action m k.front) k.horizon k.front.stage
   pub room : (r : ℕ) → k.front.stage + suc r ≡ k.horizon
-      → earned_size A m (fixed_joint_action m k.front) k.horizon k.front.stage + class_reward_size A m r k.front (chosen_joint_action m k.front)
+      → earned_size A m (fixed_joint_action m k.front) k.horizon k.front.stage + class_reward_size A m r k.front
+      (chosen_joint_action m k.front)
       < 2 ^ 127

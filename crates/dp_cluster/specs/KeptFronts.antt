@@ -10,8 +10,8 @@ use Rattle.dp_spec.specs.Quantities.{class_weight_in, earned_reward_in}
 use Rattle.dp_spec.specs.WellFormed.{IsFront, KeepsHistoriesApart}
 use Rattle.dp_cluster.specs.AgentParts.{OwnPart}
 
--- a front, its horizon and mode, how many states and observations there are, the weights of the joint classes, one for
--- each state, joint class by joint class, and what is earned before the stage
+-- a front, its horizon and mode, how many states and observations there are, the weights of the joint classes, one
+-- for each state, joint class by joint class, and what is earned before the stage
 pub record KeptFront : Type 0 where
   pub horizon : ℕ
   pub is_exact : Bool
@@ -50,15 +50,16 @@ choice_at [] i c = None
 choice_at (d ∷ ds) zero c = get_or d.chosen c None
 choice_at (d ∷ ds) (suc i) c = choice_at ds i c
 
--- what every front keeps: before the horizon one weight for each joint class and state, of which there are at most 2^22
+-- what every front keeps: before the horizon one weight for each joint class and state, of which there are at most
+-- 2^22
 pub record IsStored (k : KeptFront) : Type 0 where
   pub agents : length k.front.agents ≤ 6
   pub limit : k.front.stage ≤ k.horizon
   pub room : k.front.stage < k.horizon → product (class_counts k.front.agents) * k.states ≤ 2 ^ 22
   pub weights : k.front.stage < k.horizon → length k.weights ≡ product (class_counts k.front.agents) * k.states
 
--- It is a front of the model: well formed, of the mode of its horizon, with the weights of its joint classes and what it
--- has earned in the arithmetic of that mode. In outward mode no two own histories share a class.
+-- It is a front of the model: well formed, of the mode of its horizon, with the weights of its joint classes and
+-- what it has earned in the arithmetic of that mode. In outward mode no two own histories share a class.
 pub record IsFrontOf (m : Model) (k : KeptFront) : Type 0 where
   pub model : IsModel m
   pub some_step : 0 < k.horizon

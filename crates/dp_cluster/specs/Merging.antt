@@ -20,8 +20,8 @@ pub record AreMerged (m : Model) (k : KeptFront) (i a b : ℕ) : Type 0 where
   pub comparable : AreComparable k i a b
   pub equivalent : AreEquivalent m k.front i a b
 
--- What a fault says of classes a and b of agent i. These cases exclude one another, and `Memory` comes only where the two
--- are merged else; so each other fault comes exactly where what it says holds.
+-- What a fault says of classes a and b of agent i. These cases exclude one another, and `Memory` comes only where
+-- the two are merged else; so each other fault comes exactly where what it says holds.
 abbrev pub IsMergeFault : Model → KeptFront → ℕ → ℕ → ℕ → MergeFault → Type 0
 IsMergeFault m k i a b Rounded = k.is_exact ≡ false
 IsMergeFault m k i a b Same = (k.is_exact ≡ true) × (a ≡ b)

@@ -53,7 +53,8 @@ fn advanced_parts(alloc: Global, front: &Front, m: &Model) -> Result<Vec<Rc<Agen
     requires stage { front.now.front.stage < front.now.horizon }
     ensures fronts { IfOk result (λ v. part_fronts (map (λ p. p.value) v.items) ≡
         advanced_agents m.now.model.observations front.now.front.stage front.now.front.agents) }
-    ensures observations { IfOk result (λ v. part_observations (map (λ p. p.value) v.items) ≡ m.now.model.observations) }
+    ensures observations { IfOk result (λ v. part_observations (map (λ p. p.value) v.items) ≡
+        m.now.model.observations) }
 {
     front.invariant();
     let mut all = Vec::new(alloc);
@@ -69,7 +70,8 @@ fn earned_in(front: &Front, m: &Model) -> Span
     requires of_model { IsFrontOf m.now.model front.now }
     requires stage { front.now.front.stage < front.now.horizon }
     ensures { result ≡ earned_reward_in (arithmetic front.now.is_exact m.now.model.scales) m.now.model
-        (fixed_joint_action m.now.model (advanced_front m.now.model front.now.front)) front.now.horizon (suc front.now.front.stage) }
+        (fixed_joint_action m.now.model (advanced_front m.now.model front.now.front)) front.now.horizon
+        (suc front.now.front.stage) }
 {
     front.invariant();
     if front.is_exact() {
@@ -83,7 +85,8 @@ fn earned_in(front: &Front, m: &Model) -> Span
 fn earned_after<A: Arith>(arith: &A, front: &Front, m: &Model) -> Span
     requires sizes { IsAdvanceable (A.operations arith.now) (A.calls arith.now) m.now.model front.now }
     ensures { result ≡ earned_reward_in (A.operations arith.now) m.now.model
-        (fixed_joint_action m.now.model (advanced_front m.now.model front.now.front)) front.now.horizon (suc front.now.front.stage) }
+        (fixed_joint_action m.now.model (advanced_front m.now.model front.now.front)) front.now.horizon
+        (suc front.now.front.stage) }
 {
     m.invariant();
     let rest = front.horizon() - front.stage() - 1;
@@ -104,7 +107,8 @@ fn weights_in(alloc: Global, front: &Front, m: &Model) -> Result<Vec<Span>, Memo
     requires room { suc front.now.front.stage < front.now.horizon →
         product (class_counts front.now.front.agents) * joint_observations m.now.model * m.now.model.states ≤ 2 ^ 22 }
     ensures { IfOk result (λ v. suc front.now.front.stage < front.now.horizon → v.items ≡
-        weight_rows (class_weight_in (arithmetic front.now.is_exact m.now.model.scales) m.now.model (advanced_front m.now.model front.now.front))
+        weight_rows (class_weight_in (arithmetic front.now.is_exact m.now.model.scales) m.now.model
+        (advanced_front m.now.model front.now.front))
         m.now.model.states (product (class_counts front.now.front.agents) * joint_observations m.now.model)) }
 {
     front.invariant();
@@ -125,9 +129,11 @@ fn weights_after<A: Arith>(
     m: &Model,
 ) -> Result<Vec<Span>, Memory>
     requires sizes { IsAdvanceable (A.operations arith.now) (A.calls arith.now) m.now.model front.now }
-    requires room { product (class_counts front.now.front.agents) * joint_observations m.now.model * m.now.model.states ≤ 2 ^ 22 }
+    requires room { product (class_counts front.now.front.agents) * joint_observations m.now.model *
+        m.now.model.states ≤ 2 ^ 22 }
     ensures { IfOk result (λ v. v.items ≡
-        weight_rows (class_weight_in (A.operations arith.now) m.now.model (advanced_front m.now.model front.now.front))
+        weight_rows (class_weight_in (A.operations arith.now) m.now.model
+        (advanced_front m.now.model front.now.front))
         m.now.model.states (product (class_counts front.now.front.agents) * joint_observations m.now.model)) }
 {
     m.invariant();
@@ -155,7 +161,8 @@ fn push_weights<A: Arith>(
     requires seen { seen < joint_observations m.now.model }
     ensures { IfOk result (λ _. weights.new.items ≡ weights.old.items ++ map
         (class_weight_in (A.operations arith.now) m.now.model (advanced_front m.now.model front.now.front)
-        (pair_number (class_counts front.now.front.agents) m.now.model.observations class seen)) (range_with_len 0 m.now.model.states)) }
+        (pair_number (class_counts front.now.front.agents) m.now.model.observations class seen))
+        (range_with_len 0 m.now.model.states)) }
 {
     m.invariant();
     let action = action_of(front, m, class);
@@ -185,7 +192,8 @@ fn pair_of(front: &Front, m: &Model, count: usize, next: usize) -> Pair
     requires next { next < count }
     ensures class { result.class < product (class_counts front.now.front.agents) }
     ensures seen { result.seen < joint_observations m.now.model }
-    ensures number { pair_number (class_counts front.now.front.agents) m.now.model.observations result.class result.seen ≡ next }
+    ensures number { pair_number (class_counts front.now.front.agents) m.now.model.observations
+        result.class result.seen ≡ next }
 {
     let mut left = count;
     let mut rest = next;

@@ -52,7 +52,8 @@ impl Front {
         requires stage { self.now.front.stage < self.now.horizon }
         requires agent { agent < length self.now.front.agents }
         ensures { IfOk result (λ v.
-            (m : PlainModel) → IsFrontOf m self.now → AreVectorsOf m self.now.front agent (own_count self.now agent) v.items) }
+            (m : PlainModel) → IsFrontOf m self.now →
+            AreVectorsOf m self.now.front agent (own_count self.now agent) v.items) }
     {
         let places = self.places(agent);
         let mut vectors = Vec::new(alloc);
@@ -76,7 +77,8 @@ impl Front {
         requires agent { agent < length self.now.front.agents }
         requires class { class < own_count self.now agent }
         requires places { ArePlacesOf self.now agent places }
-        ensures { IfOk result (λ v. (m : PlainModel) → IsFrontOf m self.now → IsVectorOf m self.now.front agent class v) }
+        ensures { IfOk result (λ v. (m : PlainModel) → IsFrontOf m self.now →
+            IsVectorOf m self.now.front agent class v) }
     {
         if self.action(agent, class).is_some() {
             return Ok(OwnVector::Assigned);

@@ -49,9 +49,11 @@ impl std::marker::Model for Front {
 
     ghost Value = { KeptFront };
 
-    ghost view = { λ f. kept_front f.horizon f.exact f.states f.stage (map (λ p. p.value) f.agents.items) f.weights.value.items f.earned };
+    ghost view = { λ f. kept_front f.horizon f.exact f.states f.stage
+        (map (λ p. p.value) f.agents.items) f.weights.value.items f.earned };
 
-    ghost invariant = { λ f. IsStored (kept_front f.horizon f.exact f.states f.stage (map (λ p. p.value) f.agents.items) f.weights.value.items f.earned) };
+    ghost invariant = { λ f. IsStored (kept_front f.horizon f.exact f.states f.stage
+        (map (λ p. p.value) f.agents.items) f.weights.value.items f.earned) };
 }
 
 impl Front {
@@ -119,8 +121,10 @@ impl Front {
         requires stage { self.now.front.stage < self.now.horizon }
         requires classes { AreParts (class_counts self.now.front.agents) classes.now }
         requires state { s < self.now.states }
-        ensures kept { result ≡ kept_weight self.now (joint_number (class_counts self.now.front.agents) classes.now) s }
-        ensures is { (m : PlainModel) → IsFrontOf m self.now → result ≡ class_weight_in (arithmetic self.now.is_exact m.scales) m
+        ensures kept { result ≡ kept_weight self.now
+            (joint_number (class_counts self.now.front.agents) classes.now) s }
+        ensures is { (m : PlainModel) → IsFrontOf m self.now → result ≡
+            class_weight_in (arithmetic self.now.is_exact m.scales) m
             self.now.front (joint_number (class_counts self.now.front.agents) classes.now) s }
     {
         self.invariant();
@@ -149,7 +153,8 @@ impl Front {
     #[inline]
     pub fn earned(&self) -> Span
         ensures kept { result ≡ self.now.earned }
-        ensures is { (m : PlainModel) → IsFrontOf m self.now → result ≡ earned_reward_in (arithmetic self.now.is_exact m.scales) m
+        ensures is { (m : PlainModel) → IsFrontOf m self.now → result ≡
+            earned_reward_in (arithmetic self.now.is_exact m.scales) m
             (fixed_joint_action m self.now.front) self.now.horizon self.now.front.stage }
     {
         self.earned
@@ -165,9 +170,12 @@ impl Front {
     ) -> Result<Front, Memory>
         requires stage { self.now.front.stage < self.now.horizon }
         requires unassigned { IsUnassigned agent class self.now.front.agents }
-        ensures is { IfOk result (λ f. f ≡ record self.now { front = chosen_front self.now.front agent class action }) }
-        ensures of_model { IfOk result (λ f. (m : PlainModel) → IsFrontOf m self.now → action < get_or m.actions agent 0 → IsFrontOf m f) }
-        ensures keeps { IfOk result (λ _. (m : PlainModel) → IsFrontOf m self.now → KeepsSomeChoice m self.now.horizon self.now.front agent class) }
+        ensures is { IfOk result (λ f. f ≡
+            record self.now { front = chosen_front self.now.front agent class action }) }
+        ensures of_model { IfOk result (λ f. (m : PlainModel) → IsFrontOf m self.now →
+            action < get_or m.actions agent 0 → IsFrontOf m f) }
+        ensures keeps { IfOk result (λ _. (m : PlainModel) → IsFrontOf m self.now →
+            KeepsSomeChoice m self.now.horizon self.now.front agent class) }
     {
         let part = self.part(agent).with_choice(alloc, class, action)?;
         let parts: &[Rc<AgentPart>] = &self.agents;
@@ -278,7 +286,8 @@ impl Front {
     ) -> Front
         requires stage { self.now.front.stage < self.now.horizon }
         requires horizon { self.now.horizon ≤ 24 }
-        requires stored { IsStored (kept_front self.now.horizon self.now.is_exact self.now.states (suc self.now.front.stage)
+        requires stored { IsStored (kept_front self.now.horizon self.now.is_exact self.now.states
+            (suc self.now.front.stage)
             (map (λ p. p.value) agents.items) weights.value.items earned) }
         ensures { result ≡ kept_front self.now.horizon self.now.is_exact self.now.states (suc self.now.front.stage)
             (map (λ p. p.value) agents.items) weights.value.items earned }
@@ -363,7 +372,8 @@ fn start_weights_in(
     requires horizon { horizon ≤ 24 }
     requires mode { exact ≡ is_exact_mode m.now.model horizon }
     ensures { IfOk result (λ v. v.items ≡
-        map (λ s. (arithmetic exact m.now.model.scales).start (start_at m.now.model s)) (range_with_len 0 m.now.model.states)) }
+        map (λ s. (arithmetic exact m.now.model.scales).start (start_at m.now.model s))
+        (range_with_len 0 m.now.model.states)) }
 {
     m.invariant();
     if exact {

@@ -33,7 +33,8 @@ pub(crate) fn joined_weights(
     requires first { IsUnassigned agent first front.now.front.agents }
     requires second { IsUnassigned agent second front.now.front.agents }
     ensures { IfOk result (λ v. v.items ≡ weight_rows (merged_weight front.now agent first second) front.now.states
-        (product (take agent (class_counts front.now.front.agents)) * (own_count front.now agent - 1) * behind front.now agent)) }
+        (product (take agent (class_counts front.now.front.agents)) *
+        (own_count front.now agent - 1) * behind front.now agent)) }
 {
     front.invariant();
     let count = front.classes(agent) as usize;

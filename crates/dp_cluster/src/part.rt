@@ -299,7 +299,8 @@ fn tree_after(
     requires reached { IsReached observations (map (λ s. s.value) past.now) left class }
     ensures { IfOk result (λ q. (t x : ℕ) → t + left ≡ length past.now → x < observations ^ t →
         class_after observations (drop left (map (λ s. s.value) past.now)) x ≡ class →
-        policy_tree q ≡ tree_doing_after observations (action_after observations (map (λ s. s.value) past.now)) left t x) }
+        policy_tree q ≡ tree_doing_after observations
+        (action_after observations (map (λ s. s.value) past.now)) left t x) }
 {
     let stage = past[left - 1].as_ref();
     let mut kids = Vec::new(alloc);

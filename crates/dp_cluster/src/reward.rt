@@ -19,9 +19,11 @@ pub(crate) fn weighted_reward<A: Arith>(
     rest: u32,
 ) -> Span
     requires one_each { length weights.now ≡ model.now.model.states }
-    requires sizes { IsRewardable (A.operations arith.now) (A.calls arith.now) model.now.model rest (weights_of weights.now) }
+    requires sizes { IsRewardable (A.operations arith.now) (A.calls arith.now) model.now.model rest
+        (weights_of weights.now) }
     requires action { action < joint_actions model.now.model }
-    ensures { result ≡ weighted_reward_in (A.operations arith.now) model.now.model rest (weights_of weights.now) action }
+    ensures { result ≡ weighted_reward_in (A.operations arith.now) model.now.model rest
+        (weights_of weights.now) action }
 {
     let mut total = Span { low: 0, high: 0 };
     for state in 0..model.states() {
@@ -43,10 +45,12 @@ fn reward_from<A: Arith>(
     state: u32,
 ) -> Span
     requires one_each { length weights.now ≡ model.now.model.states }
-    requires sizes { IsRewardable (A.operations arith.now) (A.calls arith.now) model.now.model rest (weights_of weights.now) }
+    requires sizes { IsRewardable (A.operations arith.now) (A.calls arith.now) model.now.model rest
+        (weights_of weights.now) }
     requires action { action < joint_actions model.now.model }
     requires state { state < model.now.model.states }
-    ensures { result ≡ reward_from (A.operations arith.now) model.now.model rest (weights_of weights.now state) action state }
+    ensures { result ≡ reward_from (A.operations arith.now) model.now.model rest
+        (weights_of weights.now state) action state }
 {
     let mut total = Span { low: 0, high: 0 };
     for next in 0..model.states() {
@@ -69,11 +73,13 @@ fn reward_arriving<A: Arith>(
     next: u32,
 ) -> Span
     requires one_each { length weights.now ≡ model.now.model.states }
-    requires sizes { IsRewardable (A.operations arith.now) (A.calls arith.now) model.now.model rest (weights_of weights.now) }
+    requires sizes { IsRewardable (A.operations arith.now) (A.calls arith.now) model.now.model rest
+        (weights_of weights.now) }
     requires action { action < joint_actions model.now.model }
     requires state { state < model.now.model.states }
     requires next { next < model.now.model.states }
-    ensures { result ≡ reward_arriving (A.operations arith.now) model.now.model rest (weights_of weights.now state) action state next }
+    ensures { result ≡ reward_arriving (A.operations arith.now) model.now.model rest
+        (weights_of weights.now state) action state next }
 {
     let mut total = Span { low: 0, high: 0 };
     for seen in 0..model.joint_observations() {

@@ -61,7 +61,8 @@ impl Front {
     pub(crate) fn total(&self, places: Places, class: u32) -> u128
         requires runs { AreOwnRuns self.now.weights places.rows places.classes places.width }
         requires class { class < places.classes }
-        requires room { own_total self.now.weights places.classes places.width (places.rows * places.width) class < 2 ^ 127 }
+        requires room { own_total self.now.weights places.classes places.width
+            (places.rows * places.width) class < 2 ^ 127 }
         ensures { result ≡ own_total self.now.weights places.classes places.width (places.rows * places.width) class }
     {
         let mut total = 0;
@@ -81,7 +82,8 @@ impl Front {
         requires runs { AreOwnRuns self.now.weights places.rows places.classes places.width }
         requires class { class < places.classes }
         ensures { IfOk result (λ v. v.items ≡
-            map (own_low self.now.weights places.classes places.width class) (range_with_len 0 (places.rows * places.width))) }
+            map (own_low self.now.weights places.classes places.width class) (range_with_len 0
+            (places.rows * places.width))) }
     {
         let mut weights = Vec::new(alloc);
         for row in 0..places.rows {
@@ -95,8 +97,10 @@ impl Front {
         requires runs { AreOwnRuns self.now.weights places.rows places.classes places.width }
         requires first { first < places.classes }
         requires second { second < places.classes }
-        requires first_room { own_total self.now.weights places.classes places.width (places.rows * places.width) first < 2 ^ 127 }
-        requires second_room { own_total self.now.weights places.classes places.width (places.rows * places.width) second < 2 ^ 127 }
+        requires first_room { own_total self.now.weights places.classes places.width
+            (places.rows * places.width) first < 2 ^ 127 }
+        requires second_room { own_total self.now.weights places.classes places.width
+            (places.rows * places.width) second < 2 ^ 127 }
         ensures { MatchOption result
             ((p : ℕ) → p < places.rows * places.width →
             AreInProportion self.now.weights places.classes places.width (places.rows * places.width) first second p)

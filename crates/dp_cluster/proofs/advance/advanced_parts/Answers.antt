@@ -11,46 +11,62 @@ advanced-requires-clause-classes c =
     let k = c.args.front.now in
     let m = c.args.m.now.model in
     let is = c.requires.of_model in
-    let inside : c.loop-agent.agent < length k.front.agents = omega (arith, c.agents-agent-end.ensures, c.loop-agent-test.true) in
-    part_has_classes m k is c.invariant.ensures c.requires.stage c.loop-agent.agent inside c.part.result.now c.part.ensures.front c.part.ensures.observations
+    let inside : c.loop-agent.agent < length k.front.agents = omega
+    (arith, c.agents-agent-end.ensures, c.loop-agent-test.true) in
+    part_has_classes m k is c.invariant.ensures c.requires.stage c.loop-agent.agent inside c.part.result.now
+    c.part.ensures.front c.part.ensures.observations
 
 pub advanced-requires-clause-room : goal.advanced-requires-clause-room
 advanced-requires-clause-room c =
     let k = c.args.front.now in
     let m = c.args.m.now.model in
     let is = c.requires.of_model in
-    let inside : c.loop-agent.agent < length k.front.agents = omega (arith, c.agents-agent-end.ensures, c.loop-agent-test.true) in
-    part_room m k is c.invariant.ensures c.requires.stage c.loop-agent.agent inside c.part.result.now c.part.ensures.front c.part.ensures.observations
+    let inside : c.loop-agent.agent < length k.front.agents = omega
+    (arith, c.agents-agent-end.ensures, c.loop-agent-test.true) in
+    part_room m k is c.invariant.ensures c.requires.stage c.loop-agent.agent inside c.part.result.now
+    c.part.ensures.front c.part.ensures.observations
 
 pub loop-agent-preserved : goal.loop-agent-preserved
 loop-agent-preserved c =
     let k = c.args.front.now in
     let m = c.args.m.now.model in
     let is = c.requires.of_model in
-    let inside : c.loop-agent.agent < length k.front.agents = omega (arith, c.agents-agent-end.ensures, c.loop-agent-test.true) in
+    let inside : c.loop-agent.agent < length k.front.agents = omega
+    (arith, c.agents-agent-end.ensures, c.loop-agent-test.true) in
     let seen = seen_of is.front.agents in
-    let pushed = ap (map (λ p. p.value)) c.in_ok-push.ensures.items ∙ map_push (λ p. p.value) c.loop-agent.all.items c.in_ok-new.field-0 in
+    let pushed = ap (map (λ p. p.value)) c.in_ok-push.ensures.items
+    ∙ map_push (λ p. p.value) c.loop-agent.all.items c.in_ok-new.field-0 in
     let value : c.in_ok-new.field-0.value ≡ _ = c.in_ok-new.ensures.ok ∙ c.in_ok-part.ensures in
     record {
-      fronts = next_taken (λ (p : OwnPart). p.front) (map (λ p. p.value) c.loop-agent.all.items) (map (λ p. p.value) c.push.new.self.items) c.in_ok-new.field-0.value (advanced_agents m.observations k.front.stage k.front.agents) c.loop-agent.agent
+      fronts = next_taken (λ (p : OwnPart). p.front) (map (λ p. p.value) c.loop-agent.all.items)
+          (map (λ p. p.value) c.push.new.self.items) c.in_ok-new.field-0.value
+          (advanced_agents m.observations k.front.stage k.front.agents) c.loop-agent.agent
           (omega (arith, advanced_length m.observations k.front.stage k.front.agents seen))
-          (ap (λ (p : OwnPart). p.front) value ∙ sym (part_advanced_is m k is c.invariant.ensures c.requires.stage c.loop-agent.agent inside c.part.result.now c.part.ensures.front c.part.ensures.observations _))
+          (ap (λ (p : OwnPart). p.front) value ∙ sym (part_advanced_is m k is c.invariant.ensures c.requires.stage
+          c.loop-agent.agent inside c.part.result.now c.part.ensures.front c.part.ensures.observations _))
           pushed c.loop-agent.invariant.fronts;
-      seen = next_taken (λ (p : OwnPart). p.observations) (map (λ p. p.value) c.loop-agent.all.items) (map (λ p. p.value) c.push.new.self.items) c.in_ok-new.field-0.value m.observations c.loop-agent.agent
-          (omega arith) (ap (λ (p : OwnPart). p.observations) value ∙ sym (part_seen_is m k is c.invariant.ensures c.requires.stage c.loop-agent.agent inside c.part.result.now c.part.ensures.front c.part.ensures.observations _)) pushed c.loop-agent.invariant.seen;
+      seen = next_taken (λ (p : OwnPart). p.observations) (map (λ p. p.value) c.loop-agent.all.items)
+          (map (λ p. p.value) c.push.new.self.items) c.in_ok-new.field-0.value m.observations c.loop-agent.agent
+          (omega arith) (ap (λ (p : OwnPart). p.observations) value
+          ∙ sym (part_seen_is m k is c.invariant.ensures c.requires.stage c.loop-agent.agent inside
+          c.part.result.now c.part.ensures.front c.part.ensures.observations _))
+          pushed c.loop-agent.invariant.seen;
     }
 
 pub returns-clause-fronts : goal.returns-clause-fronts
 returns-clause-fronts c =
     let k = c.args.front.now in
     let m = c.args.m.now.model in
-    let le : length k.front.agents ≤ c.loop-agent.agent = omega (arith, c.agents-agent-end.ensures, c.loop-agent-test.false) in
+    let le : length k.front.agents ≤ c.loop-agent.agent = omega
+    (arith, c.agents-agent-end.ensures, c.loop-agent-test.false) in
     let seen = seen_of c.requires.of_model.front.agents in
-    c.loop-agent.invariant.fronts ∙ taken_whole (advanced_agents m.observations k.front.stage k.front.agents) c.loop-agent.agent (omega (arith, advanced_length m.observations k.front.stage k.front.agents seen))
+    c.loop-agent.invariant.fronts ∙ taken_whole (advanced_agents m.observations k.front.stage k.front.agents)
+    c.loop-agent.agent (omega (arith, advanced_length m.observations k.front.stage k.front.agents seen))
 
 pub returns-clause-observations : goal.returns-clause-observations
 returns-clause-observations c =
     let k = c.args.front.now in
-    let le : length k.front.agents ≤ c.loop-agent.agent = omega (arith, c.agents-agent-end.ensures, c.loop-agent-test.false) in
+    let le : length k.front.agents ≤ c.loop-agent.agent = omega
+    (arith, c.agents-agent-end.ensures, c.loop-agent-test.false) in
     let seen = seen_of c.requires.of_model.front.agents in
     c.loop-agent.invariant.seen ∙ taken_whole c.args.m.now.model.observations c.loop-agent.agent (omega arith)

@@ -25,9 +25,12 @@ weighted_reward-reward-requires-clause-sizes g c =
     let k = c.args.front.now in
     let is = c.requires.sizes in
     let early = is.early in
-    let e : k.front.stage + suc (c.horizon.result - c.stage.result - 1) ≡ k.horizon = omega (arith, c.horizon.ensures, c.stage.ensures) in
-    let lt : c.loop-class.class < product (class_counts k.front.agents) = omega (arith, c.joint_classes-class-end.ensures.is, c.loop-class-test.true) in
-    rewardable A C m k is c.loop-class.class lt (weights_of c.class_weights.result.now) c.class_weights.ensures.are _ e
+    let e : k.front.stage + suc (c.horizon.result - c.stage.result - 1)
+    ≡ k.horizon = omega (arith, c.horizon.ensures, c.stage.ensures) in
+    let lt : c.loop-class.class < product (class_counts k.front.agents) = omega
+    (arith, c.joint_classes-class-end.ensures.is, c.loop-class-test.true) in
+    rewardable A C m k is c.loop-class.class lt (weights_of c.class_weights.result.now)
+    c.class_weights.ensures.are _ e
 
 pub add_spans-total-requires : goal.add_spans-total-requires
 add_spans-total-requires g c =
@@ -37,12 +40,21 @@ add_spans-total-requires g c =
     let k = c.args.front.now in
     let is = c.requires.sizes in
     let early = is.early in
-    let e : k.front.stage + suc (c.horizon.result - c.stage.result - 1) ≡ k.horizon = omega (arith, c.horizon.ensures, c.stage.ensures) in
-    let lt : c.loop-class.class < product (class_counts k.front.agents) = omega (arith, c.joint_classes-class-end.ensures.is, c.loop-class-test.true) in
-    let reward = c.weighted_reward-reward.ensures ∙ ap (λ (a : ℕ). weighted_reward_in A m (c.horizon.result - c.stage.result - 1) (weights_of c.class_weights.result.now) a) c.action_of-action.ensures.is
-    ∙ rewarded_is A C m k is c.loop-class.class lt (weights_of c.class_weights.result.now) c.class_weights.ensures.are (c.horizon.result - c.stage.result - 1) in
-    let step = earned_next A C m k is (c.horizon.result - c.stage.result - 1) c.loop-class.class c.loop-class.total c.weighted_reward-reward.result c.loop-class.invariant reward in
-    record { room = subst (λ (w : Span). size w < 2 ^ 127) (sym step) (earned_room A C m k is _ (suc c.loop-class.class) e lt) }
+    let e : k.front.stage + suc (c.horizon.result - c.stage.result - 1)
+    ≡ k.horizon = omega (arith, c.horizon.ensures, c.stage.ensures) in
+    let lt : c.loop-class.class < product (class_counts k.front.agents) = omega
+    (arith, c.joint_classes-class-end.ensures.is, c.loop-class-test.true) in
+    let reward = c.weighted_reward-reward.ensures ∙ ap (λ (a : ℕ). weighted_reward_in A m
+    (c.horizon.result - c.stage.result - 1) (weights_of c.class_weights.result.now) a)
+    c.action_of-action.ensures.is
+    ∙ rewarded_is A C m k is c.loop-class.class lt (weights_of c.class_weights.result.now)
+    c.class_weights.ensures.are (c.horizon.result - c.stage.result - 1) in
+    let step = earned_next A C m k is (c.horizon.result - c.stage.result - 1)
+    c.loop-class.class c.loop-class.total c.weighted_reward-reward.result c.loop-class.invariant reward in
+    record {
+      room = subst (λ (w : Span). size w < 2 ^ 127) (sym step)
+          (earned_room A C m k is _ (suc c.loop-class.class) e lt);
+    }
 
 pub loop-class-preserved : goal.loop-class-preserved
 loop-class-preserved g c =
@@ -52,12 +64,19 @@ loop-class-preserved g c =
     let k = c.args.front.now in
     let is = c.requires.sizes in
     let early = is.early in
-    let e : k.front.stage + suc (c.horizon.result - c.stage.result - 1) ≡ k.horizon = omega (arith, c.horizon.ensures, c.stage.ensures) in
-    let lt : c.loop-class.class < product (class_counts k.front.agents) = omega (arith, c.joint_classes-class-end.ensures.is, c.loop-class-test.true) in
-    let reward = c.weighted_reward-reward.ensures ∙ ap (λ (a : ℕ). weighted_reward_in A m (c.horizon.result - c.stage.result - 1) (weights_of c.class_weights.result.now) a) c.action_of-action.ensures.is
-    ∙ rewarded_is A C m k is c.loop-class.class lt (weights_of c.class_weights.result.now) c.class_weights.ensures.are (c.horizon.result - c.stage.result - 1) in
-    let step = earned_next A C m k is (c.horizon.result - c.stage.result - 1) c.loop-class.class c.loop-class.total c.weighted_reward-reward.result c.loop-class.invariant reward in
-    c.add_spans-total.ensures ∙ step ∙ ap (earned_to A C m k is (c.horizon.result - c.stage.result - 1)) (sym (add-one c.loop-class.class))
+    let e : k.front.stage + suc (c.horizon.result - c.stage.result - 1)
+    ≡ k.horizon = omega (arith, c.horizon.ensures, c.stage.ensures) in
+    let lt : c.loop-class.class < product (class_counts k.front.agents) = omega
+    (arith, c.joint_classes-class-end.ensures.is, c.loop-class-test.true) in
+    let reward = c.weighted_reward-reward.ensures ∙ ap (λ (a : ℕ). weighted_reward_in A m
+    (c.horizon.result - c.stage.result - 1) (weights_of c.class_weights.result.now) a)
+    c.action_of-action.ensures.is
+    ∙ rewarded_is A C m k is c.loop-class.class lt (weights_of c.class_weights.result.now)
+    c.class_weights.ensures.are (c.horizon.result - c.stage.result - 1) in
+    let step = earned_next A C m k is (c.horizon.result - c.stage.result - 1)
+    c.loop-class.class c.loop-class.total c.weighted_reward-reward.result c.loop-class.invariant reward in
+    c.add_spans-total.ensures ∙ step ∙ ap (earned_to A C m k is (c.horizon.result - c.stage.result - 1))
+    (sym (add-one c.loop-class.class))
 
 pub returns : goal.returns
 returns g c =
@@ -67,6 +86,8 @@ returns g c =
     let k = c.args.front.now in
     let is = c.requires.sizes in
     let early = is.early in
-    let e : k.front.stage + suc (c.horizon.result - c.stage.result - 1) ≡ k.horizon = omega (arith, c.horizon.ensures, c.stage.ensures) in
-    let all : c.loop-class.class ≡ product (class_counts k.front.agents) = omega (arith, c.joint_classes-class-end.ensures.is, c.loop-class-test.false) in
+    let e : k.front.stage + suc (c.horizon.result - c.stage.result - 1)
+    ≡ k.horizon = omega (arith, c.horizon.ensures, c.stage.ensures) in
+    let all : c.loop-class.class ≡ product (class_counts k.front.agents) = omega
+    (arith, c.joint_classes-class-end.ensures.is, c.loop-class-test.false) in
     earned_end A C m k is _ c.loop-class.class c.loop-class.total e all c.loop-class.invariant

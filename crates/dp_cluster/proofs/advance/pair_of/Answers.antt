@@ -10,19 +10,37 @@ pub loop-agent-init : goal.loop-agent-init
 loop-agent-init c =
     let cs = class_counts c.args.front.now.front.agents in
     let ns = c.args.m.now.model.observations in
-    let alike : length ns ≡ length cs = omega (arith, c.requires.agents, as_many_counts c.args.front.now.front.agents) in
-    unpair_start cs ns c.args.count c.args.next alike (c.requires.count ∙ ap (λ (z : ℕ). product cs * z) (seen_product c.args.m.now.model)) c.requires.limit c.requires.next
+    let alike : length ns ≡ length cs = omega (
+      arith,
+      c.requires.agents,
+      as_many_counts c.args.front.now.front.agents,
+    ) in
+    unpair_start cs ns c.args.count c.args.next alike (c.requires.count
+    ∙ ap (λ (z : ℕ). product cs * z) (seen_product c.args.m.now.model)) c.requires.limit c.requires.next
 
 pub nonzero_div-left : goal.nonzero_div-left
 nonzero_div-left c =
     let cs = class_counts c.args.front.now.front.agents in
     let ns = c.args.m.now.model.observations in
     let seen = seen_product c.args.m.now.model in
-    let alike : length ns ≡ length cs = omega (arith, c.requires.agents, as_many_counts c.args.front.now.front.agents) in
-    let lt : c.loop-agent.agent < length cs = omega (arith, c.agents-agent-end.ensures, c.loop-agent-test.true, as_many_counts c.args.front.now.front.agents) in
-    let whole : c.args.next < product (pair_counts cs ns) = whole_is c.args.count c.args.next cs ns alike (c.requires.count ∙ ap (λ (z : ℕ). product cs * z) seen) c.requires.next in
-    let room = code_room cs ns alike c.loop-agent.agent c.loop-agent.left c.loop-agent.rest c.loop-agent.pair.class c.loop-agent.pair.seen c.args.next c.classes-classes.result c.observations-observations.result c.classes-classes.ensures
-    (c.observations-observations.ensures ∙ sym c.part.ensures.observations ∙ ap (λ l. get_or l c.loop-agent.agent 0) c.requires.observations) lt whole c.loop-agent.invariant in
+    let alike : length ns ≡ length cs = omega (
+      arith,
+      c.requires.agents,
+      as_many_counts c.args.front.now.front.agents,
+    ) in
+    let lt : c.loop-agent.agent < length cs = omega (
+      arith,
+      c.agents-agent-end.ensures,
+      c.loop-agent-test.true,
+      as_many_counts c.args.front.now.front.agents,
+    ) in
+    let whole : c.args.next < product (pair_counts cs ns) = whole_is c.args.count c.args.next cs ns alike
+    (c.requires.count ∙ ap (λ (z : ℕ). product cs * z) seen) c.requires.next in
+    let room = code_room cs ns alike c.loop-agent.agent c.loop-agent.left c.loop-agent.rest c.loop-agent.pair.class
+    c.loop-agent.pair.seen c.args.next c.classes-classes.result c.observations-observations.result
+    c.classes-classes.ensures
+    (c.observations-observations.ensures ∙ sym c.part.ensures.observations
+    ∙ ap (λ l. get_or l c.loop-agent.agent 0) c.requires.observations) lt whole c.loop-agent.invariant in
     omega (arith, room.some)
 
 pub nonzero_div-own : goal.nonzero_div-own
@@ -30,11 +48,24 @@ nonzero_div-own c =
     let cs = class_counts c.args.front.now.front.agents in
     let ns = c.args.m.now.model.observations in
     let seen = seen_product c.args.m.now.model in
-    let alike : length ns ≡ length cs = omega (arith, c.requires.agents, as_many_counts c.args.front.now.front.agents) in
-    let lt : c.loop-agent.agent < length cs = omega (arith, c.agents-agent-end.ensures, c.loop-agent-test.true, as_many_counts c.args.front.now.front.agents) in
-    let whole : c.args.next < product (pair_counts cs ns) = whole_is c.args.count c.args.next cs ns alike (c.requires.count ∙ ap (λ (z : ℕ). product cs * z) seen) c.requires.next in
-    let room = code_room cs ns alike c.loop-agent.agent c.loop-agent.left c.loop-agent.rest c.loop-agent.pair.class c.loop-agent.pair.seen c.args.next c.classes-classes.result c.observations-observations.result c.classes-classes.ensures
-    (c.observations-observations.ensures ∙ sym c.part.ensures.observations ∙ ap (λ l. get_or l c.loop-agent.agent 0) c.requires.observations) lt whole c.loop-agent.invariant in
+    let alike : length ns ≡ length cs = omega (
+      arith,
+      c.requires.agents,
+      as_many_counts c.args.front.now.front.agents,
+    ) in
+    let lt : c.loop-agent.agent < length cs = omega (
+      arith,
+      c.agents-agent-end.ensures,
+      c.loop-agent-test.true,
+      as_many_counts c.args.front.now.front.agents,
+    ) in
+    let whole : c.args.next < product (pair_counts cs ns) = whole_is c.args.count c.args.next cs ns alike
+    (c.requires.count ∙ ap (λ (z : ℕ). product cs * z) seen) c.requires.next in
+    let room = code_room cs ns alike c.loop-agent.agent c.loop-agent.left c.loop-agent.rest c.loop-agent.pair.class
+    c.loop-agent.pair.seen c.args.next c.classes-classes.result c.observations-observations.result
+    c.classes-classes.ensures
+    (c.observations-observations.ensures ∙ sym c.part.ensures.observations
+    ∙ ap (λ l. get_or l c.loop-agent.agent 0) c.requires.observations) lt whole c.loop-agent.invariant in
     room.some_left
 
 pub nonzero_rem-rest : goal.nonzero_rem-rest
@@ -42,11 +73,24 @@ nonzero_rem-rest c =
     let cs = class_counts c.args.front.now.front.agents in
     let ns = c.args.m.now.model.observations in
     let seen = seen_product c.args.m.now.model in
-    let alike : length ns ≡ length cs = omega (arith, c.requires.agents, as_many_counts c.args.front.now.front.agents) in
-    let lt : c.loop-agent.agent < length cs = omega (arith, c.agents-agent-end.ensures, c.loop-agent-test.true, as_many_counts c.args.front.now.front.agents) in
-    let whole : c.args.next < product (pair_counts cs ns) = whole_is c.args.count c.args.next cs ns alike (c.requires.count ∙ ap (λ (z : ℕ). product cs * z) seen) c.requires.next in
-    let room = code_room cs ns alike c.loop-agent.agent c.loop-agent.left c.loop-agent.rest c.loop-agent.pair.class c.loop-agent.pair.seen c.args.next c.classes-classes.result c.observations-observations.result c.classes-classes.ensures
-    (c.observations-observations.ensures ∙ sym c.part.ensures.observations ∙ ap (λ l. get_or l c.loop-agent.agent 0) c.requires.observations) lt whole c.loop-agent.invariant in
+    let alike : length ns ≡ length cs = omega (
+      arith,
+      c.requires.agents,
+      as_many_counts c.args.front.now.front.agents,
+    ) in
+    let lt : c.loop-agent.agent < length cs = omega (
+      arith,
+      c.agents-agent-end.ensures,
+      c.loop-agent-test.true,
+      as_many_counts c.args.front.now.front.agents,
+    ) in
+    let whole : c.args.next < product (pair_counts cs ns) = whole_is c.args.count c.args.next cs ns alike
+    (c.requires.count ∙ ap (λ (z : ℕ). product cs * z) seen) c.requires.next in
+    let room = code_room cs ns alike c.loop-agent.agent c.loop-agent.left c.loop-agent.rest c.loop-agent.pair.class
+    c.loop-agent.pair.seen c.args.next c.classes-classes.result c.observations-observations.result
+    c.classes-classes.ensures
+    (c.observations-observations.ensures ∙ sym c.part.ensures.observations
+    ∙ ap (λ l. get_or l c.loop-agent.agent 0) c.requires.observations) lt whole c.loop-agent.invariant in
     room.some_left
 
 pub overflow_mul-left : goal.overflow_mul-left
@@ -54,11 +98,24 @@ overflow_mul-left c =
     let cs = class_counts c.args.front.now.front.agents in
     let ns = c.args.m.now.model.observations in
     let seen = seen_product c.args.m.now.model in
-    let alike : length ns ≡ length cs = omega (arith, c.requires.agents, as_many_counts c.args.front.now.front.agents) in
-    let lt : c.loop-agent.agent < length cs = omega (arith, c.agents-agent-end.ensures, c.loop-agent-test.true, as_many_counts c.args.front.now.front.agents) in
-    let whole : c.args.next < product (pair_counts cs ns) = whole_is c.args.count c.args.next cs ns alike (c.requires.count ∙ ap (λ (z : ℕ). product cs * z) seen) c.requires.next in
-    let room = code_room cs ns alike c.loop-agent.agent c.loop-agent.left c.loop-agent.rest c.loop-agent.pair.class c.loop-agent.pair.seen c.args.next c.classes-classes.result c.observations-observations.result c.classes-classes.ensures
-    (c.observations-observations.ensures ∙ sym c.part.ensures.observations ∙ ap (λ l. get_or l c.loop-agent.agent 0) c.requires.observations) lt whole c.loop-agent.invariant in
+    let alike : length ns ≡ length cs = omega (
+      arith,
+      c.requires.agents,
+      as_many_counts c.args.front.now.front.agents,
+    ) in
+    let lt : c.loop-agent.agent < length cs = omega (
+      arith,
+      c.agents-agent-end.ensures,
+      c.loop-agent-test.true,
+      as_many_counts c.args.front.now.front.agents,
+    ) in
+    let whole : c.args.next < product (pair_counts cs ns) = whole_is c.args.count c.args.next cs ns alike
+    (c.requires.count ∙ ap (λ (z : ℕ). product cs * z) seen) c.requires.next in
+    let room = code_room cs ns alike c.loop-agent.agent c.loop-agent.left c.loop-agent.rest c.loop-agent.pair.class
+    c.loop-agent.pair.seen c.args.next c.classes-classes.result c.observations-observations.result
+    c.classes-classes.ensures
+    (c.observations-observations.ensures ∙ sym c.part.ensures.observations
+    ∙ ap (λ l. get_or l c.loop-agent.agent 0) c.requires.observations) lt whole c.loop-agent.invariant in
     omega (arith, room.few)
 
 pub overflow_mul-pair : goal.overflow_mul-pair
@@ -66,69 +123,161 @@ overflow_mul-pair c =
     let cs = class_counts c.args.front.now.front.agents in
     let ns = c.args.m.now.model.observations in
     let seen = seen_product c.args.m.now.model in
-    let alike : length ns ≡ length cs = omega (arith, c.requires.agents, as_many_counts c.args.front.now.front.agents) in
-    let lt : c.loop-agent.agent < length cs = omega (arith, c.agents-agent-end.ensures, c.loop-agent-test.true, as_many_counts c.args.front.now.front.agents) in
-    let whole : c.args.next < product (pair_counts cs ns) = whole_is c.args.count c.args.next cs ns alike (c.requires.count ∙ ap (λ (z : ℕ). product cs * z) seen) c.requires.next in
-    let room = code_room cs ns alike c.loop-agent.agent c.loop-agent.left c.loop-agent.rest c.loop-agent.pair.class c.loop-agent.pair.seen c.args.next c.classes-classes.result c.observations-observations.result c.classes-classes.ensures
-    (c.observations-observations.ensures ∙ sym c.part.ensures.observations ∙ ap (λ l. get_or l c.loop-agent.agent 0) c.requires.observations) lt whole c.loop-agent.invariant in
-    let few : product cs ≤ 2 ^ 22 = classes_few c.args.count cs ns alike (c.requires.count ∙ ap (λ (z : ℕ). product cs * z) seen) c.requires.limit c.args.next c.requires.next in let few_seen : product ns ≤ 2 ^ 22 = seen_few c.args.count cs ns alike (c.requires.count ∙ ap (λ (z : ℕ). product cs * z) seen) c.requires.limit c.args.next c.requires.next in omega (arith, room.class_room)
+    let alike : length ns ≡ length cs = omega (
+      arith,
+      c.requires.agents,
+      as_many_counts c.args.front.now.front.agents,
+    ) in
+    let lt : c.loop-agent.agent < length cs = omega (
+      arith,
+      c.agents-agent-end.ensures,
+      c.loop-agent-test.true,
+      as_many_counts c.args.front.now.front.agents,
+    ) in
+    let whole : c.args.next < product (pair_counts cs ns) = whole_is c.args.count c.args.next cs ns alike
+    (c.requires.count ∙ ap (λ (z : ℕ). product cs * z) seen) c.requires.next in
+    let room = code_room cs ns alike c.loop-agent.agent c.loop-agent.left c.loop-agent.rest c.loop-agent.pair.class
+    c.loop-agent.pair.seen c.args.next c.classes-classes.result c.observations-observations.result
+    c.classes-classes.ensures
+    (c.observations-observations.ensures ∙ sym c.part.ensures.observations
+    ∙ ap (λ l. get_or l c.loop-agent.agent 0) c.requires.observations) lt whole c.loop-agent.invariant in
+    let few : product cs ≤ 2 ^ 22 = classes_few c.args.count cs ns alike
+    (c.requires.count ∙ ap (λ (z : ℕ). product cs * z) seen) c.requires.limit c.args.next c.requires.next in
+    let few_seen : product ns ≤ 2 ^ 22 = seen_few c.args.count cs ns alike
+    (c.requires.count ∙ ap (λ (z : ℕ). product cs * z) seen) c.requires.limit c.args.next c.requires.next in
+    omega (arith, room.class_room)
 
 pub overflow_add-pair : goal.overflow_add-pair
 overflow_add-pair c =
     let cs = class_counts c.args.front.now.front.agents in
     let ns = c.args.m.now.model.observations in
     let seen = seen_product c.args.m.now.model in
-    let alike : length ns ≡ length cs = omega (arith, c.requires.agents, as_many_counts c.args.front.now.front.agents) in
-    let lt : c.loop-agent.agent < length cs = omega (arith, c.agents-agent-end.ensures, c.loop-agent-test.true, as_many_counts c.args.front.now.front.agents) in
-    let whole : c.args.next < product (pair_counts cs ns) = whole_is c.args.count c.args.next cs ns alike (c.requires.count ∙ ap (λ (z : ℕ). product cs * z) seen) c.requires.next in
-    let room = code_room cs ns alike c.loop-agent.agent c.loop-agent.left c.loop-agent.rest c.loop-agent.pair.class c.loop-agent.pair.seen c.args.next c.classes-classes.result c.observations-observations.result c.classes-classes.ensures
-    (c.observations-observations.ensures ∙ sym c.part.ensures.observations ∙ ap (λ l. get_or l c.loop-agent.agent 0) c.requires.observations) lt whole c.loop-agent.invariant in
-    let few : product cs ≤ 2 ^ 22 = classes_few c.args.count cs ns alike (c.requires.count ∙ ap (λ (z : ℕ). product cs * z) seen) c.requires.limit c.args.next c.requires.next in let few_seen : product ns ≤ 2 ^ 22 = seen_few c.args.count cs ns alike (c.requires.count ∙ ap (λ (z : ℕ). product cs * z) seen) c.requires.limit c.args.next c.requires.next in omega (arith, room.class_room)
+    let alike : length ns ≡ length cs = omega (
+      arith,
+      c.requires.agents,
+      as_many_counts c.args.front.now.front.agents,
+    ) in
+    let lt : c.loop-agent.agent < length cs = omega (
+      arith,
+      c.agents-agent-end.ensures,
+      c.loop-agent-test.true,
+      as_many_counts c.args.front.now.front.agents,
+    ) in
+    let whole : c.args.next < product (pair_counts cs ns) = whole_is c.args.count c.args.next cs ns alike
+    (c.requires.count ∙ ap (λ (z : ℕ). product cs * z) seen) c.requires.next in
+    let room = code_room cs ns alike c.loop-agent.agent c.loop-agent.left c.loop-agent.rest c.loop-agent.pair.class
+    c.loop-agent.pair.seen c.args.next c.classes-classes.result c.observations-observations.result
+    c.classes-classes.ensures
+    (c.observations-observations.ensures ∙ sym c.part.ensures.observations
+    ∙ ap (λ l. get_or l c.loop-agent.agent 0) c.requires.observations) lt whole c.loop-agent.invariant in
+    let few : product cs ≤ 2 ^ 22 = classes_few c.args.count cs ns alike
+    (c.requires.count ∙ ap (λ (z : ℕ). product cs * z) seen) c.requires.limit c.args.next c.requires.next in
+    let few_seen : product ns ≤ 2 ^ 22 = seen_few c.args.count cs ns alike
+    (c.requires.count ∙ ap (λ (z : ℕ). product cs * z) seen) c.requires.limit c.args.next c.requires.next in
+    omega (arith, room.class_room)
 
 pub overflow_mul-pair-in-loop-agent : goal.overflow_mul-pair-in-loop-agent
 overflow_mul-pair-in-loop-agent c =
     let cs = class_counts c.args.front.now.front.agents in
     let ns = c.args.m.now.model.observations in
     let seen = seen_product c.args.m.now.model in
-    let alike : length ns ≡ length cs = omega (arith, c.requires.agents, as_many_counts c.args.front.now.front.agents) in
-    let lt : c.loop-agent.agent < length cs = omega (arith, c.agents-agent-end.ensures, c.loop-agent-test.true, as_many_counts c.args.front.now.front.agents) in
-    let whole : c.args.next < product (pair_counts cs ns) = whole_is c.args.count c.args.next cs ns alike (c.requires.count ∙ ap (λ (z : ℕ). product cs * z) seen) c.requires.next in
-    let room = code_room cs ns alike c.loop-agent.agent c.loop-agent.left c.loop-agent.rest c.loop-agent.pair.class c.loop-agent.pair.seen c.args.next c.classes-classes.result c.observations-observations.result c.classes-classes.ensures
-    (c.observations-observations.ensures ∙ sym c.part.ensures.observations ∙ ap (λ l. get_or l c.loop-agent.agent 0) c.requires.observations) lt whole c.loop-agent.invariant in
-    let few : product cs ≤ 2 ^ 22 = classes_few c.args.count cs ns alike (c.requires.count ∙ ap (λ (z : ℕ). product cs * z) seen) c.requires.limit c.args.next c.requires.next in let few_seen : product ns ≤ 2 ^ 22 = seen_few c.args.count cs ns alike (c.requires.count ∙ ap (λ (z : ℕ). product cs * z) seen) c.requires.limit c.args.next c.requires.next in omega (arith, room.seen_room)
+    let alike : length ns ≡ length cs = omega (
+      arith,
+      c.requires.agents,
+      as_many_counts c.args.front.now.front.agents,
+    ) in
+    let lt : c.loop-agent.agent < length cs = omega (
+      arith,
+      c.agents-agent-end.ensures,
+      c.loop-agent-test.true,
+      as_many_counts c.args.front.now.front.agents,
+    ) in
+    let whole : c.args.next < product (pair_counts cs ns) = whole_is c.args.count c.args.next cs ns alike
+    (c.requires.count ∙ ap (λ (z : ℕ). product cs * z) seen) c.requires.next in
+    let room = code_room cs ns alike c.loop-agent.agent c.loop-agent.left c.loop-agent.rest c.loop-agent.pair.class
+    c.loop-agent.pair.seen c.args.next c.classes-classes.result c.observations-observations.result
+    c.classes-classes.ensures
+    (c.observations-observations.ensures ∙ sym c.part.ensures.observations
+    ∙ ap (λ l. get_or l c.loop-agent.agent 0) c.requires.observations) lt whole c.loop-agent.invariant in
+    let few : product cs ≤ 2 ^ 22 = classes_few c.args.count cs ns alike
+    (c.requires.count ∙ ap (λ (z : ℕ). product cs * z) seen) c.requires.limit c.args.next c.requires.next in
+    let few_seen : product ns ≤ 2 ^ 22 = seen_few c.args.count cs ns alike
+    (c.requires.count ∙ ap (λ (z : ℕ). product cs * z) seen) c.requires.limit c.args.next c.requires.next in
+    omega (arith, room.seen_room)
 
 pub overflow_add-pair-in-loop-agent : goal.overflow_add-pair-in-loop-agent
 overflow_add-pair-in-loop-agent c =
     let cs = class_counts c.args.front.now.front.agents in
     let ns = c.args.m.now.model.observations in
     let seen = seen_product c.args.m.now.model in
-    let alike : length ns ≡ length cs = omega (arith, c.requires.agents, as_many_counts c.args.front.now.front.agents) in
-    let lt : c.loop-agent.agent < length cs = omega (arith, c.agents-agent-end.ensures, c.loop-agent-test.true, as_many_counts c.args.front.now.front.agents) in
-    let whole : c.args.next < product (pair_counts cs ns) = whole_is c.args.count c.args.next cs ns alike (c.requires.count ∙ ap (λ (z : ℕ). product cs * z) seen) c.requires.next in
-    let room = code_room cs ns alike c.loop-agent.agent c.loop-agent.left c.loop-agent.rest c.loop-agent.pair.class c.loop-agent.pair.seen c.args.next c.classes-classes.result c.observations-observations.result c.classes-classes.ensures
-    (c.observations-observations.ensures ∙ sym c.part.ensures.observations ∙ ap (λ l. get_or l c.loop-agent.agent 0) c.requires.observations) lt whole c.loop-agent.invariant in
-    let few : product cs ≤ 2 ^ 22 = classes_few c.args.count cs ns alike (c.requires.count ∙ ap (λ (z : ℕ). product cs * z) seen) c.requires.limit c.args.next c.requires.next in let few_seen : product ns ≤ 2 ^ 22 = seen_few c.args.count cs ns alike (c.requires.count ∙ ap (λ (z : ℕ). product cs * z) seen) c.requires.limit c.args.next c.requires.next in omega (arith, room.seen_room)
+    let alike : length ns ≡ length cs = omega (
+      arith,
+      c.requires.agents,
+      as_many_counts c.args.front.now.front.agents,
+    ) in
+    let lt : c.loop-agent.agent < length cs = omega (
+      arith,
+      c.agents-agent-end.ensures,
+      c.loop-agent-test.true,
+      as_many_counts c.args.front.now.front.agents,
+    ) in
+    let whole : c.args.next < product (pair_counts cs ns) = whole_is c.args.count c.args.next cs ns alike
+    (c.requires.count ∙ ap (λ (z : ℕ). product cs * z) seen) c.requires.next in
+    let room = code_room cs ns alike c.loop-agent.agent c.loop-agent.left c.loop-agent.rest c.loop-agent.pair.class
+    c.loop-agent.pair.seen c.args.next c.classes-classes.result c.observations-observations.result
+    c.classes-classes.ensures
+    (c.observations-observations.ensures ∙ sym c.part.ensures.observations
+    ∙ ap (λ l. get_or l c.loop-agent.agent 0) c.requires.observations) lt whole c.loop-agent.invariant in
+    let few : product cs ≤ 2 ^ 22 = classes_few c.args.count cs ns alike
+    (c.requires.count ∙ ap (λ (z : ℕ). product cs * z) seen) c.requires.limit c.args.next c.requires.next in
+    let few_seen : product ns ≤ 2 ^ 22 = seen_few c.args.count cs ns alike
+    (c.requires.count ∙ ap (λ (z : ℕ). product cs * z) seen) c.requires.limit c.args.next c.requires.next in
+    omega (arith, room.seen_room)
 
 pub loop-agent-preserved : goal.loop-agent-preserved
 loop-agent-preserved c =
     let cs = class_counts c.args.front.now.front.agents in
     let ns = c.args.m.now.model.observations in
     let seen = seen_product c.args.m.now.model in
-    let alike : length ns ≡ length cs = omega (arith, c.requires.agents, as_many_counts c.args.front.now.front.agents) in
-    let lt : c.loop-agent.agent < length cs = omega (arith, c.agents-agent-end.ensures, c.loop-agent-test.true, as_many_counts c.args.front.now.front.agents) in
-    let whole : c.args.next < product (pair_counts cs ns) = whole_is c.args.count c.args.next cs ns alike (c.requires.count ∙ ap (λ (z : ℕ). product cs * z) seen) c.requires.next in
-    code_next cs ns alike c.loop-agent.agent c.loop-agent.left c.loop-agent.rest c.loop-agent.pair.class c.loop-agent.pair.seen c.args.next c.classes-classes.result c.observations-observations.result c.classes-classes.ensures
-    (c.observations-observations.ensures ∙ sym c.part.ensures.observations ∙ ap (λ l. get_or l c.loop-agent.agent 0) c.requires.observations) lt whole c.loop-agent.invariant
+    let alike : length ns ≡ length cs = omega (
+      arith,
+      c.requires.agents,
+      as_many_counts c.args.front.now.front.agents,
+    ) in
+    let lt : c.loop-agent.agent < length cs = omega (
+      arith,
+      c.agents-agent-end.ensures,
+      c.loop-agent-test.true,
+      as_many_counts c.args.front.now.front.agents,
+    ) in
+    let whole : c.args.next < product (pair_counts cs ns) = whole_is c.args.count c.args.next cs ns alike
+    (c.requires.count ∙ ap (λ (z : ℕ). product cs * z) seen) c.requires.next in
+    code_next cs ns alike c.loop-agent.agent c.loop-agent.left c.loop-agent.rest c.loop-agent.pair.class
+    c.loop-agent.pair.seen c.args.next c.classes-classes.result c.observations-observations.result
+    c.classes-classes.ensures
+    (c.observations-observations.ensures ∙ sym c.part.ensures.observations
+    ∙ ap (λ l. get_or l c.loop-agent.agent 0) c.requires.observations) lt whole c.loop-agent.invariant
 
 pub returns-clause-class : goal.returns-clause-class
 returns-clause-class c =
     let cs = class_counts c.args.front.now.front.agents in
     let ns = c.args.m.now.model.observations in
     let seen = seen_product c.args.m.now.model in
-    let alike : length ns ≡ length cs = omega (arith, c.requires.agents, as_many_counts c.args.front.now.front.agents) in
-    let le : length cs ≤ c.loop-agent.agent = omega (arith, c.agents-agent-end.ensures, c.loop-agent-test.false, as_many_counts c.args.front.now.front.agents) in
-    let whole : c.args.next < product (pair_counts cs ns) = whole_is c.args.count c.args.next cs ns alike (c.requires.count ∙ ap (λ (z : ℕ). product cs * z) seen) c.requires.next in
-    let end = unpair_end cs ns c.loop-agent.agent c.loop-agent.left c.loop-agent.rest c.loop-agent.pair.class c.loop-agent.pair.seen c.args.next alike le whole c.loop-agent.invariant in
+    let alike : length ns ≡ length cs = omega (
+      arith,
+      c.requires.agents,
+      as_many_counts c.args.front.now.front.agents,
+    ) in
+    let le : length cs ≤ c.loop-agent.agent = omega (
+      arith,
+      c.agents-agent-end.ensures,
+      c.loop-agent-test.false,
+      as_many_counts c.args.front.now.front.agents,
+    ) in
+    let whole : c.args.next < product (pair_counts cs ns) = whole_is c.args.count c.args.next cs ns alike
+    (c.requires.count ∙ ap (λ (z : ℕ). product cs * z) seen) c.requires.next in
+    let end = unpair_end cs ns c.loop-agent.agent c.loop-agent.left c.loop-agent.rest c.loop-agent.pair.class
+    c.loop-agent.pair.seen c.args.next alike le whole c.loop-agent.invariant in
     end.0
 
 pub returns-clause-seen : goal.returns-clause-seen
@@ -136,10 +285,21 @@ returns-clause-seen c =
     let cs = class_counts c.args.front.now.front.agents in
     let ns = c.args.m.now.model.observations in
     let seen = seen_product c.args.m.now.model in
-    let alike : length ns ≡ length cs = omega (arith, c.requires.agents, as_many_counts c.args.front.now.front.agents) in
-    let le : length cs ≤ c.loop-agent.agent = omega (arith, c.agents-agent-end.ensures, c.loop-agent-test.false, as_many_counts c.args.front.now.front.agents) in
-    let whole : c.args.next < product (pair_counts cs ns) = whole_is c.args.count c.args.next cs ns alike (c.requires.count ∙ ap (λ (z : ℕ). product cs * z) seen) c.requires.next in
-    let end = unpair_end cs ns c.loop-agent.agent c.loop-agent.left c.loop-agent.rest c.loop-agent.pair.class c.loop-agent.pair.seen c.args.next alike le whole c.loop-agent.invariant in
+    let alike : length ns ≡ length cs = omega (
+      arith,
+      c.requires.agents,
+      as_many_counts c.args.front.now.front.agents,
+    ) in
+    let le : length cs ≤ c.loop-agent.agent = omega (
+      arith,
+      c.agents-agent-end.ensures,
+      c.loop-agent-test.false,
+      as_many_counts c.args.front.now.front.agents,
+    ) in
+    let whole : c.args.next < product (pair_counts cs ns) = whole_is c.args.count c.args.next cs ns alike
+    (c.requires.count ∙ ap (λ (z : ℕ). product cs * z) seen) c.requires.next in
+    let end = unpair_end cs ns c.loop-agent.agent c.loop-agent.left c.loop-agent.rest c.loop-agent.pair.class
+    c.loop-agent.pair.seen c.args.next alike le whole c.loop-agent.invariant in
     subst (λ (z : ℕ). c.loop-agent.pair.seen < z) (sym seen) end.1
 
 pub returns-clause-number : goal.returns-clause-number
@@ -147,8 +307,19 @@ returns-clause-number c =
     let cs = class_counts c.args.front.now.front.agents in
     let ns = c.args.m.now.model.observations in
     let seen = seen_product c.args.m.now.model in
-    let alike : length ns ≡ length cs = omega (arith, c.requires.agents, as_many_counts c.args.front.now.front.agents) in
-    let le : length cs ≤ c.loop-agent.agent = omega (arith, c.agents-agent-end.ensures, c.loop-agent-test.false, as_many_counts c.args.front.now.front.agents) in
-    let whole : c.args.next < product (pair_counts cs ns) = whole_is c.args.count c.args.next cs ns alike (c.requires.count ∙ ap (λ (z : ℕ). product cs * z) seen) c.requires.next in
-    let end = unpair_end cs ns c.loop-agent.agent c.loop-agent.left c.loop-agent.rest c.loop-agent.pair.class c.loop-agent.pair.seen c.args.next alike le whole c.loop-agent.invariant in
+    let alike : length ns ≡ length cs = omega (
+      arith,
+      c.requires.agents,
+      as_many_counts c.args.front.now.front.agents,
+    ) in
+    let le : length cs ≤ c.loop-agent.agent = omega (
+      arith,
+      c.agents-agent-end.ensures,
+      c.loop-agent-test.false,
+      as_many_counts c.args.front.now.front.agents,
+    ) in
+    let whole : c.args.next < product (pair_counts cs ns) = whole_is c.args.count c.args.next cs ns alike
+    (c.requires.count ∙ ap (λ (z : ℕ). product cs * z) seen) c.requires.next in
+    let end = unpair_end cs ns c.loop-agent.agent c.loop-agent.left c.loop-agent.rest c.loop-agent.pair.class
+    c.loop-agent.pair.seen c.args.next alike le whole c.loop-agent.invariant in
     end.2

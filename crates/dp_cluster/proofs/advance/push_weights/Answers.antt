@@ -15,7 +15,8 @@ next_weight-requires-clause-sizes g c =
     let m = c.args.m.now.model in
     let k = c.args.front.now in
     let is = c.requires.sizes in
-    pushable A C m k is c.args.class c.requires.class (weights_of c.class_weights-before.result.now) c.class_weights-before.ensures.are
+    pushable A C m k is c.args.class c.requires.class (weights_of c.class_weights-before.result.now)
+    c.class_weights-before.ensures.are
 
 pub loop-state-preserved : goal.loop-state-preserved
 loop-state-preserved g c =
@@ -24,6 +25,11 @@ loop-state-preserved g c =
     let m = c.args.m.now.model in
     let k = c.args.front.now in
     let is = c.requires.sizes in
-    let new = c.next_weight.ensures ∙ ap (λ (a : ℕ). weights_after_in A m (weights_of c.class_weights-before.result.now) a c.args.seen c.loop-state.state) c.action_of-action.ensures.is
-    ∙ pushed_is A C m k is c.args.class c.requires.class (weights_of c.class_weights-before.result.now) c.class_weights-before.ensures.are c.args.seen c.loop-state.state c.requires.seen in
-    next_after (class_weight_in A m (advanced_front m k.front) (pair_number (class_counts k.front.agents) m.observations c.args.class c.args.seen)) c.args.weights.now.items c.loop-state.weights.items _ c.loop-state.state _ new c.in_ok-push.ensures.items c.loop-state.invariant
+    let new = c.next_weight.ensures ∙ ap (λ (a : ℕ). weights_after_in A m
+    (weights_of c.class_weights-before.result.now) a c.args.seen c.loop-state.state) c.action_of-action.ensures.is
+    ∙ pushed_is A C m k is c.args.class c.requires.class (weights_of c.class_weights-before.result.now)
+    c.class_weights-before.ensures.are c.args.seen c.loop-state.state c.requires.seen in
+    next_after (class_weight_in A m (advanced_front m k.front)
+    (pair_number (class_counts k.front.agents) m.observations c.args.class c.args.seen))
+    c.args.weights.now.items c.loop-state.weights.items _ c.loop-state.state _ new c.in_ok-push.ensures.items
+    c.loop-state.invariant

@@ -8,5 +8,7 @@ use Rattle.dp_cluster.proofs.advance.push_weights.Given as goal
 
 abbrev pub invariant-loop-state : goal.invariant-loop-state
 invariant-loop-state g l =
-    l.weights.items ≡ l.fn.weights.items ++ map (class_weight_in (g.A.Arith.operations l.arith) l.m.model (advanced_front l.m.model l.front.front)
-    (pair_number (class_counts l.front.front.agents) l.m.model.observations l.class l.seen)) (range_with_len 0 l.state)
+    l.weights.items ≡ l.fn.weights.items ++ map (class_weight_in (g.A.Arith.operations l.arith) l.m.model
+    (advanced_front l.m.model l.front.front)
+    (pair_number (class_counts l.front.front.agents) l.m.model.observations l.class l.seen))
+    (range_with_len 0 l.state)

@@ -41,7 +41,10 @@ overflow_mul-rows c =
     let is = c.requires.of_model.1 in
     let k = c.args.front.now in
     let i = c.args.agent in
-    let few = few_product m k is c.requires.exact c.invariant.ensures c.requires.stage i c.args.first c.args.second c.requires.order c.requires.first c.requires.second c.joint_classes.result c.classes-count.result c.width_behind-width.result c.joint_classes.ensures.is c.classes-count.ensures c.width_behind-width.ensures in omega arith
+    let few = few_product m k is c.requires.exact c.invariant.ensures c.requires.stage i c.args.first c.args.second
+    c.requires.order c.requires.first c.requires.second c.joint_classes.result c.classes-count.result
+    c.width_behind-width.result c.joint_classes.ensures.is c.classes-count.ensures
+    c.width_behind-width.ensures in omega arith
 
 pub nonzero_div-rows : goal.nonzero_div-rows
 nonzero_div-rows c =
@@ -49,7 +52,9 @@ nonzero_div-rows c =
     let is = c.requires.of_model.1 in
     let k = c.args.front.now in
     let i = c.args.agent in
-    some_product m k is c.requires.exact c.invariant.ensures c.requires.stage i c.args.first c.args.second c.requires.order c.requires.first c.requires.second c.joint_classes.result c.classes-count.result c.width_behind-width.result c.joint_classes.ensures.is c.classes-count.ensures c.width_behind-width.ensures
+    some_product m k is c.requires.exact c.invariant.ensures c.requires.stage i c.args.first c.args.second
+    c.requires.order c.requires.first c.requires.second c.joint_classes.result c.classes-count.result
+    c.width_behind-width.result c.joint_classes.ensures.is c.classes-count.ensures c.width_behind-width.ensures
 
 pub overflow_sub-next-end : goal.overflow_sub-next-end
 overflow_sub-next-end c =
@@ -57,7 +62,9 @@ overflow_sub-next-end c =
     let is = c.requires.of_model.1 in
     let k = c.args.front.now in
     let i = c.args.agent in
-    some_count m k is c.requires.exact c.invariant.ensures c.requires.stage i c.args.first c.args.second c.requires.order c.requires.first c.requires.second c.joint_classes.result c.classes-count.result c.width_behind-width.result c.joint_classes.ensures.is c.classes-count.ensures c.width_behind-width.ensures
+    some_count m k is c.requires.exact c.invariant.ensures c.requires.stage i c.args.first c.args.second
+    c.requires.order c.requires.first c.requires.second c.joint_classes.result c.classes-count.result
+    c.width_behind-width.result c.joint_classes.ensures.is c.classes-count.ensures c.width_behind-width.ensures
 
 pub place_of-old-requires-clause-room : goal.place_of-old-requires-clause-room
 place_of-old-requires-clause-room c =
@@ -65,7 +72,15 @@ place_of-old-requires-clause-room c =
     let is = c.requires.of_model.1 in
     let k = c.args.front.now in
     let i = c.args.agent in
-    place_room m k is c.requires.exact c.invariant.ensures c.requires.stage i c.args.first c.args.second c.requires.order c.requires.first c.requires.second c.joint_classes.result c.classes-count.result c.width_behind-width.result c.joint_classes.ensures.is c.classes-count.ensures c.width_behind-width.ensures c.loop-next.next c.loop-next-test.true c.kept_class-kept.result (subst (λ (z : ℕ). z < own_count k i) (sym c.kept_class-kept.ensures) (kept_room m k is c.requires.exact c.invariant.ensures c.requires.stage i c.args.first c.args.second c.requires.order c.requires.first c.requires.second c.joint_classes.result c.classes-count.result c.width_behind-width.result c.joint_classes.ensures.is c.classes-count.ensures c.width_behind-width.ensures c.loop-next.next c.loop-next-test.true))
+    place_room m k is c.requires.exact c.invariant.ensures c.requires.stage i c.args.first c.args.second
+    c.requires.order c.requires.first c.requires.second c.joint_classes.result c.classes-count.result
+    c.width_behind-width.result c.joint_classes.ensures.is c.classes-count.ensures c.width_behind-width.ensures
+    c.loop-next.next c.loop-next-test.true c.kept_class-kept.result
+    (subst (λ (z : ℕ). z < own_count k i) (sym c.kept_class-kept.ensures)
+    (kept_room m k is c.requires.exact c.invariant.ensures c.requires.stage i c.args.first c.args.second
+    c.requires.order c.requires.first c.requires.second c.joint_classes.result c.classes-count.result
+    c.width_behind-width.result c.joint_classes.ensures.is c.classes-count.ensures c.width_behind-width.ensures
+    c.loop-next.next c.loop-next-test.true))
 
 pub place_of-joined-requires-clause-some : goal.place_of-joined-requires-clause-some
 place_of-joined-requires-clause-some c =
@@ -73,7 +88,9 @@ place_of-joined-requires-clause-some c =
     let is = c.requires.of_model.1 in
     let k = c.args.front.now in
     let i = c.args.agent in
-    some_width m k is c.requires.exact c.invariant.ensures c.requires.stage i c.args.first c.args.second c.requires.order c.requires.first c.requires.second c.joint_classes.result c.classes-count.result c.width_behind-width.result c.joint_classes.ensures.is c.classes-count.ensures c.width_behind-width.ensures
+    some_width m k is c.requires.exact c.invariant.ensures c.requires.stage i c.args.first c.args.second
+    c.requires.order c.requires.first c.requires.second c.joint_classes.result c.classes-count.result
+    c.width_behind-width.result c.joint_classes.ensures.is c.classes-count.ensures c.width_behind-width.ensures
 
 pub place_of-joined-requires-clause-room : goal.place_of-joined-requires-clause-room
 place_of-joined-requires-clause-room c =
@@ -81,7 +98,12 @@ place_of-joined-requires-clause-room c =
     let is = c.requires.of_model.1 in
     let k = c.args.front.now in
     let i = c.args.agent in
-    place_room m k is c.requires.exact c.invariant.ensures c.requires.stage i c.args.first c.args.second c.requires.order c.requires.first c.requires.second c.joint_classes.result c.classes-count.result c.width_behind-width.result c.joint_classes.ensures.is c.classes-count.ensures c.width_behind-width.ensures c.loop-next.next c.loop-next-test.true c.args.second (b_in m k is c.requires.exact c.requires.stage i c.args.first c.args.second c.requires.order c.requires.first c.requires.second)
+    place_room m k is c.requires.exact c.invariant.ensures c.requires.stage i c.args.first c.args.second
+    c.requires.order c.requires.first c.requires.second c.joint_classes.result c.classes-count.result
+    c.width_behind-width.result c.joint_classes.ensures.is c.classes-count.ensures c.width_behind-width.ensures
+    c.loop-next.next c.loop-next-test.true c.args.second
+    (b_in m k is c.requires.exact c.requires.stage i c.args.first c.args.second c.requires.order
+    c.requires.first c.requires.second)
 
 pub push_joined-requires-clause-class : goal.push_joined-requires-clause-class
 push_joined-requires-clause-class c =
@@ -89,7 +111,21 @@ push_joined-requires-clause-class c =
     let is = c.requires.of_model.1 in
     let k = c.args.front.now in
     let i = c.args.agent in
-    subst (λ (z : ℕ). z < product (class_counts k.front.agents)) (sym (c.place_of-old.ensures ∙ place_is m k is c.requires.exact c.invariant.ensures c.requires.stage i c.args.first c.args.second c.requires.order c.requires.first c.requires.second c.joint_classes.result c.classes-count.result c.width_behind-width.result c.joint_classes.ensures.is c.classes-count.ensures c.width_behind-width.ensures c.loop-next.next c.loop-next-test.true c.kept_class-kept.result)) (old_in m k is c.requires.exact c.requires.stage i c.args.first c.args.second c.requires.order c.requires.first c.requires.second c.loop-next.next (below' m k is c.requires.exact c.invariant.ensures c.requires.stage i c.args.first c.args.second c.requires.order c.requires.first c.requires.second c.joint_classes.result c.classes-count.result c.width_behind-width.result c.joint_classes.ensures.is c.classes-count.ensures c.width_behind-width.ensures c.loop-next.next c.loop-next-test.true) c.kept_class-kept.result (subst (λ (z : ℕ). z < own_count k i) (sym c.kept_class-kept.ensures) (kept_room m k is c.requires.exact c.invariant.ensures c.requires.stage i c.args.first c.args.second c.requires.order c.requires.first c.requires.second c.joint_classes.result c.classes-count.result c.width_behind-width.result c.joint_classes.ensures.is c.classes-count.ensures c.width_behind-width.ensures c.loop-next.next c.loop-next-test.true)))
+    subst (λ (z : ℕ). z < product (class_counts k.front.agents))
+    (sym (c.place_of-old.ensures ∙ place_is m k is c.requires.exact c.invariant.ensures c.requires.stage i
+    c.args.first c.args.second c.requires.order c.requires.first c.requires.second c.joint_classes.result
+    c.classes-count.result c.width_behind-width.result c.joint_classes.ensures.is c.classes-count.ensures
+    c.width_behind-width.ensures c.loop-next.next c.loop-next-test.true c.kept_class-kept.result))
+    (old_in m k is c.requires.exact c.requires.stage i c.args.first c.args.second c.requires.order
+    c.requires.first c.requires.second c.loop-next.next (below' m k is c.requires.exact c.invariant.ensures
+    c.requires.stage i c.args.first c.args.second c.requires.order c.requires.first c.requires.second
+    c.joint_classes.result c.classes-count.result c.width_behind-width.result c.joint_classes.ensures.is
+    c.classes-count.ensures c.width_behind-width.ensures c.loop-next.next c.loop-next-test.true)
+    c.kept_class-kept.result (subst (λ (z : ℕ). z < own_count k i) (sym c.kept_class-kept.ensures)
+    (kept_room m k is c.requires.exact c.invariant.ensures c.requires.stage i c.args.first c.args.second
+    c.requires.order c.requires.first c.requires.second c.joint_classes.result c.classes-count.result
+    c.width_behind-width.result c.joint_classes.ensures.is c.classes-count.ensures c.width_behind-width.ensures
+    c.loop-next.next c.loop-next-test.true)))
 
 pub push_joined-requires-clause-other : goal.push_joined-requires-clause-other
 push_joined-requires-clause-other c =
@@ -97,7 +133,11 @@ push_joined-requires-clause-other c =
     let is = c.requires.of_model.1 in
     let k = c.args.front.now in
     let i = c.args.agent in
-    λ C some. other_in m k is c.requires.exact c.invariant.ensures c.requires.stage i c.args.first c.args.second c.requires.order c.requires.first c.requires.second c.joint_classes.result c.classes-count.result c.width_behind-width.result c.joint_classes.ensures.is c.classes-count.ensures c.width_behind-width.ensures c.loop-next.next c.loop-next-test.true c.where_same.result c.place_of-joined.result C c.place_of-joined.ensures c.where_same.ensures some
+    λ C some. other_in m k is c.requires.exact c.invariant.ensures c.requires.stage i c.args.first c.args.second
+    c.requires.order c.requires.first c.requires.second c.joint_classes.result c.classes-count.result
+    c.width_behind-width.result c.joint_classes.ensures.is c.classes-count.ensures c.width_behind-width.ensures
+    c.loop-next.next c.loop-next-test.true c.where_same.result c.place_of-joined.result C
+    c.place_of-joined.ensures c.where_same.ensures some
 
 pub push_joined-requires-clause-room : goal.push_joined-requires-clause-room
 push_joined-requires-clause-room c =
@@ -105,7 +145,20 @@ push_joined-requires-clause-room c =
     let is = c.requires.of_model.1 in
     let k = c.args.front.now in
     let i = c.args.agent in
-    λ s hs. subst (λ (w : ℕ → Span). size (w s) < 2 ^ 127) (sym (weight_is m k is c.requires.exact c.invariant.ensures c.requires.stage i c.args.first c.args.second c.requires.order c.requires.first c.requires.second c.joint_classes.result c.classes-count.result c.width_behind-width.result c.joint_classes.ensures.is c.classes-count.ensures c.width_behind-width.ensures c.loop-next.next c.loop-next-test.true c.place_of-old.result c.where_same.result c.place_of-joined.result (c.place_of-old.ensures ∙ ap (λ (z : ℕ). (c.loop-next.next / c.width_behind-width.result / (c.classes-count.result - 1) * c.classes-count.result + z) * c.width_behind-width.result + c.loop-next.next % c.width_behind-width.result) c.kept_class-kept.ensures) c.place_of-joined.ensures c.where_same.ensures)) (merged_room m k is c.requires.exact c.requires.stage i c.args.first c.args.second c.requires.order c.requires.first c.requires.second c.loop-next.next (below' m k is c.requires.exact c.invariant.ensures c.requires.stage i c.args.first c.args.second c.requires.order c.requires.first c.requires.second c.joint_classes.result c.classes-count.result c.width_behind-width.result c.joint_classes.ensures.is c.classes-count.ensures c.width_behind-width.ensures c.loop-next.next c.loop-next-test.true) s (subst (λ (n : ℕ). s < n) is.states hs))
+    λ s hs. subst (λ (w : ℕ → Span). size (w s) < 2 ^ 127) (sym
+    (weight_is m k is c.requires.exact c.invariant.ensures c.requires.stage i c.args.first c.args.second
+    c.requires.order c.requires.first c.requires.second c.joint_classes.result c.classes-count.result
+    c.width_behind-width.result c.joint_classes.ensures.is c.classes-count.ensures c.width_behind-width.ensures
+    c.loop-next.next c.loop-next-test.true c.place_of-old.result c.where_same.result c.place_of-joined.result
+    (c.place_of-old.ensures ∙ ap (λ (z : ℕ). (c.loop-next.next / c.width_behind-width.result /
+    (c.classes-count.result - 1) * c.classes-count.result + z) * c.width_behind-width.result + c.loop-next.next
+    % c.width_behind-width.result) c.kept_class-kept.ensures) c.place_of-joined.ensures c.where_same.ensures))
+    (merged_room m k is c.requires.exact c.requires.stage i c.args.first c.args.second c.requires.order
+    c.requires.first c.requires.second c.loop-next.next (below' m k is c.requires.exact c.invariant.ensures
+    c.requires.stage i c.args.first c.args.second c.requires.order c.requires.first c.requires.second
+    c.joint_classes.result c.classes-count.result c.width_behind-width.result c.joint_classes.ensures.is
+    c.classes-count.ensures c.width_behind-width.ensures c.loop-next.next c.loop-next-test.true) s
+    (subst (λ (n : ℕ). s < n) is.states hs))
 
 pub loop-next-preserved : goal.loop-next-preserved
 loop-next-preserved c =
@@ -113,7 +166,16 @@ loop-next-preserved c =
     let is = c.requires.of_model.1 in
     let k = c.args.front.now in
     let i = c.args.agent in
-    c.in_ok-push_joined.ensures ∙ (λ j. c.loop-next.invariant j ++ map (weight_is m k is c.requires.exact c.invariant.ensures c.requires.stage i c.args.first c.args.second c.requires.order c.requires.first c.requires.second c.joint_classes.result c.classes-count.result c.width_behind-width.result c.joint_classes.ensures.is c.classes-count.ensures c.width_behind-width.ensures c.loop-next.next c.loop-next-test.true c.place_of-old.result c.where_same.result c.place_of-joined.result (c.place_of-old.ensures ∙ ap (λ (z : ℕ). (c.loop-next.next / c.width_behind-width.result / (c.classes-count.result - 1) * c.classes-count.result + z) * c.width_behind-width.result + c.loop-next.next % c.width_behind-width.result) c.kept_class-kept.ensures) c.place_of-joined.ensures c.where_same.ensures j) (range_with_len 0 k.states)) ∙ ap (weight_rows (merged_weight k i c.args.first c.args.second) k.states) (sym (add-one c.loop-next.next))
+    c.in_ok-push_joined.ensures ∙ (λ j. c.loop-next.invariant j
+    ++ map (weight_is m k is c.requires.exact c.invariant.ensures c.requires.stage i c.args.first c.args.second
+    c.requires.order c.requires.first c.requires.second c.joint_classes.result c.classes-count.result
+    c.width_behind-width.result c.joint_classes.ensures.is c.classes-count.ensures c.width_behind-width.ensures
+    c.loop-next.next c.loop-next-test.true c.place_of-old.result c.where_same.result c.place_of-joined.result
+    (c.place_of-old.ensures ∙ ap (λ (z : ℕ). (c.loop-next.next / c.width_behind-width.result /
+    (c.classes-count.result - 1) * c.classes-count.result + z) * c.width_behind-width.result + c.loop-next.next
+    % c.width_behind-width.result) c.kept_class-kept.ensures) c.place_of-joined.ensures c.where_same.ensures j)
+    (range_with_len 0 k.states)) ∙ ap (weight_rows (merged_weight k i c.args.first c.args.second) k.states)
+    (sym (add-one c.loop-next.next))
 
 pub returns : goal.returns
 returns c =
@@ -121,6 +183,10 @@ returns c =
     let is = c.requires.of_model.1 in
     let k = c.args.front.now in
     let i = c.args.agent in
-    let stop = rows_end m k is c.requires.exact c.invariant.ensures c.requires.stage i c.args.first c.args.second c.requires.order c.requires.first c.requires.second c.joint_classes.result c.classes-count.result c.width_behind-width.result c.joint_classes.ensures.is c.classes-count.ensures c.width_behind-width.ensures in
-    let all : c.loop-next.next ≡ c.joint_classes.result / (c.classes-count.result * c.width_behind-width.result) * (c.classes-count.result - 1) * c.width_behind-width.result = omega arith in
+    let stop = rows_end m k is c.requires.exact c.invariant.ensures c.requires.stage i c.args.first c.args.second
+    c.requires.order c.requires.first c.requires.second c.joint_classes.result c.classes-count.result
+    c.width_behind-width.result c.joint_classes.ensures.is c.classes-count.ensures c.width_behind-width.ensures in
+    let all : c.loop-next.next
+    ≡ c.joint_classes.result / (c.classes-count.result * c.width_behind-width.result) * (c.classes-count.result
+    - 1) * c.width_behind-width.result = omega arith in
     c.loop-next.invariant ∙ ap (weight_rows (merged_weight k i c.args.first c.args.second) k.states) (all ∙ stop)

@@ -16,9 +16,11 @@ overflow_mul-class t c =
     let size = length-map c.args.past.now (λ s. s.value) in
     let reached = c.requires.reached in
     let within : c.args.left ≤ length ss = let e = reached.within in omega arith in
-    let read = stage_read c.args.past.now c.args.left c.requires.some within c.index-past-left.result c.as_ref-stage.result.now
+    let read = stage_read c.args.past.now c.args.left c.requires.some within c.index-past-left.result
+    c.as_ref-stage.result.now
     c.index-past-left.is c.as_ref-stage.ensures in
-    let few = place_few n ss c.requires.stages c.args.left c.requires.some within c.as_ref-stage.result.now read c.args.class c.loop-seen.seen reached c.loop-seen-test.true in
+    let few = place_few n ss c.requires.stages c.args.left c.requires.some within c.as_ref-stage.result.now read
+    c.args.class c.loop-seen.seen reached c.loop-seen-test.true in
     omega (arith, few)
 
 pub overflow_add-class : goal.overflow_add-class
@@ -28,9 +30,11 @@ overflow_add-class t c =
     let size = length-map c.args.past.now (λ s. s.value) in
     let reached = c.requires.reached in
     let within : c.args.left ≤ length ss = let e = reached.within in omega arith in
-    let read = stage_read c.args.past.now c.args.left c.requires.some within c.index-past-left.result c.as_ref-stage.result.now
+    let read = stage_read c.args.past.now c.args.left c.requires.some within c.index-past-left.result
+    c.as_ref-stage.result.now
     c.index-past-left.is c.as_ref-stage.ensures in
-    let few = place_few n ss c.requires.stages c.args.left c.requires.some within c.as_ref-stage.result.now read c.args.class c.loop-seen.seen reached c.loop-seen-test.true in
+    let few = place_few n ss c.requires.stages c.args.left c.requires.some within c.as_ref-stage.result.now read
+    c.args.class c.loop-seen.seen reached c.loop-seen-test.true in
     omega (arith, few)
 
 pub tree_after-requires : goal.tree_after-requires
@@ -40,7 +44,8 @@ tree_after-requires t c =
     let size = length-map c.args.past.now (λ s. s.value) in
     let reached = c.requires.reached in
     let within : c.args.left ≤ length ss = let e = reached.within in omega arith in
-    let read = stage_read c.args.past.now c.args.left c.requires.some within c.index-past-left.result c.as_ref-stage.result.now
+    let read = stage_read c.args.past.now c.args.left c.requires.some within c.index-past-left.result
+    c.as_ref-stage.result.now
     c.index-past-left.is c.as_ref-stage.ensures in
     let more = c.if-left-gt1.true in (
       omega arith,
@@ -48,7 +53,8 @@ tree_after-requires t c =
         omega arith,
         (
           c.requires.stages,
-          reached_next n ss c.requires.stages c.args.left c.requires.some within c.as_ref-stage.result.now read c.args.class c.loop-seen.seen c.link-next.result reached
+          reached_next n ss c.requires.stages c.args.left c.requires.some within c.as_ref-stage.result.now read
+              c.args.class c.loop-seen.seen c.link-next.result reached
               c.loop-seen-test.true c.link-next.ensures,
         ),
       ),
@@ -61,11 +67,14 @@ loop-seen-preserved t c = λ u x e lt leads.
     let size = length-map c.args.past.now (λ s. s.value) in
     let reached = c.requires.reached in
     let within : c.args.left ≤ length ss = let e = reached.within in omega arith in
-    let read = stage_read c.args.past.now c.args.left c.requires.some within c.index-past-left.result c.as_ref-stage.result.now
+    let read = stage_read c.args.past.now c.args.left c.requires.some within c.index-past-left.result
+    c.as_ref-stage.result.now
     c.index-past-left.is c.as_ref-stage.ensures in
     let kid = c.in_ok-tree_after.ensures (suc u) (x * n + c.loop-seen.seen) (omega arith)
-    (below_next n ss c.requires.stages c.args.left c.requires.some within c.as_ref-stage.result.now read u x c.loop-seen.seen lt c.loop-seen-test.true)
-    (leads_next n ss c.requires.stages c.args.left c.requires.some within c.as_ref-stage.result.now read x c.loop-seen.seen c.args.class c.loop-seen-test.true leads ∙ sym c.link-next.ensures) in
+    (below_next n ss c.requires.stages c.args.left c.requires.some within c.as_ref-stage.result.now read u x
+    c.loop-seen.seen lt c.loop-seen-test.true)
+    (leads_next n ss c.requires.stages c.args.left c.requires.some within c.as_ref-stage.result.now read x
+    c.loop-seen.seen c.args.class c.loop-seen-test.true leads ∙ sym c.link-next.ensures) in
     next_made (λ o. tree_doing_after n (action_after n ss) (c.args.left - 1) (suc u) (x * n + o))
     (map policy_tree c.loop-seen.kids.items) (map policy_tree c.push.new.self.items) c.loop-seen.seen _ kid
     (ap (map policy_tree) c.in_ok-push.ensures.items ∙ map-append policy_tree c.loop-seen.kids.items _)
@@ -78,9 +87,11 @@ index-requires t c =
     let size = length-map c.args.past.now (λ s. s.value) in
     let reached = c.requires.reached in
     let within : c.args.left ≤ length ss = let e = reached.within in omega arith in
-    let read = stage_read c.args.past.now c.args.left c.requires.some within c.index-past-left.result c.as_ref-stage.result.now
+    let read = stage_read c.args.past.now c.args.left c.requires.some within c.index-past-left.result
+    c.as_ref-stage.result.now
     c.index-past-left.is c.as_ref-stage.ensures in
-    let below = class_in n ss c.requires.stages c.args.left c.requires.some within c.as_ref-stage.result.now read c.args.class reached in
+    let below = class_in n ss c.requires.stages c.args.left c.requires.some within c.as_ref-stage.result.now read
+    c.args.class reached in
     omega (arith, below, c.as_ref-stage.result.now.actions.ok.0)
 
 pub returns : goal.returns
@@ -90,9 +101,11 @@ returns t c = λ u x e lt leads.
     let size = length-map c.args.past.now (λ s. s.value) in
     let reached = c.requires.reached in
     let within : c.args.left ≤ length ss = let e = reached.within in omega arith in
-    let read = stage_read c.args.past.now c.args.left c.requires.some within c.index-past-left.result c.as_ref-stage.result.now
+    let read = stage_read c.args.past.now c.args.left c.requires.some within c.index-past-left.result
+    c.as_ref-stage.result.now
     c.index-past-left.is c.as_ref-stage.ensures in
-    let below = class_in n ss c.requires.stages c.args.left c.requires.some within c.as_ref-stage.result.now read c.args.class reached in
+    let below = class_in n ss c.requires.stages c.args.left c.requires.some within c.as_ref-stage.result.now read
+    c.args.class reached in
     let action = get_or_read c.as_ref-stage.result.now.actions.items c.args.class _ below c.index.ensures 0 in
     let within_all : u + c.args.left ≡ length ss = omega arith in
     tree_made _
@@ -100,10 +113,12 @@ returns t c = λ u x e lt leads.
       | then-left-gt1+else-loop-seen-test w ↦
           let all : w.loop-seen.seen ≡ n = omega (arith, w.loop-seen-test.false, w.loop-seen.auto.seen-end) in
           ap (λ v. node c.index.result.now (policy_trees (map policy_tree v.items))) w.kids-is
-          ∙ more_is n ss c.requires.stages c.args.left c.requires.some within c.as_ref-stage.result.now read u x c.args.class c.index.result.now _ w.loop-seen.seen
+          ∙ more_is n ss c.requires.stages c.args.left c.requires.some within c.as_ref-stage.result.now read u x
+          c.args.class c.index.result.now _ w.loop-seen.seen
           within_all lt leads w.if-left-gt1.true action all (w.loop-seen.invariant u x e lt leads)
       | else-left-gt1 w ↦
           ap (λ v. node c.index.result.now (policy_trees (map policy_tree v.items))) w.kids-is
-          ∙ last_is n ss c.requires.stages c.args.left c.requires.some within c.as_ref-stage.result.now read u x c.args.class c.index.result.now _
+          ∙ last_is n ss c.requires.stages c.args.left c.requires.some within c.as_ref-stage.result.now read u x
+          c.args.class c.index.result.now _
           within_all lt leads w.if-left-gt1.false action (ap (map policy_tree) c.new-kids.ensures.items)
     ]

@@ -13,5 +13,6 @@ invariant-loop-seen l =
     (t x : ℕ) → t + l.left ≡ length l.past → x < l.observations ^ t
     → class_after l.observations (drop l.left (map (λ s. s.value) l.past)) x ≡ l.class
     → map policy_tree l.kids.items
-    ≡ map (λ o. tree_doing_after l.observations (action_after l.observations (map (λ s. s.value) l.past)) (l.left - 1) (suc t)
+    ≡ map (λ o. tree_doing_after l.observations (action_after l.observations (map (λ s. s.value) l.past))
+    (l.left - 1) (suc t)
     (x * l.observations + o)) (range_with_len 0 l.seen)

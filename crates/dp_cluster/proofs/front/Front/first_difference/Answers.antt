@@ -7,25 +7,30 @@ pub returns-then-t-eq0 : goal.returns-then-t-eq0
 returns-then-t-eq0 c =
     elim c.then-t-eq0.branch [
       | then-t-eq0-via-then-t-eq0 w ↦
-          none_in_proportion c.args.self.now.weights c.args.places.classes c.args.places.width _ c.args.first c.args.second
+          none_in_proportion c.args.self.now.weights c.args.places.classes c.args.places.width _ c.args.first
+          c.args.second
           (inl (sym c.total-t.ensures ∙ w.if-t-eq0.true))
       | then-t-eq0-via-else-t-eq0+then-u-eq0 w ↦
-          none_in_proportion c.args.self.now.weights c.args.places.classes c.args.places.width _ c.args.first c.args.second
+          none_in_proportion c.args.self.now.weights c.args.places.classes c.args.places.width _ c.args.first
+          c.args.second
           (inr (sym c.total-u.ensures ∙ w.if-u-eq0.true))
     ]
 
 pub overflow_mul-result : goal.overflow_mul-result
 overflow_mul-result c =
     let ps = c.args.places in
-    let few = place_few c.args.self.now.weights ps.rows ps.classes ps.width c.requires.runs c.loop-row.row c.args.first
+    let few = place_few c.args.self.now.weights ps.rows ps.classes ps.width c.requires.runs c.loop-row.row
+    c.args.first
     c.loop-row-test.true c.requires.first 0 c.requires.runs.some in
     omega (arith, few)
 
 pub overflow_add-result : goal.overflow_add-result
 overflow_add-result c =
     let ps = c.args.places in
-    let inside : c.in-Some.at < ps.width = subst (λ (x : ℕ). c.in-Some.at < x) c.run-one.ensures.width c.in-Some.ensures.below in
-    let few = place_few c.args.self.now.weights ps.rows ps.classes ps.width c.requires.runs c.loop-row.row c.args.first
+    let inside : c.in-Some.at < ps.width = subst (λ (x : ℕ). c.in-Some.at < x)
+    c.run-one.ensures.width c.in-Some.ensures.below in
+    let few = place_few c.args.self.now.weights ps.rows ps.classes ps.width c.requires.runs c.loop-row.row
+    c.args.first
     c.loop-row-test.true c.requires.first c.in-Some.at inside in
     omega (arith, few)
 

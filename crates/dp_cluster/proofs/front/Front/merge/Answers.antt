@@ -25,8 +25,11 @@ returns-in-Some-clause-fault c = λ m is.
     let exact : c.args.self.now.is_exact ≡ true = cc in
     let are = comparable c.args.self.now c.args.agent c.args.first c.args.second _ _ exact c.requires.order
     c.if-first-second.false c.requires.agent c.requires.class c.action.ensures (sym c.if-is_some.ensures)
-    c.action-else-is_some.ensures (sym c.if-is_some-2.ensures) in
-    (are, unequal m c.args.self.now c.args.agent c.args.first c.args.second c.in-Some.place c.first_unequal.result (c.first_unequal.ensures m is) c.in-Some.is)
+    c.action-else-is_some.ensures (sym c.if-is_some-2.ensures) in (
+      are,
+      unequal m c.args.self.now c.args.agent c.args.first c.args.second c.in-Some.place c.first_unequal.result
+          (c.first_unequal.ensures m is) c.in-Some.is,
+    )
 
 pub joined-requires-clause-first : goal.joined-requires-clause-first
 joined-requires-clause-first c =
@@ -50,7 +53,8 @@ returns-in-Ok-clause-merged c = λ m is.
     let are = comparable c.args.self.now c.args.agent c.args.first c.args.second _ _ exact c.requires.order
     c.if-first-second.false c.requires.agent c.requires.class c.action.ensures (sym c.if-is_some.ensures)
     c.action-else-is_some.ensures (sym c.if-is_some-2.ensures) in
-    merged m c.args.self.now c.args.agent c.args.first c.args.second c.first_unequal.result are (c.first_unequal.ensures m is) c.in_default.is
+    merged m c.args.self.now c.args.agent c.args.first c.args.second c.first_unequal.result are
+    (c.first_unequal.ensures m is) c.in_default.is
 
 pub returns-in-Ok-clause-loses_nothing : goal.returns-in-Ok-clause-loses_nothing
 returns-in-Ok-clause-loses_nothing c = λ m is.
@@ -58,7 +62,8 @@ returns-in-Ok-clause-loses_nothing c = λ m is.
     let are = comparable c.args.self.now c.args.agent c.args.first c.args.second _ _ exact c.requires.order
     c.if-first-second.false c.requires.agent c.requires.class c.action.ensures (sym c.if-is_some.ensures)
     c.action-else-is_some.ensures (sym c.if-is_some-2.ensures) in
-    let all = merged m c.args.self.now c.args.agent c.args.first c.args.second c.first_unequal.result are (c.first_unequal.ensures m is) c.in_default.is in
+    let all = merged m c.args.self.now c.args.agent c.args.first c.args.second c.first_unequal.result are
+    (c.first_unequal.ensures m is) c.in_default.is in
     subst (λ (F : Front). LosesNothing m c.args.self.now.horizon c.args.self.now.front F) (sym c.in-Ok.ensures.front)
     (loses_nothing m c.args.self.now c.args.agent c.args.first c.args.second is c.requires.stage all)
 
@@ -77,4 +82,5 @@ returns-in-Err-clause-fault c = λ m is.
     let are = comparable c.args.self.now c.args.agent c.args.first c.args.second _ _ exact c.requires.order
     c.if-first-second.false c.requires.agent c.requires.class c.action.ensures (sym c.if-is_some.ensures)
     c.action-else-is_some.ensures (sym c.if-is_some-2.ensures) in
-    merged m c.args.self.now c.args.agent c.args.first c.args.second c.first_unequal.result are (c.first_unequal.ensures m is) c.in_default.is
+    merged m c.args.self.now c.args.agent c.args.first c.args.second c.first_unequal.result are
+    (c.first_unequal.ensures m is) c.in_default.is

@@ -7,7 +7,8 @@ use Rattle.dp_cluster.proofs.front.Front.own_vector.Goals as goal
 
 pub returns-then-is_some : goal.returns-then-is_some
 returns-then-is_some c = λ m is.
-    assigned c.args.self.now.front.agents c.args.agent c.args.class c.action.result c.action.ensures (sym c.if-is_some.ensures)
+    assigned c.args.self.now.front.agents c.args.agent c.args.class c.action.result c.action.ensures
+    (sym c.if-is_some.ensures)
 
 pub total-requires-clause-room : goal.total-requires-clause-room
 total-requires-clause-room c =
@@ -46,9 +47,15 @@ returns c = λ m is.
     ∙ vector_at m c.args.self.now is c.requires.exact c.requires.stage c.args.agent
     c.requires.agent c.args.class c.requires.class _ _ _ ps.rows ps.classes ps.width in
     let all = c.primitive.new.values in
-    let size : c.in_ok-weights.weights.len ≡ length all = omega (arith, c.in_ok-weights.weights.ok.0, c.primitive.auto.values, c.deref_mut.ensures.len) in
+    let size : c.in_ok-weights.weights.len ≡ length all = omega
+    (arith, c.in_ok-weights.weights.ok.0, c.primitive.auto.values, c.deref_mut.ensures.len) in
     let made = c.primitive.ensures (class_vector m c.args.self.now.front c.args.agent c.args.class) vector in (
       none_unassigned c.args.self.now.front.agents c.args.agent c.args.class c.requires.agent c.requires.class none,
       omega (arith, total, c.total.ensures, some),
-      (made.0, made.1, ap (λ n. take n (all ++ drop (length all) c.in_ok-weights.weights.items)) size ∙ take-append_seam all _ ∙ made.2),
+      (
+        made.0,
+        made.1,
+        ap (λ n. take n (all ++ drop (length all) c.in_ok-weights.weights.items)) size
+            ∙ take-append_seam all _ ∙ made.2,
+      ),
     )

@@ -11,4 +11,5 @@ places-places-requires-clause-some_class c =
 pub loop-class-preserved : goal.loop-class-preserved
 loop-class-preserved c = λ m is.
     vectors_next m c.args.self.now.horizon c.args.self.now.front is.front c.args.agent c.requires.agent
-    c.loop-class.class _ _ _ (c.loop-class.invariant m is) (c.in_ok-own_vector.ensures m is) c.in_ok-push.ensures.items
+    c.loop-class.class _ _ _ (c.loop-class.invariant m is) (c.in_ok-own_vector.ensures m is)
+    c.in_ok-push.ensures.items

@@ -4,7 +4,8 @@ use Rattle.dp_cluster.proofs.front.Front.places.Goals as goal
 
 pub overflow_mul-result : goal.overflow_mul-result
 overflow_mul-result c =
-    let counted : AreCounted c.args.self.now c.args.agent c.joint_classes.result c.classes-classes.result c.width_behind-width.result c.args.self.now.states =
+    let counted : AreCounted c.args.self.now c.args.agent c.joint_classes.result c.classes-classes.result
+    c.width_behind-width.result c.args.self.now.states =
     record {
       stored = c.invariant.ensures;
       stage = c.requires.stage;
@@ -16,12 +17,14 @@ overflow_mul-result c =
       width_is = c.width_behind-width.ensures;
       states_is = refl;
     } in
-    let few = few_runs c.args.self.now c.args.agent c.joint_classes.result c.classes-classes.result c.width_behind-width.result
+    let few = few_runs c.args.self.now c.args.agent c.joint_classes.result c.classes-classes.result
+    c.width_behind-width.result
     c.args.self.now.states counted in omega (arith, few)
 
 pub overflow_mul-result-2 : goal.overflow_mul-result-2
 overflow_mul-result-2 c =
-    let counted : AreCounted c.args.self.now c.args.agent c.joint_classes.result c.classes-classes.result c.width_behind-width.result c.states.result =
+    let counted : AreCounted c.args.self.now c.args.agent c.joint_classes.result c.classes-classes.result
+    c.width_behind-width.result c.states.result =
     record {
       stored = c.invariant.ensures;
       stage = c.requires.stage;
@@ -33,13 +36,15 @@ overflow_mul-result-2 c =
       width_is = c.width_behind-width.ensures;
       states_is = c.states.ensures;
     } in
-    let few = few_places c.args.self.now c.args.agent c.joint_classes.result c.classes-classes.result c.width_behind-width.result
+    let few = few_places c.args.self.now c.args.agent c.joint_classes.result c.classes-classes.result
+    c.width_behind-width.result
     c.states.result counted in omega (arith, few)
 
 pub returns : goal.returns
 returns c =
     let k = c.args.self.now in
-    let counted : AreCounted k c.args.agent c.joint_classes.result c.classes-classes.result c.width_behind-width.result c.states.result =
+    let counted : AreCounted k c.args.agent c.joint_classes.result c.classes-classes.result
+    c.width_behind-width.result c.states.result =
     record {
       stored = c.invariant.ensures;
       stage = c.requires.stage;
@@ -52,8 +57,10 @@ returns c =
       states_is = c.states.ensures;
     } in
     record {
-      rows = rows_are k c.args.agent c.joint_classes.result c.classes-classes.result c.width_behind-width.result c.states.result counted;
+      rows = rows_are k c.args.agent c.joint_classes.result c.classes-classes.result c.width_behind-width.result
+          c.states.result counted;
       classes = c.classes-classes.ensures;
       width = λ j. c.width_behind-width.ensures j * c.states.ensures j;
-      runs = runs_are k c.args.agent c.joint_classes.result c.classes-classes.result c.width_behind-width.result c.states.result counted;
+      runs = runs_are k c.args.agent c.joint_classes.result c.classes-classes.result c.width_behind-width.result
+          c.states.result counted;
     }

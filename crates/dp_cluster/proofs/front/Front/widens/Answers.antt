@@ -8,7 +8,8 @@ pub returns-then-stage-horizon : goal.returns-then-stage-horizon
 returns-then-stage-horizon c =
     let early : suc c.args.self.now.front.stage < c.args.self.now.horizon = omega arith in
     widens_by_room c.args.m.now.model c.args.self.now c.requires.of_model c.joint_classes.result c.from.result
-    c.joint_classes.ensures.is (c.from.ensures ∙ c.joint_observations.ensures.is) c.is_room.result c.is_room.ensures early
+    c.joint_classes.ensures.is (c.from.ensures ∙ c.joint_observations.ensures.is)
+    c.is_room.result c.is_room.ensures early
 
 pub returns-else-stage-horizon : goal.returns-else-stage-horizon
 returns-else-stage-horizon c =

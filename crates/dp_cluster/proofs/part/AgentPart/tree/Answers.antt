@@ -21,6 +21,7 @@ returns c =
     let value = c.deref-past.ensures.value in
     let count = ap (λ l. length l) value ∙ sym (length-map kept (λ s. s.value)) in
     IfOk-weaker c.tree_after.result _ _ (λ q all.
-    all 0 0 (omega arith) (first_below n) (first_class n (map (λ s. s.value) given) (length given) (sym (length-map given (λ s. s.value))))
+    all 0 0 (omega arith) (first_below n) (first_class n (map (λ s. s.value) given) (length given)
+    (sym (length-map given (λ s. s.value))))
     ∙ (λ j. tree_doing_after n (action_after n (map (λ s. s.value) (value j))) (count j) 0 0)
     ∙ whole_is n (map (λ s. s.value) kept) _ _ c.args.self.now c.self.view_is) c.tree_after.ensures
