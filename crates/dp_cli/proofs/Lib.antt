@@ -10,3 +10,8 @@ mod Sound
 mod Statuses
 mod Telling
 mod TooLong
+mod ValueIsSound
+mod WorthSizes
+mod PolicyLimits
+mod Policies
+mod ValueTexts

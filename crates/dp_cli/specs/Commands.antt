@@ -1,8 +1,10 @@
 -- The command of each job.
 use Rattle.dp_words.specs.declared.job.Job.{Job}
-use Rattle.dp_words.specs.declared.job.Job.TheVariants.{Plan}
+use Rattle.dp_words.specs.declared.job.Job.TheVariants.{Plan, Value}
 use Rattle.dp_cli.specs.Command.{Command}
 use Rattle.dp_cli.specs.PlanCommand.{plan_command}
+use Rattle.dp_cli.specs.ValueCommand.{value_command}
 
 abbrev pub command_of : Job → Command
 command_of (Plan job) = plan_command job
+command_of (Value job) = value_command job

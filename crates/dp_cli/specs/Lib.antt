@@ -11,3 +11,4 @@ pub mod Refusal
 pub mod Run
 pub mod Status
 pub mod Steps
+pub mod ValueCommand

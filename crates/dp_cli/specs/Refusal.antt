@@ -2,12 +2,16 @@
 use Rattle.std.specs.Prelude.{ℕ, List, ◌++◌, codes, decimal}
 use Rattle.dp_io.specs.declared.shelf.FetchFault.{FetchFault}
 use Rattle.dp_io.specs.declared.shelf.FetchFault.TheVariants as fetch_faults
+use Rattle.dp_lines.specs.declared.why.FileWhy.{FileWhy}
+use Rattle.dp_lines.specs.declared.why.FileWhy.TheVariants.{Shape, Number, Range}
 use Rattle.dp_model.specs.declared.limit.Limit.{Limit}
 use Rattle.dp_model.specs.declared.limit.Limit.TheVariants.{ModelBytes, FileBytes}
 use Rattle.dp_model.specs.declared.limit.TooLarge.{TooLarge}
 use Rattle.dp_model.specs.Limits.{greatest_allowed, limit_word}
 use Rattle.dp_meaning.specs.declared.why.Why.{Why}
 use Rattle.dp_meaning.specs.Faults.{why_word}
+use Rattle.dp_policy.specs.declared.fault.PolicyFault.{PolicyFault}
+use Rattle.dp_policy.specs.declared.fault.PolicyFault.TheVariants as policy_faults
 use Rattle.dp_reader.specs.declared.fault.ModelFault.{ModelFault}
 use Rattle.dp_reader.specs.declared.fault.ModelFault.TheVariants as model_faults
 use Rattle.dp_words.specs.declared.job.WordFault.{WordFault}
@@ -53,9 +57,16 @@ model_refusal (model_faults.At line column why) = refusals.Fault (job_faults.Bad
 model_refusal (model_faults.TooLarge passed) = refusals.Fault (job_faults.TooLarge passed)
 model_refusal model_faults.Memory = refusals.Memory
 
+-- bytes that are no policy
+abbrev pub policy_refusal : PolicyFault → Refusal
+policy_refusal (policy_faults.At line why) = refusals.Fault (job_faults.BadFile line why)
+policy_refusal (policy_faults.TooLarge passed) = refusals.Fault (job_faults.TooLarge passed)
+policy_refusal policy_faults.Memory = refusals.Memory
+
 -- the exit status of what is wrong with the texts of a job
 abbrev pub fault_status : JobFault → Status
 fault_status (job_faults.BadModel line column why) = statuses.BadModel
+fault_status (job_faults.BadFile line why) = statuses.BadFile
 fault_status (job_faults.TooLarge passed) = statuses.TooLarge
 fault_status (job_faults.Unbuilt part) = statuses.Unbuilt
 
@@ -76,6 +87,16 @@ model_line line column why =
     codes "refused model line " ++ (decimal line ++ (codes " column " ++ (decimal column
     ++ (codes " " ++ (why_word why ++ codes "\n")))))
 
+-- the word of why a line is not as required
+abbrev pub line_word : FileWhy → List ℕ
+line_word Shape = codes "shape"
+line_word Number = codes "number"
+line_word Range = codes "range"
+
+-- the first line of a second file that is not as required
+abbrev pub file_line : ℕ → FileWhy → List ℕ
+file_line line why = codes "refused file line " ++ (decimal line ++ (codes " " ++ (line_word why ++ codes "\n")))
+
 -- the number of the fetch that failed
 abbrev pub read_line : FileRole → List ℕ
 read_line Model = codes "refused read 1\n"
@@ -89,6 +110,7 @@ unbuilt_line Outward = codes "refused unbuilt outward\n"
 -- the line that tells what is wrong with the texts of a job
 abbrev pub fault_line : JobFault → List ℕ
 fault_line (job_faults.BadModel line column why) = model_line line column why
+fault_line (job_faults.BadFile line why) = file_line line why
 fault_line (job_faults.TooLarge passed) = large_line passed
 fault_line (job_faults.Unbuilt part) = unbuilt_line part
 

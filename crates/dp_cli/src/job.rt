@@ -6,6 +6,7 @@ ghost use Rattle.dp_cli.specs.Steps.{answer_of};
 
 use crate::Refusal;
 use crate::plan::plan;
+use crate::value::value;
 use dp_io::Shelf;
 use dp_words::{Job, read_words};
 use std::alloc::Global;
@@ -30,5 +31,6 @@ fn do_job<S: Shelf>(alloc: Global, job: &Job, shelf: &mut S) -> Result<Vec<u8>, 
 {
     match job {
         Job::Plan(job) => plan(alloc, job, shelf),
+        Job::Value(job) => value(alloc, job, shelf),
     }
 }

@@ -14,6 +14,7 @@ mod plan;
 mod put;
 mod refusal;
 mod status;
+mod value;
 
 use dp_io::{Shelf, Sink};
 use job::do_words;
@@ -45,7 +46,8 @@ pub fn run<S: Shelf, W: Sink>(alloc: Global, words: &[String], shelf: &mut S, ou
     // the text is that of a certificate, over the horizon and with the look of the job, that is valid for
     // the model of the file's bytes, the value of its policy lies in its interval, and no joint policy is
     // worth more than the upper end; where it is closed and exact, its ends are equal and its policy is
-    // optimal.
+    // optimal. Of `value`: the bytes of the second file are the text of a joint policy for the model of
+    // the first, and the two numbers of the text are its value, or hold it between them.
     ensures certified { result ≡ Status.Done → IsCertified (job_of (map string_bytes words.now))
         (S.view shelf.old) (S.view shelf.new) (W.view out.old) (W.view out.new) }
 

@@ -1,6 +1,6 @@
 // The one put of a call.
 ghost use Rattle.std.specs.Prelude.{◌≡◌, ◌<◌, ◌^◌, string_bytes, IfErr, IfOk};
-ghost use Rattle.dp_cli.specs.Refusal.{fault_line, large_line, model_line};
+ghost use Rattle.dp_cli.specs.Refusal.{fault_line, file_line, large_line, line_word, model_line};
 ghost use Rattle.dp_cli.specs.Answer.{refused};
 ghost use Rattle.dp_cli.specs.Put.{PutsAnswer};
 ghost use Rattle.dp_cli.specs.Steps.{PutsOutcome, PutsRefusal};
@@ -8,6 +8,7 @@ ghost use Rattle.dp_cli.specs.Steps.{PutsOutcome, PutsRefusal};
 use crate::{JobFault, Refusal, Status};
 use dp_base::Memory;
 use dp_io::Sink;
+use dp_lines::FileWhy;
 use dp_meaning::Why;
 use dp_model::TooLarge;
 use std::alloc::Global;
@@ -60,6 +61,7 @@ fn line_of_fault(alloc: Global, fault: JobFault) -> Result<String, Memory>
 {
     match fault {
         JobFault::BadModel { line, column, why } => line_of_model(alloc, line, column, why),
+        JobFault::BadFile { line, why } => line_of_file(alloc, line, why),
         JobFault::TooLarge(passed) => line_of_limit(alloc, passed),
         JobFault::Unbuilt(part) => Ok(String::from_str(alloc, part.line())?),
     }
@@ -71,6 +73,25 @@ fn line_of_model(alloc: Global, line: u32, column: u32, why: Why) -> Result<Stri
 {
     let word = why.word();
     Ok(format!(in alloc; "refused model line {line} column {column} {word}\n")?)
+}
+
+// The line that tells the first line of a second file that is not as required.
+fn line_of_file(alloc: Global, line: u32, why: FileWhy) -> Result<String, Memory>
+    ensures { IfOk result (λ text. string_bytes text ≡ file_line line why) }
+{
+    let word = line_word(why);
+    Ok(format!(in alloc; "refused file line {line} {word}\n")?)
+}
+
+// The word of why a line is not as required.
+fn line_word(why: FileWhy) -> &'static str
+    ensures { result.now ≡ line_word why }
+{
+    match why {
+        FileWhy::Shape => "shape",
+        FileWhy::Number => "number",
+        FileWhy::Range => "range",
+    }
 }
 
 // The line that tells a limit that was passed.

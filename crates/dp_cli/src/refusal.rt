@@ -4,8 +4,10 @@ ghost use Rattle.dp_cli.specs.Refusal.{word_refusal, fetch_refusal};
 use crate::Status;
 use dp_base::Memory;
 use dp_io::FetchFault;
+use dp_lines::FileWhy;
 use dp_meaning::Why;
 use dp_model::{Limit, TooLarge};
+use dp_policy::PolicyFault;
 use dp_reader::ModelFault;
 use dp_words::WordFault;
 
@@ -32,6 +34,8 @@ pub enum UnbuiltPart {
 pub enum JobFault {
     /// The first file is no model: what is wrong, and where. Lines and columns count from 1.
     BadModel { line: u32, column: u32, why: Why },
+    /// The second file has a line that is not as required. Lines count from 1.
+    BadFile { line: u32, why: FileWhy },
     /// A limit is passed.
     TooLarge(TooLarge),
     /// The job needs what is not built yet.
@@ -88,6 +92,20 @@ impl From<ModelFault> for Refusal {
     }
 }
 
+impl From<PolicyFault> for Refusal {
+    ghost use Rattle.dp_cli.specs.Refusal.{policy_refusal};
+
+    ghost from_gives = { λ fault refusal. refusal ≡ policy_refusal fault };
+
+    fn from(fault: PolicyFault) -> Refusal {
+        match fault {
+            PolicyFault::At { line, why } => Refusal::Fault(JobFault::BadFile { line, why }),
+            PolicyFault::TooLarge(passed) => Refusal::Fault(JobFault::TooLarge(passed)),
+            PolicyFault::Memory => Refusal::Memory,
+        }
+    }
+}
+
 impl From<JobFault> for Refusal {
     ghost use Rattle.dp_cli.specs.declared.refusal.Refusal.TheVariants as refusals;
 
@@ -118,6 +136,7 @@ impl JobFault {
     {
         match self {
             JobFault::BadModel { .. } => Status::BadModel,
+            JobFault::BadFile { .. } => Status::BadFile,
             JobFault::TooLarge(_) => Status::TooLarge,
             JobFault::Unbuilt(_) => Status::Unbuilt,
         }

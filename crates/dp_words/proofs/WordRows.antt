@@ -2,7 +2,7 @@
 use Rattle.std.proofs.Common.{◌≡◌, ℕ, true, [], ◌∷◌, Option, Some, None, codes, refl}
 use Rattle.dp_base.specs.DecimalShape.{is_index}
 use Rattle.dp_words.specs.declared.job.Job.{Job}
-use Rattle.dp_words.specs.declared.job.Job.TheVariants.{Plan}
+use Rattle.dp_words.specs.declared.job.Job.TheVariants.{Plan, Value}
 use Rattle.dp_words.specs.declared.job.OrderWord.TheVariants.{First}
 use Rattle.dp_words.specs.Line.{Text}
 use Rattle.dp_words.specs.Words.{job_of}
@@ -64,6 +64,19 @@ dash_is_no_value = refl
 no_short_flags : job_of (codes "plan" ∷ codes "-m" ∷ codes "--horizon" ∷ codes "1" ∷ []) ≡ None
 unfolding is_index
 no_short_flags = refl
+
+-- ---- the value of a policy
+
+value_of_files : job_of (codes "value" ∷ codes "m" ∷ codes "p" ∷ [])
+    ≡ Some (Value (record { model = codes "m"; policy = codes "p" }))
+value_of_files = refl
+
+value_without_policy : job_of (codes "value" ∷ codes "m" ∷ []) ≡ None
+value_without_policy = refl
+
+value_with_a_horizon : job_of (codes "value" ∷ codes "m" ∷ codes "p" ∷ codes "--horizon" ∷ codes "1" ∷ []) ≡ None
+unfolding is_index
+value_with_a_horizon = refl
 
 -- ---- what is refused
 

@@ -6,6 +6,8 @@ use dp_base::Memory;
 pub enum Job {
     /// A plan for a model.
     Plan(PlanJob),
+    /// The value of a joint policy.
+    Value(ValueJob),
 }
 
 /// A plan for the model: the version of its certificate's text, its horizon, the budget of inner
@@ -20,6 +22,13 @@ pub struct PlanJob {
     pub look: u32,
     pub merge: bool,
     pub order: OrderWord,
+}
+
+/// The value of the joint policy of a policy file for the model of a model file.
+#[derive(Drop)]
+pub struct ValueJob {
+    pub model: Name,
+    pub policy: Name,
 }
 
 /// The place of a front at which a plan's search branches.

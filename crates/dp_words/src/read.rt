@@ -1,9 +1,9 @@
 // The job of the words.
 ghost use Rattle.std.specs.Prelude.{◌≡◌, ◌∷◌, IfOk, map, true, string_bytes};
-ghost use Rattle.dp_words.specs.Words.{HasLook, HasSomeStep, IsReadAs, all_hold, command_job, job_of, job_of_values, plan_row, row_job};
+ghost use Rattle.dp_words.specs.Words.{HasLook, HasSomeStep, IsReadAs, all_hold, command_job, job_of, job_of_values, plan_row, row_job, value_row};
 ghost use Rattle.dp_words.specs.Command.{merging_off, plain_words, values_of};
 
-use crate::job::{Job, OrderWord, PlanJob, WordFault};
+use crate::job::{Job, OrderWord, PlanJob, ValueJob, WordFault};
 use crate::line::{Setting, all_hold, fits, merging_off, value_of};
 use crate::name::Name;
 use crate::parse::parsed;
@@ -22,6 +22,9 @@ static SETTINGS: [Setting; 1] = [HORIZON];
 
 // The options of `plan`, all of which it requires.
 static PLAN: [&str; 1] = ["horizon"];
+
+// The options of a command that has none.
+static NONE: [&str; 0] = [];
 
 // What a plan does where the words do not say.
 const DEFAULT_VERSION: u32 = 1;
@@ -60,6 +63,23 @@ fn plan(alloc: Global, given: &ArgMatches<'_>, files: &[&str]) -> Result<Job, Wo
     }))
 }
 
+// `value MODEL POLICY`
+fn value(alloc: Global, given: &ArgMatches<'_>, files: &[&str]) -> Result<Job, WordFault>
+    ensures { IsReadAs (row_job (values_of given.now) (merging_off given.now) (map (λ f. f.now) files.now)
+        value_row) result }
+{
+    let [model, policy] = files else {
+        return Err(WordFault::Usage);
+    };
+    if !fits(given, NONE.as_slice(), NONE.as_slice()) {
+        return Err(WordFault::Usage);
+    }
+    Ok(Job::Value(ValueJob {
+        model: Name::of(alloc, model)?,
+        policy: Name::of(alloc, policy)?,
+    }))
+}
+
 // The job of a command.
 fn command_job(
     alloc: Global,
@@ -73,6 +93,7 @@ fn command_job(
 {
     match command {
         "plan" => plan(alloc, given, files),
+        "value" => value(alloc, given, files),
         _ => Err(WordFault::Usage),
     }
 }
@@ -100,8 +121,8 @@ fn matches_job(alloc: Global, given: &ArgMatches<'_>) -> Result<Job, WordFault>
 /// command is unknown, its files are not as many as it takes, an option is unknown, is not the
 /// command's, is given twice or has no value in its range, or one that it requires is missing.
 ///
-/// Today the one command is `plan MODEL --horizon H`, where H is from 1 to 4,294,967,295, in digits
-/// that do not begin with 0. All that the words do not say has its default.
+/// Today the commands are `plan MODEL --horizon H`, where H is from 1 to 4,294,967,295, in digits
+/// that do not begin with 0, and `value MODEL POLICY`. All that the words do not say has its default.
 pub fn read_words(alloc: Global, words: &[String]) -> Result<Job, WordFault>
     ensures read { IsReadAs (job_of (map string_bytes words.now)) result }
     ensures some_step { IfOk result HasSomeStep }
