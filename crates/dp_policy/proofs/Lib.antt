@@ -7,3 +7,7 @@ pub mod TreeValues
 pub mod JoinedTrees
 pub mod ConstantTrees
 pub mod RowsOfTrees
+pub mod PairNumbers
+pub mod KindsOfRows
+pub mod NewNumbers
+pub mod ReducedStages

@@ -3,12 +3,15 @@
 
 mod joined_rows;
 mod joined_trees;
+mod kinds;
 mod plain_rows;
 mod plainness;
 mod policy;
+mod renumbered;
 mod row;
 mod rows_of_action;
 mod shared;
+mod shared_form;
 mod tree;
 mod trees_of_action;
 
@@ -19,5 +22,6 @@ pub use policy::Policy;
 pub use row::Row;
 pub use rows_of_action::constant_rows;
 pub use shared::Shared;
+pub use shared_form::reduce;
 pub use tree::PTree;
 pub use trees_of_action::constant;
