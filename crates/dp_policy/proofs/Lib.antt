@@ -20,3 +20,7 @@ pub mod WrittenTrees
 mod WorkedTexts
 pub mod ConstantTrees
 pub mod RowsOfTrees
+pub mod PairNumbers
+pub mod KindsOfRows
+pub mod NewNumbers
+pub mod ReducedStages

@@ -27,10 +27,10 @@ use Rattle.dp_policy.proofs.PlainStages.{plain_of_agent, small_product}
 
 -- ---- after how many observations a stage goes on
 
-more_nexts : (n h t : ℕ) → suc t < h → cond (nat_lt (suc t) h) n 0 ≡ n
+pub more_nexts : (n h t : ℕ) → suc t < h → cond (nat_lt (suc t) h) n 0 ≡ n
 more_nexts n h t lt = grind (arith, nat_tests)
 
-no_nexts : (n h t : ℕ) → h ≤ suc t → cond (nat_lt (suc t) h) n 0 ≡ 0
+pub no_nexts : (n h t : ℕ) → h ≤ suc t → cond (nat_lt (suc t) h) n 0 ≡ 0
 no_nexts n h t le = grind (arith, nat_tests)
 
 pub few_nexts : (n h t nexts : ℕ) → nexts ≡ cond (nat_lt (suc t) h) n 0 → nexts ≤ n

@@ -22,7 +22,8 @@ pub record AreSubtrees (n : ℕ) (trees subs : List (Bor PTree)) : Type 0 where
 
 -- each of the trees goes on after at least n observations
 pub record GoOn (n : ℕ) (trees : List (Bor PTree)) : Type 0 where
-  pub each : (x : ℕ) → x < length trees → (d : Bor PTree) → n ≤ tree_count (subtrees (policy_tree (get_or trees x d).now))
+  pub each : (x : ℕ) → x < length trees → (d : Bor PTree)
+      → n ≤ tree_count (subtrees (policy_tree (get_or trees x d).now))
 
 -- the row of number c of a tree, which goes on to row c * n + o after each of so many observations o
 abbrev pub tree_row : ℕ → ℕ → PolicyTree → ℕ → PolicyRow
