@@ -14,7 +14,7 @@ use Rattle.dp_spec.specs.JointNumbers.{parts_of, product}
 use Rattle.dp_spec.specs.Steps.{root_agent}
 use Rattle.dp_spec.proofs.JointNumberLaws.{part_below, positive_left, positive_right}
 use Rattle.dp_cluster.specs.KeptFronts.{choice_at}
-use Rattle.dp_cluster.proofs.FrontParts.{choice_read, count_read}
+use Rattle.dp_cluster.proofs.FrontParts.{count_read}
 use Rattle.dp_cluster.proofs.Pairs.{divided, most}
 use Rattle.dp_check.specs.Bounding.{with_greater}
 

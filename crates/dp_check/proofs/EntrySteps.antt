@@ -1,17 +1,15 @@
 -- Branches and merges: what a walk finds at one.
-use Rattle.std.proofs.Common.{◌≡◌, inl, inr, ℕ, zero, suc, ◌+◌, ◌<◌, ◌≤◌, Bool, true, false, not, cond, ℤ, List, [], ◌∷◌, length, get_or, Option, Some, None, refl, sym, ap, ◌∙◌, subst, arith, eqb, ltb, IsTrue}
+use Rattle.std.proofs.Common.{◌≡◌, inl, inr, ℕ, ◌<◌, ◌≤◌, Bool, true, false, not, get_or, refl, sym, ap, ◌∙◌, subst, arith}
 use Rattle.std.specs.Prelude.{◌&&◌, ◌==◌, nat_lt}
-use Rattle.std.specs.Bool.{Decides}
 use Rattle.std.specs.Option.{option_or}
 use Rattle.std.proofs.lemmas.Bool.{and_parts}
 use Rattle.std.proofs.lemmas.Bool.Decides.{Decides-eqb, Decides-ltb, nat_tests}
-use Rattle.dp_spec.specs.Arithmetic.{Arithmetic, arithmetic}
+use Rattle.dp_spec.specs.Arithmetic.{Arithmetic}
 use Rattle.dp_spec.specs.BoundTree.{BoundTree, BoundTrees, branch, child_count, merge}
-use Rattle.dp_spec.specs.Front.{Front, class_counts}
 use Rattle.dp_spec.specs.Merge.{AreEquivalent, merged_front}
 use Rattle.dp_spec.specs.Model.{Model}
 use Rattle.dp_spec.specs.Qualities as qualities
-use Rattle.dp_spec.specs.Reasons.{Reason, children_are, is_unassigned, may_branch, may_merge, may_refine, no_place, tree_reason, unequal_at, unequal_reason, unless}
+use Rattle.dp_spec.specs.Reasons.{children_are, is_unassigned, may_branch, may_merge, may_refine, no_place, unequal_at, unequal_reason, unless}
 use Rattle.dp_spec.specs.Steps.{IsUnassigned}
 use Rattle.dp_spec.specs.UnequalPlaces.{IsFirstUnequal, first_unequal}
 use Rattle.dp_spec.specs.Wide.{has_room, is_wide}
@@ -19,11 +17,10 @@ use Rattle.dp_laws.proofs.FrontRoom.{merging_keeps_room}
 use Rattle.dp_laws.proofs.SizeLaws.{arithmetic_is_exact}
 use Rattle.dp_laws.proofs.UnequalPlaces.{first_unequal_is, none_unequal_is}
 use Rattle.dp_cluster.specs.KeptFronts.{IsFrontOf, KeptFront}
-use Rattle.dp_cluster.proofs.FrontParts.{unassigned_in}
 use Rattle.dp_check.specs.Bounding.{IsBounding, IsWithRoom, arithmetic_of}
 use Rattle.dp_check.specs.Entries.{IsEnterable, MayFail, NamesPlace}
 use Rattle.dp_check.specs.Nodes.{IsNodeOf, node_with}
-use Rattle.dp_check.specs.Walks.{Walked, counted, entered, has_no_pairs, or_stopped, passed, stopped}
+use Rattle.dp_check.specs.Walks.{counted, entered, or_stopped, passed, stopped}
 use Rattle.dp_check.specs.declared.bounds.Bounds.{Bounds}
 use Rattle.dp_check.specs.declared.node.Node.{Node}
 use Rattle.dp_check.specs.declared.tally.Tally.{Tally}

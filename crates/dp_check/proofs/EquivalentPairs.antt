@@ -1,8 +1,8 @@
 -- Whether two classes could be merged, as a test.
-use Rattle.std.proofs.Common.{◌≡◌, ℕ, zero, suc, ◌+◌, ◌<◌, ◌≤◌, Bool, true, false, not, List, [], ◌∷◌, length, get_or, add-one, Option, Some, None, refl, sym, ap, ◌∙◌, arith, eqb, ltb, IsTrue}
-use Rattle.std.specs.Prelude.{is_none, ◌&&◌, ◌↔◌}
+use Rattle.std.proofs.Common.{◌≡◌, ℕ, zero, suc, ◌+◌, ◌<◌, Bool, true, false, not, List, [], ◌∷◌, length, get_or, add-one, Option, Some, None, refl, ap, ◌∙◌, ltb}
+use Rattle.std.specs.Prelude.{is_none, ◌&&◌}
 use Rattle.std.specs.Bool.{Decides}
-use Rattle.std.proofs.lemmas.Bool.Decides.{Decides-and, Decides-below_and, Decides-like, Decides-ltb, Decides-not, not_from_Decides}
+use Rattle.std.proofs.lemmas.Bool.Decides.{Decides-and, Decides-below_and, Decides-like, Decides-ltb, Decides-not}
 use Rattle.dp_spec.specs.Front.{AgentFront, Front, class_counts}
 use Rattle.dp_spec.specs.Merge.{AreEquivalent}
 use Rattle.dp_spec.specs.Model.{Model}

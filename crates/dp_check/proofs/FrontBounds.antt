@@ -1,5 +1,5 @@
 -- What is known of a front that a check bounds, and its bound as the code adds it up.
-use Rattle.std.proofs.Common.{◌≡◌, ℕ, suc, ◌+◌, ◌-◌, ◌*◌, ◌^◌, ◌<◌, ◌≤◌, Bool, true, false, ℤ, pos, ◌+ℤ◌, unsigned_abs, List, length, get_or, refl, sym, ap, ◌∙◌, subst, arith}
+use Rattle.std.proofs.Common.{◌≡◌, ℕ, suc, ◌+◌, ◌-◌, ◌*◌, ◌^◌, ◌<◌, ◌≤◌, Bool, ℤ, pos, ◌+ℤ◌, unsigned_abs, List, length, get_or, sym, ap, ◌∙◌, subst, arith}
 use Rattle.std.proofs.lemmas.Int.{ints}
 use Rattle.std.proofs.Math.Nat.{mul-le-mul_right}
 use Rattle.dp_base.specs.Sums.{greatest, int_sum}
@@ -14,16 +14,15 @@ use Rattle.dp_spec.specs.Mode.{is_exact_mode}
 use Rattle.dp_spec.specs.Model.{Model, joint_actions}
 use Rattle.dp_spec.specs.Quantities.{action_look_ahead_in, bound_in, class_weight_in, earned_reward_in}
 use Rattle.dp_spec.specs.Sizes.{AreWeights}
-use Rattle.dp_spec.specs.SizesOfEarnings.{earned_size}
 use Rattle.dp_spec.specs.SizesOfFronts.{CanRefine, class_look_size}
 use Rattle.dp_spec.specs.WellFormed.{IsFront}
 use Rattle.dp_laws.proofs.EqualWeights.{weights_same}
 use Rattle.dp_laws.proofs.FrontRoom.{apart_within_cells}
 use Rattle.dp_laws.proofs.SizeLaws.{arithmetic_is_exact, mode_can_refine}
 use Rattle.dp_laws.proofs.SizeSums.{abs_add, agreeing_below, earned_size_le, int_sum_part}
-use Rattle.dp_cluster.specs.KeptFronts.{IsFrontOf, KeptFront, kept_weight}
+use Rattle.dp_cluster.specs.KeptFronts.{KeptFront, kept_weight}
 use Rattle.dp_value.specs.WeightUpdates.{weights_of}
-use Rattle.dp_check.specs.Bounding.{AreLookAheads, IsBounding, IsWithRoom, arithmetic_of, look_ahead_at, rows_of}
+use Rattle.dp_check.specs.Bounding.{AreLookAheads, IsBounding, IsWithRoom, arithmetic_of, look_ahead_at}
 use Rattle.dp_check.specs.declared.bounds.Bounds.{Bounds}
 use Rattle.dp_check.proofs.LookRows.{action_look_ahead_in_ext, rows_at, rows_length}
 

@@ -1,9 +1,8 @@
 -- What a verdict says of a certificate.
-use Rattle.std.proofs.Common.{◌≡◌, Option, Some, None, sym, ◌∙◌}
-use Rattle.std.specs.Prelude.{◌↔◌}
+use Rattle.std.proofs.Common.{◌≡◌, Some, None, sym, ◌∙◌}
 use Rattle.dp_spec.specs.Certificate.{Certificate, IsCertificateOf, IsValid}
 use Rattle.dp_spec.specs.FirstReason.{IsFirstReason}
-use Rattle.dp_spec.specs.Model.{IsModel, Model}
+use Rattle.dp_spec.specs.Model.{Model}
 use Rattle.dp_spec.specs.Reasons.{Reason, first_reason}
 use Rattle.dp_laws.proofs.FirstReasons.{first_reason_is, no_reason_where_valid}
 

@@ -1,6 +1,5 @@
 -- What is counted over the nodes of a tree: the branches and merges, and the greatest bound of a leaf.
-use Rattle.std.proofs.Common.{◌≡◌, ℕ, zero, suc, ◌+◌, ◌<◌, ◌≤◌, Bool, true, false, cond, ℤ, pos, List, [], ◌∷◌, ◌++◌, Option, Some, None, refl, sym, ap, ◌∙◌, subst, arith}
-use Rattle.std.specs.Prelude.{unwrap_or}
+use Rattle.std.proofs.Common.{◌≡◌, ℕ, suc, ◌+◌, ◌≤◌, ℤ, List, [], ◌∷◌, ◌++◌, Option, Some, None, refl, sym, ap, ◌∙◌, arith}
 use Rattle.std.specs.Int.{int_max, int_min}
 use Rattle.std.proofs.lemmas.Int.{ints, clamps}
 use Rattle.dp_spec.specs.Arithmetic.{Arithmetic}
@@ -13,7 +12,7 @@ use Rattle.dp_spec.specs.Qualities.{Node, nodes_of, nodes_of_choices}
 use Rattle.dp_spec.specs.Reasons.{Reason, tree_reason}
 use Rattle.dp_spec.specs.Steps.{front_after_choice}
 use Rattle.dp_check.specs.Bounding.{with_greater}
-use Rattle.dp_check.specs.Walks.{Walked, counted, or_stopped, passed, stopped, walked}
+use Rattle.dp_check.specs.Walks.{Walked, counted, or_stopped, passed, walked}
 use Rattle.dp_check.specs.declared.tally.Tally.{Tally}
 use Rattle.dp_check.proofs.WalkSteps.{same_tally}
 

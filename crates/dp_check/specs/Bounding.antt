@@ -3,7 +3,7 @@ use Rattle.std.specs.Prelude.{ℕ, zero, suc, ◌-◌, ◌<◌, ◌≤◌, ◌�
 use Rattle.std.specs.Int.{int_max}
 use Rattle.std.specs.List.{range_with_len}
 use Rattle.dp_spec.specs.Arithmetic.{Arithmetic, arithmetic}
-use Rattle.dp_spec.specs.Front.{AgentFront, Front, class_counts}
+use Rattle.dp_spec.specs.Front.{Front, class_counts}
 use Rattle.dp_spec.specs.JointNumbers.{parts_of, product}
 use Rattle.dp_spec.specs.Mode.{IsTrueFit}
 use Rattle.dp_spec.specs.Model.{Model, joint_actions}

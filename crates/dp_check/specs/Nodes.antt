@@ -1,5 +1,5 @@
 -- The nodes of a bound tree as the code holds them. (Own.)
-use Rattle.std.specs.Prelude.{ℕ, suc, ◌≤◌, ◌≡◌, ℤ, List}
+use Rattle.std.specs.Prelude.{suc, ◌≤◌, ◌≡◌, List}
 use Rattle.std.specs.Int.{int_min}
 use Rattle.dp_spec.specs.BoundTree.{BoundTree}
 use Rattle.dp_spec.specs.Fitting.{front_bound}

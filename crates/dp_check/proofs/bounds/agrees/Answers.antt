@@ -1,6 +1,5 @@
 use Rattle.std.proofs.Common.{◌≡◌, ◌<◌, ◌≤◌, length, sym, ◌∙◌, arith, rules}
-use Rattle.std.proofs.lemmas.List.{length-map}
-use Rattle.dp_spec.specs.Front.{AgentFront, class_counts}
+use Rattle.dp_spec.specs.Front.{class_counts}
 use Rattle.dp_spec.specs.JointNumbers.{parts_of}
 use Rattle.dp_spec.proofs.JointNumberLaws.{length-parts_of}
 use Rattle.dp_cluster.proofs.ChosenActions.{agents_of}

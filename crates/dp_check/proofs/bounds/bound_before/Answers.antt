@@ -1,18 +1,12 @@
-use Rattle.std.proofs.Common.{◌≡◌, ℕ, suc, ◌+◌, ◌*◌, ◌<◌, ◌≤◌, ◌^◌, ℤ, pos, length, get_or, unsigned_abs, refl, sym, ap, subst, ◌∙◌, arith, rules}
+use Rattle.std.proofs.Common.{◌≡◌, suc, ◌<◌, ap, ◌∙◌, arith, rules}
 use Rattle.std.specs.Int.{w128}
-use Rattle.std.proofs.lemmas.Int.{to_z-of_z, ints}
+use Rattle.std.proofs.lemmas.Int.{to_z-of_z}
 use mir.Val.{SFits}
-use Rattle.dp_base.specs.Sums.{greatest}
 use Rattle.dp_spec.specs.declared.span.Span.{Span}
-use Rattle.dp_spec.specs.Bound.{agreeing_actions}
-use Rattle.dp_spec.specs.Front.{class_counts, fixed_joint_action}
+use Rattle.dp_spec.specs.Front.{class_counts}
 use Rattle.dp_spec.specs.JointNumbers.{product}
-use Rattle.dp_spec.specs.Model.{joint_actions}
-use Rattle.dp_spec.specs.Quantities.{earned_reward_in}
-use Rattle.dp_spec.proofs.JointNumberLaws.{row_below}
 use Rattle.dp_pomdp.proofs.Steps.{offset_fits, offset_next}
-use Rattle.dp_check.specs.Bounding.{arithmetic_of, look_ahead_at}
-use Rattle.dp_check.proofs.FrontBounds.{added, best_is, bound_is, bound_small, bound_start, earned_is, looks_long, row_room}
+use Rattle.dp_check.proofs.FrontBounds.{added, bound_is, bound_small, bound_start, row_room}
 use Rattle.dp_check.proofs.bounds.bound_before.Goals as goal
 
 pub row_of-requires : goal.row_of-requires

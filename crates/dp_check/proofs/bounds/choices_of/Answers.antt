@@ -1,5 +1,5 @@
-use Rattle.std.proofs.Common.{◌<◌, ◌≤◌, length, arith, rules}
-use Rattle.dp_check.proofs.Choices.{own_in, own_small, reading_next, reading_starts, some_after}
+use Rattle.std.proofs.Common.{◌<◌, length, arith}
+use Rattle.dp_check.proofs.Choices.{own_in, reading_next, some_after}
 use Rattle.dp_check.proofs.bounds.choices_of.Goals as goal
 
 pub nonzero_div-rest : goal.nonzero_div-rest

@@ -1,4 +1,4 @@
-use Rattle.std.proofs.Common.{◌≡◌, ◌≤◌, ℕ, pos, get_or, filter, ap, ◌∙◌, arith, rules}
+use Rattle.std.proofs.Common.{◌≡◌, ℕ, pos, get_or, filter, ap, ◌∙◌, arith, rules}
 use Rattle.std.specs.Prelude.{unwrap_or}
 use Rattle.std.specs.Int.{w128}
 use Rattle.std.proofs.lemmas.Int.{to_z-of_z}
@@ -8,7 +8,7 @@ use Rattle.dp_spec.specs.Bound.{agreeing_actions, all_agree}
 use Rattle.dp_spec.specs.Front.{class_counts}
 use Rattle.dp_spec.specs.JointNumbers.{parts_of}
 use Rattle.dp_spec.specs.Model.{joint_actions}
-use Rattle.dp_check.proofs.Choices.{best_is_greatest, best_next}
+use Rattle.dp_check.proofs.Choices.{best_is_greatest}
 use Rattle.dp_check.proofs.bounds.class_bound.Goals as goal
 
 pub returns : goal.returns

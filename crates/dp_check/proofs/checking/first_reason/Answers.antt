@@ -1,9 +1,8 @@
-use Rattle.std.proofs.Common.{◌≡◌, ℕ, pos, sym, ap, subst, ◌∙◌, rules, refl}
+use Rattle.std.proofs.Common.{◌≡◌, pos, ap, ◌∙◌, rules}
 use Rattle.std.specs.Prelude.{unwrap_or}
 use Rattle.dp_spec.specs.Fitting.{front_bound}
 use Rattle.dp_spec.specs.Steps.{root_front}
 use Rattle.dp_spec.specs.Certificate.{arithmetic_for}
-use Rattle.dp_tree.specs.TreeValue.{bound_tree}
 use Rattle.dp_cert.specs.CertificateValue.{certificate_of}
 use Rattle.dp_check.proofs.Heads.{reason_after, reason_at_node}
 use Rattle.dp_check.proofs.Tallies.{greatest_is_leaf, inner_is_count}

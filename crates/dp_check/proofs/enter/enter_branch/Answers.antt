@@ -1,8 +1,8 @@
-use Rattle.std.proofs.Common.{◌≡◌, ◌<◌, true, false, length, refl, sym, ap, subst, ◌∙◌, arith, rules}
+use Rattle.std.proofs.Common.{◌≡◌, refl, sym, ap, ◌∙◌, arith, rules}
 use Rattle.std.specs.Int.{w128}
 use Rattle.std.proofs.lemmas.Int.{to_z-of_z}
 use mir.Val.{SFits}
-use Rattle.dp_spec.specs.BoundTree.{branch, more_bound_trees, no_bound_trees}
+use Rattle.dp_spec.specs.BoundTree.{no_bound_trees}
 use Rattle.dp_cluster.proofs.ChosenActions.{agents_of}
 use Rattle.dp_cluster.proofs.FrontParts.{unassigned_in}
 use Rattle.dp_check.specs.Bounding.{arithmetic_of}

@@ -1,4 +1,4 @@
-use Rattle.std.proofs.Common.{◌≡◌, ◌<◌, ◌≤◌, true, false, length, refl, sym, ap, subst, ◌∙◌, arith, rules}
+use Rattle.std.proofs.Common.{sym, ap, ◌∙◌, arith, rules}
 use Rattle.std.specs.Int.{w128}
 use Rattle.std.proofs.lemmas.Int.{to_z-of_z}
 use mir.Val.{SFits}
@@ -8,7 +8,7 @@ use Rattle.dp_cluster.proofs.FrontParts.{unassigned_in}
 use Rattle.dp_check.specs.Bounding.{arithmetic_of}
 use Rattle.dp_check.specs.Walks.{passed, with_merge}
 use Rattle.dp_check.proofs.FrontBounds.{early}
-use Rattle.dp_check.proofs.EntrySteps.{merge_differs, merge_misplaced, merge_passes, mergeable, merged_with_room, may_fail, merge_refused}
+use Rattle.dp_check.proofs.EntrySteps.{merge_misplaced, merge_passes, mergeable, merged_with_room, may_fail, merge_refused}
 use Rattle.dp_check.proofs.NodeSteps.{below_is}
 use Rattle.dp_check.proofs.enter.enter_merge.Goals as goal
 

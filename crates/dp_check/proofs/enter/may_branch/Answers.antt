@@ -1,4 +1,4 @@
-use Rattle.std.proofs.Common.{◌≡◌, true, false, sym, ◌∙◌, rules}
+use Rattle.std.proofs.Common.{rules}
 use Rattle.dp_spec.specs.BoundTree.{branch}
 use Rattle.dp_check.proofs.EntrySteps.{and_not, and_so}
 use Rattle.dp_check.proofs.enter.may_branch.Goals as goal

@@ -1,4 +1,4 @@
-use Rattle.std.proofs.Common.{◌≡◌, true, false, sym, ◌∙◌, rules}
+use Rattle.std.proofs.Common.{sym, rules}
 use Rattle.dp_check.proofs.EntrySteps.{and_not, and_so, is_less, mode_is, not_less}
 use Rattle.dp_check.proofs.enter.may_merge.Goals as goal
 

@@ -1,5 +1,5 @@
-use Rattle.std.proofs.Common.{◌≡◌, true, false, sym, ◌∙◌, rules}
-use Rattle.dp_check.proofs.EntrySteps.{merged_not, merged_stays, mode_is}
+use Rattle.std.proofs.Common.{sym, ◌∙◌}
+use Rattle.dp_check.proofs.EntrySteps.{merged_stays, mode_is}
 use Rattle.dp_check.proofs.FrontBounds.{same_mode}
 use Rattle.dp_check.proofs.enter.stays_merged.Goals as goal
 

@@ -1,5 +1,5 @@
-use Rattle.std.proofs.Common.{◌≡◌, ◌+◌, ◌<◌, ◌≤◌, ◌^◌, ℕ, suc, List, [], ◌∷◌, map, drop, length, add-one, refl, sym, ap, subst, ◌∙◌, arith, rules}
-use Rattle.dp_spec.specs.BoundTree.{BoundTree, branch, child_count, leaf, merge, node_counts}
+use Rattle.std.proofs.Common.{◌≡◌, ◌<◌, ◌≤◌, suc, map, drop, length, add-one, sym, ap, ◌∙◌, arith, rules}
+use Rattle.dp_spec.specs.BoundTree.{child_count}
 use Rattle.dp_tree.specs.TreeValue.{bound_tree, bound_trees}
 use Rattle.dp_tree.proofs.TreeValues.{bound_tree_branch, bound_tree_leaf, bound_tree_merge}
 use Rattle.dp_cert.proofs.TreeSizeSteps.{child_count_is, mapped_drop, mapped_end, mapped_length}

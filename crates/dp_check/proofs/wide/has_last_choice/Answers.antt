@@ -1,5 +1,4 @@
-use Rattle.std.proofs.Common.{◌≡◌, ◌<◌, ◌≤◌, ◌^◌, length, ap, ◌∙◌, sym, arith, eqb, rules}
-use Rattle.std.specs.Prelude.{◌==◌}
+use Rattle.std.proofs.Common.{◌<◌, ◌≤◌, ◌^◌, length, ap, arith, eqb, rules}
 use Rattle.dp_spec.specs.Wide.{unassigned_count}
 use Rattle.dp_check.proofs.WideNodes.{counted_agent, counted_agents}
 use Rattle.dp_check.proofs.wide.has_last_choice.Goals as goal

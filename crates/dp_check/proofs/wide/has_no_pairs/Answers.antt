@@ -1,5 +1,4 @@
-use Rattle.std.proofs.Common.{◌≡◌, ◌<◌, ◌≤◌, Bool, true, false, length, sym, ap, subst, ◌∙◌, arith, rules}
-use Rattle.std.specs.Prelude.{◌&&◌}
+use Rattle.std.proofs.Common.{◌≡◌, ◌<◌, true, length, sym, ◌∙◌, arith, rules}
 use Rattle.dp_check.specs.Walks.{has_no_pairs}
 use Rattle.dp_check.proofs.EquivalentPairs.{and_false, no_pair_next, pair_found}
 use Rattle.dp_check.proofs.wide.has_no_pairs.Goals as goal

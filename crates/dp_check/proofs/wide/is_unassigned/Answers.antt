@@ -1,4 +1,4 @@
-use Rattle.std.proofs.Common.{◌≡◌, ◌<◌, ◌≤◌, length, get_or, sym, ap, ◌∙◌, arith, rules}
+use Rattle.std.proofs.Common.{◌<◌, length, get_or, sym, arith}
 use Rattle.dp_spec.specs.Front.{class_counts}
 use Rattle.dp_check.proofs.WideNodes.{class_none, no_agent, no_class}
 use Rattle.dp_check.proofs.wide.is_unassigned.Goals as goal

@@ -1,4 +1,4 @@
-use Rattle.std.proofs.Common.{◌≡◌, ◌<◌, ◌≤◌, length, sym, ap, ◌∙◌, arith, rules}
+use Rattle.std.proofs.Common.{◌<◌, arith, rules}
 use Rattle.dp_check.proofs.WideNodes.{last_widens, not_last, wide_deep, wide_late}
 use Rattle.dp_check.proofs.wide.is_wide.Goals as goal
 

@@ -1,5 +1,4 @@
-use Rattle.std.proofs.Common.{◌≡◌, ◌+◌, ◌<◌, ◌≤◌, true, false, drop, get_or, length, sym, ap, subst, ◌∙◌, arith, rules}
-use Rattle.std.specs.Prelude.{is_none}
+use Rattle.std.proofs.Common.{◌+◌, ◌<◌, ◌≤◌, drop, get_or, length, ap, ◌∙◌, arith}
 use Rattle.dp_spec.specs.Steps.{root_agent}
 use Rattle.dp_spec.specs.Wide.{none_count}
 use Rattle.dp_check.proofs.WideNodes.{classes_read, counted_all, counted_none, counted_one, read_none}

@@ -1,7 +1,4 @@
-use Rattle.std.proofs.Common.{subst, sym, refl, ap, ◌∙◌, arith, rules}
-use Rattle.std.specs.Int.{w128}
-use Rattle.std.proofs.lemmas.Int.{to_z-of_z}
-use mir.Val.{SFits}
+use Rattle.std.proofs.Common.{ap, ◌∙◌, arith}
 use Rattle.dp_check.proofs.NodeSteps.{root_with_room}
 use Rattle.dp_check.proofs.node.Node.root.Goals as goal
 
