@@ -14,4 +14,5 @@ module _ (m : Model) (c : Certificate) (fits : IsCertificateOf m c) where
   found_where r e = (first_reason_is m c r).0 (sym e)
 
   pub not_valid_with : (r : Reason) → Some r ≡ first_reason m c → IsValid m c → ⊥
-  not_valid_with r e valid = let bad : Some r ≡ None = e ∙ (no_reason_where_valid m c fits.within fits.policy).1 valid in cc
+  not_valid_with r e valid = let bad : Some r ≡ None = e ∙ (no_reason_where_valid m c fits.within fits.policy).1
+      valid in cc

@@ -56,50 +56,62 @@ Decides-false false = (λ e. refl, λ e. refl)
 -- ---- over nodes
 
 -- a fact that is kept with each node holds after all where it held before and holds of each
-kept : (P : Node → Type 0) (n : Node) (ns : List Node) (X Y Z : Type 0) → (Y ↔ (X × P n)) → (Z ↔ (Y × All P ns)) → Z ↔ (X × All P (n ∷ ns))
+kept : (P : Node → Type 0) (n : Node) (ns : List Node) (X Y Z : Type 0) → (Y ↔ (X × P n)) → (Z ↔ (Y × All P ns))
+    → Z ↔ (X × All P (n ∷ ns))
 kept P n ns X Y Z here later = (
   λ z. let p = later.0 z in let q = here.0 p.0 in (q.0, All-cons P n ns q.1 p.1),
   λ p. later.1 (here.1 (p.0, All-head P n ns p.1), All-tail P n ns p.1),
 )
 
 module _ (A : Arithmetic) (m : Model) (h : ℕ) where
-  one_not_full : (n : Node) (T : BoundTree) (t : Tally) (z : ℤ) → AtMost (counted A m h n T t).not_full z ↔ (AtMost t.not_full z × IfLeaf T (λ x. n.front.stage < h → x ≤ℤ z))
+  one_not_full : (n : Node) (T : BoundTree) (t : Tally) (z : ℤ)
+      → AtMost (counted A m h n T t).not_full z ↔ (AtMost t.not_full z × IfLeaf T (λ x. n.front.stage < h → x ≤ℤ z))
   one_not_full n (leaf x) t z = at_most_if (nat_lt n.front.stage h) (Decides-ltb n.front.stage h) t.not_full x z
   one_not_full n (branch i c ks) t z = (λ p. (p, tt), λ p. p.0)
   one_not_full n (merge i a b k) t z = (λ p. (p, tt), λ p. p.0)
 
-  pub not_full_after : (ns : List Node) (t : Tally) (z : ℤ) → AtMost (tally_after A m h ns t).not_full z ↔ (AtMost t.not_full z × All (λ n. IfOpenLeaf h n (λ x. x ≤ℤ z)) ns)
+  pub not_full_after : (ns : List Node) (t : Tally) (z : ℤ) → AtMost (tally_after A m h ns t).not_full z ↔
+      (AtMost t.not_full z × All (λ n. IfOpenLeaf h n (λ x. x ≤ℤ z)) ns)
   not_full_after [] t z = (λ p. (p, All-nil (λ n. IfOpenLeaf h n (λ x. x ≤ℤ z))), λ p. p.0)
   not_full_after (n ∷ ns) t z =
-      kept (λ n. IfOpenLeaf h n (λ x. x ≤ℤ z)) n ns (AtMost t.not_full z) (AtMost (counted A m h n n.tree t).not_full z) (AtMost (tally_after A m h (n ∷ ns) t).not_full z)
+      kept (λ n. IfOpenLeaf h n (λ x. x ≤ℤ z)) n ns (AtMost t.not_full z)
+      (AtMost (counted A m h n n.tree t).not_full z) (AtMost (tally_after A m h (n ∷ ns) t).not_full z)
       (one_not_full n n.tree t z) (not_full_after ns (counted A m h n n.tree t) z)
 
-  narrow_decides : (n : Node) → Decides (is_narrow m h n) ((n.front.stage < h) × (is_wide m h n.above n.front ≡ false))
-  narrow_decides n = Decides-and (nat_lt n.front.stage h) (not (is_wide m h n.above n.front)) (Decides-ltb n.front.stage h) (Decides-false (is_wide m h n.above n.front))
+  narrow_decides : (n : Node) → Decides (is_narrow m h n) ((n.front.stage < h)
+      × (is_wide m h n.above n.front ≡ false))
+  narrow_decides n = Decides-and (nat_lt n.front.stage h) (not (is_wide m h n.above n.front))
+      (Decides-ltb n.front.stage h) (Decides-false (is_wide m h n.above n.front))
 
   one_narrow : (n : Node) (T : BoundTree) (t : Tally) (z : ℤ)
-      → AtMost (counted A m h n T t).narrow z ↔ (AtMost t.narrow z × IfLeaf T (λ x. n.front.stage < h → is_wide m h n.above n.front ≡ false → x ≤ℤ z))
+      → AtMost (counted A m h n T t).narrow z ↔ (AtMost t.narrow z
+      × IfLeaf T (λ x. n.front.stage < h → is_wide m h n.above n.front ≡ false → x ≤ℤ z))
   one_narrow n (leaf x) t z =
       let both = at_most_if (is_narrow m h n) (narrow_decides n) t.narrow x z in
       (λ p. let q = both.0 p in (q.0, λ lt wide. q.1 (lt, wide)), λ p. both.1 (p.0, λ q. p.1 q.0 q.1))
   one_narrow n (branch i c ks) t z = (λ p. (p, tt), λ p. p.0)
   one_narrow n (merge i a b k) t z = (λ p. (p, tt), λ p. p.0)
 
-  pub narrow_after : (ns : List Node) (t : Tally) (z : ℤ) → AtMost (tally_after A m h ns t).narrow z ↔ (AtMost t.narrow z × All (λ n. IfNarrowLeaf m h n (λ x. x ≤ℤ z)) ns)
+  pub narrow_after : (ns : List Node) (t : Tally) (z : ℤ) → AtMost (tally_after A m h ns t).narrow z ↔
+      (AtMost t.narrow z × All (λ n. IfNarrowLeaf m h n (λ x. x ≤ℤ z)) ns)
   narrow_after [] t z = (λ p. (p, All-nil (λ n. IfNarrowLeaf m h n (λ x. x ≤ℤ z))), λ p. p.0)
   narrow_after (n ∷ ns) t z =
-      kept (λ n. IfNarrowLeaf m h n (λ x. x ≤ℤ z)) n ns (AtMost t.narrow z) (AtMost (counted A m h n n.tree t).narrow z) (AtMost (tally_after A m h (n ∷ ns) t).narrow z)
+      kept (λ n. IfNarrowLeaf m h n (λ x. x ≤ℤ z)) n ns (AtMost t.narrow z)
+      (AtMost (counted A m h n n.tree t).narrow z) (AtMost (tally_after A m h (n ∷ ns) t).narrow z)
       (one_narrow n n.tree t z) (narrow_after ns (counted A m h n n.tree t) z)
 
-  one_least : (n : Node) (T : BoundTree) (t : Tally) (z : ℤ) → AtLeast (counted A m h n T t).least z ↔ (AtLeast t.least z × IfInner T (z ≤ℤ n.cap))
+  one_least : (n : Node) (T : BoundTree) (t : Tally) (z : ℤ)
+      → AtLeast (counted A m h n T t).least z ↔ (AtLeast t.least z × IfInner T (z ≤ℤ n.cap))
   one_least n (leaf x) t z = (λ p. (p, tt), λ p. p.0)
   one_least n (branch i c ks) t z = at_least_with t.least n.cap z
   one_least n (merge i a b k) t z = at_least_with t.least n.cap z
 
-  pub least_after : (ns : List Node) (t : Tally) (z : ℤ) → AtLeast (tally_after A m h ns t).least z ↔ (AtLeast t.least z × All (λ n. IfInner n.tree (z ≤ℤ n.cap)) ns)
+  pub least_after : (ns : List Node) (t : Tally) (z : ℤ) → AtLeast (tally_after A m h ns t).least z ↔
+      (AtLeast t.least z × All (λ n. IfInner n.tree (z ≤ℤ n.cap)) ns)
   least_after [] t z = (λ p. (p, All-nil (λ n. IfInner n.tree (z ≤ℤ n.cap))), λ p. p.0)
   least_after (n ∷ ns) t z =
-      kept (λ n. IfInner n.tree (z ≤ℤ n.cap)) n ns (AtLeast t.least z) (AtLeast (counted A m h n n.tree t).least z) (AtLeast (tally_after A m h (n ∷ ns) t).least z)
+      kept (λ n. IfInner n.tree (z ≤ℤ n.cap)) n ns (AtLeast t.least z) (AtLeast (counted A m h n n.tree t).least z)
+      (AtLeast (tally_after A m h (n ∷ ns) t).least z)
       (one_least n n.tree t z) (least_after ns (counted A m h n n.tree t) z)
 
   -- a branch is merged where the mode is exact and no two classes could be merged
@@ -109,17 +121,20 @@ module _ (A : Arithmetic) (m : Model) (h : ℕ) where
   Decides-itself : (b : Bool) → Decides b (b ≡ true)
   Decides-itself b = (λ e. e, λ e. e)
 
-  one_merged : (n : Node) (T : BoundTree) (t : Tally) → ((counted A m h n T t).merged ≡ true) ↔ ((t.merged ≡ true) × IfBranch T (λ i c. IsMergedAt n))
+  one_merged : (n : Node) (T : BoundTree) (t : Tally) → ((counted A m h n T t).merged ≡ true) ↔
+      ((t.merged ≡ true) × IfBranch T (λ i c. IsMergedAt n))
   one_merged n (leaf x) t = (λ p. (p, tt), λ p. p.0)
   one_merged n (branch i c ks) t =
       Decides-and t.merged (A.is_exact && has_no_pairs m n.front) (Decides-itself t.merged)
       (Decides-and A.is_exact (has_no_pairs m n.front) (Decides-itself A.is_exact) (no_pairs_decide m n.front))
   one_merged n (merge i a b k) t = (λ p. (p, tt), λ p. p.0)
 
-  pub merged_after : (ns : List Node) (t : Tally) → ((tally_after A m h ns t).merged ≡ true) ↔ ((t.merged ≡ true) × All (λ n. IfBranch n.tree (λ i c. IsMergedAt n)) ns)
+  pub merged_after : (ns : List Node) (t : Tally) → ((tally_after A m h ns t).merged ≡ true) ↔
+      ((t.merged ≡ true) × All (λ n. IfBranch n.tree (λ i c. IsMergedAt n)) ns)
   merged_after [] t = (λ p. (p, All-nil (λ n. IfBranch n.tree (λ i c. IsMergedAt n))), λ p. p.0)
   merged_after (n ∷ ns) t =
-      kept (λ n. IfBranch n.tree (λ i c. IsMergedAt n)) n ns (t.merged ≡ true) ((counted A m h n n.tree t).merged ≡ true) ((tally_after A m h (n ∷ ns) t).merged ≡ true)
+      kept (λ n. IfBranch n.tree (λ i c. IsMergedAt n)) n ns (t.merged ≡ true)
+      ((counted A m h n n.tree t).merged ≡ true) ((tally_after A m h (n ∷ ns) t).merged ≡ true)
       (one_merged n n.tree t) (merged_after ns (counted A m h n n.tree t))
 
 -- ---- the leaves of a tree
@@ -143,7 +158,8 @@ mutual
   leaves_to u (branch i c ks) small le = all_leaves_to u ks small.0 small.2 le
   leaves_to u (merge i a b k) small le = leaves_to u k small le
 
-  all_leaves_to : (u : ℤ) (ks : BoundTrees) → 1 ≤ child_count ks → HaveSmallBranches ks → AllLeavesAtMost u ks → greatest_leaf_of ks ≤ℤ u
+  all_leaves_to : (u : ℤ) (ks : BoundTrees) → 1 ≤ child_count ks → HaveSmallBranches ks → AllLeavesAtMost u ks
+      → greatest_leaf_of ks ≤ℤ u
   all_leaves_to u no_bound_trees some small le = absurd (omega arith)
   all_leaves_to u (more_bound_trees k no_bound_trees) some small le = leaves_to u k small.0 le.0
   all_leaves_to u (more_bound_trees k (more_bound_trees k' ks)) some small le =

@@ -184,10 +184,14 @@ fn are_in_order(first: Option<i128>, second: Option<i128>) -> bool
 pub fn check(alloc: Global, m: &Model, c: &Certificate) -> Result<Verdict, Memory>
     requires { IsCertificateOf m.now.model (certificate_of c.now) }
     ensures accepted { IfOk result (λ v. IsAccepted v ↔ IsValid m.now.model (certificate_of c.now)) }
-    ensures rejected { IfOk result (λ v. IfRejected v (λ r. IsFirstReason m.now.model (certificate_of c.now) (reason_of r))) }
-    ensures closed { IfOk result (λ v. IfAccepted v (λ closed lean merged. IsTrue closed ↔ IsClosed m.now.model (certificate_of c.now))) }
-    ensures lean { IfOk result (λ v. IfAccepted v (λ closed lean merged. IsTrue lean ↔ IsLean m.now.model (certificate_of c.now))) }
-    ensures merged { IfOk result (λ v. IfAccepted v (λ closed lean merged. IsTrue merged ↔ IsMerged m.now.model (certificate_of c.now))) }
+    ensures rejected { IfOk result (λ v.
+        IfRejected v (λ r. IsFirstReason m.now.model (certificate_of c.now) (reason_of r))) }
+    ensures closed { IfOk result (λ v.
+        IfAccepted v (λ closed lean merged. IsTrue closed ↔ IsClosed m.now.model (certificate_of c.now))) }
+    ensures lean { IfOk result (λ v.
+        IfAccepted v (λ closed lean merged. IsTrue lean ↔ IsLean m.now.model (certificate_of c.now))) }
+    ensures merged { IfOk result (λ v.
+        IfAccepted v (λ closed lean merged. IsTrue merged ↔ IsMerged m.now.model (certificate_of c.now))) }
     ensures claims { IfOk result (λ v. IsAccepted v → ClaimsHold m.now.model (certificate_of c.now)) }
     ensures ordered { IfOk result (λ v. IsAccepted v → c.now.lower ≤ℤ c.now.upper) }
     ensures optimal { IfOk result (λ v. IfAccepted v (λ closed lean merged. IsTrue closed → c.now.exact ≡ true →

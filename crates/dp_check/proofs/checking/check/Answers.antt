@@ -11,8 +11,11 @@ use Rattle.dp_check.proofs.checking.check.Goals as goal
 
 pub returns-in-Some-clause-accepted : goal.returns-in-Some-clause-accepted
 returns-in-Some-clause-accepted c =
-    let found = rw c.in-Some.is at c.in_ok-reason.ensures.reason in
-    (λ none. absurd none, not_valid_with c.args.m.now.model (certificate_of c.args.c.now) c.requires (reason_of c.in-Some.reason) found)
+    let found = rw c.in-Some.is at c.in_ok-reason.ensures.reason in (
+      λ none. absurd none,
+      not_valid_with c.args.m.now.model (certificate_of c.args.c.now) c.requires
+          (reason_of c.in-Some.reason) found,
+    )
 
 pub returns-in-Some-clause-rejected : goal.returns-in-Some-clause-rejected
 returns-in-Some-clause-rejected c =
@@ -27,14 +30,16 @@ returns-clause-accepted c =
 pub returns-clause-claims : goal.returns-clause-claims
 returns-clause-claims c =
     let none = rw c.in_default.is at c.in_ok-reason.ensures.reason in
-    λ so. claims_hold c.args.m.now.model (certificate_of c.args.c.now) c.invariant.ensures.model (valid_without c.args.m.now.model (certificate_of c.args.c.now) c.requires none)
+    λ so. claims_hold c.args.m.now.model (certificate_of c.args.c.now) c.invariant.ensures.model
+    (valid_without c.args.m.now.model (certificate_of c.args.c.now) c.requires none)
 
 pub returns-clause-closed : goal.returns-clause-closed
 returns-clause-closed c =
     let m = c.args.m.now.model in
     let cert = certificate_of c.args.c.now in
     let passes = c.in_ok-reason.ensures.counted c.in_default.is in
-    let from = subst (λ t. walked (arithmetic_for m cert) m cert.horizon (certificate_nodes m cert) t ≡ passed c.first_reason.new.tally) c.new-tally.ensures passes in
+    let from = subst (λ t. walked (arithmetic_for m cert) m cert.horizon (certificate_nodes m cert) t
+    ≡ passed c.first_reason.new.tally) c.new-tally.ensures passes in
     through _ _ _ c.is_closed.ensures (closed_is m cert c.requires.children c.first_reason.new.tally from)
 
 pub returns-clause-lean : goal.returns-clause-lean
@@ -42,7 +47,8 @@ returns-clause-lean c =
     let m = c.args.m.now.model in
     let cert = certificate_of c.args.c.now in
     let passes = c.in_ok-reason.ensures.counted c.in_default.is in
-    let from = subst (λ t. walked (arithmetic_for m cert) m cert.horizon (certificate_nodes m cert) t ≡ passed c.first_reason.new.tally) c.new-tally.ensures passes in
+    let from = subst (λ t. walked (arithmetic_for m cert) m cert.horizon (certificate_nodes m cert) t
+    ≡ passed c.first_reason.new.tally) c.new-tally.ensures passes in
     through _ _ _ c.is_lean.ensures (lean_is m cert c.requires.children c.first_reason.new.tally from)
 
 pub returns-clause-merged : goal.returns-clause-merged
@@ -50,13 +56,15 @@ returns-clause-merged c =
     let m = c.args.m.now.model in
     let cert = certificate_of c.args.c.now in
     let passes = c.in_ok-reason.ensures.counted c.in_default.is in
-    let from = subst (λ t. walked (arithmetic_for m cert) m cert.horizon (certificate_nodes m cert) t ≡ passed c.first_reason.new.tally) c.new-tally.ensures passes in
+    let from = subst (λ t. walked (arithmetic_for m cert) m cert.horizon (certificate_nodes m cert) t
+    ≡ passed c.first_reason.new.tally) c.new-tally.ensures passes in
     merged_is m cert c.requires.children c.first_reason.new.tally from
 
 pub returns-clause-ordered : goal.returns-clause-ordered
 returns-clause-ordered c =
     let none = rw c.in_default.is at c.in_ok-reason.ensures.reason in
-    λ so. ends_in_order c.args.m.now.model (certificate_of c.args.c.now) c.invariant.ensures.model (valid_without c.args.m.now.model (certificate_of c.args.c.now) c.requires none)
+    λ so. ends_in_order c.args.m.now.model (certificate_of c.args.c.now) c.invariant.ensures.model
+    (valid_without c.args.m.now.model (certificate_of c.args.c.now) c.requires none)
 
 pub returns-clause-optimal : goal.returns-clause-optimal
 returns-clause-optimal c =
@@ -64,6 +72,9 @@ returns-clause-optimal c =
     let cert = certificate_of c.args.c.now in
     let none = rw c.in_default.is at c.in_ok-reason.ensures.reason in
     let passes = c.in_ok-reason.ensures.counted c.in_default.is in
-    let from = subst (λ t. walked (arithmetic_for m cert) m cert.horizon (certificate_nodes m cert) t ≡ passed c.first_reason.new.tally) c.new-tally.ensures passes in
-    let both = through _ _ _ c.is_closed.ensures (closed_is m cert c.requires.children c.first_reason.new.tally from) in
-    λ closed exact. closed_is_optimal m cert c.invariant.ensures.model (valid_without m cert c.requires none) (both.0 closed) exact
+    let from = subst (λ t. walked (arithmetic_for m cert) m cert.horizon (certificate_nodes m cert) t
+    ≡ passed c.first_reason.new.tally) c.new-tally.ensures passes in
+    let both = through _ _ _ c.is_closed.ensures (closed_is m cert c.requires.children c.first_reason.new.tally
+    from) in
+    λ closed exact. closed_is_optimal m cert c.invariant.ensures.model (valid_without m cert c.requires none)
+    (both.0 closed) exact
