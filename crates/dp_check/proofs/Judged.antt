@@ -1,9 +1,8 @@
 -- What a verdict says of a certificate.
-use Rattle.std.proofs.Common.{◌≡◌, Option, Some, None, sym, ◌∙◌}
-use Rattle.std.specs.Prelude.{◌↔◌}
+use Rattle.std.proofs.Common.{◌≡◌, Some, None, sym, ◌∙◌}
 use Rattle.dp_spec.specs.Certificate.{Certificate, IsCertificateOf, IsValid}
 use Rattle.dp_spec.specs.FirstReason.{IsFirstReason}
-use Rattle.dp_spec.specs.Model.{IsModel, Model}
+use Rattle.dp_spec.specs.Model.{Model}
 use Rattle.dp_spec.specs.Reasons.{Reason, first_reason}
 use Rattle.dp_laws.proofs.FirstReasons.{first_reason_is, no_reason_where_valid}
 
@@ -15,4 +14,5 @@ module _ (m : Model) (c : Certificate) (fits : IsCertificateOf m c) where
   found_where r e = (first_reason_is m c r).0 (sym e)
 
   pub not_valid_with : (r : Reason) → Some r ≡ first_reason m c → IsValid m c → ⊥
-  not_valid_with r e valid = let bad : Some r ≡ None = e ∙ (no_reason_where_valid m c fits.within fits.policy).1 valid in cc
+  not_valid_with r e valid = let bad : Some r ≡ None = e ∙ (no_reason_where_valid m c fits.within fits.policy).1
+      valid in cc

@@ -9,3 +9,5 @@ pub mod WalkSteps
 pub mod Heads
 pub mod Tallies
 pub mod Judged
+pub mod WordLaws
+pub mod CertificateWords

@@ -1,5 +1,5 @@
 -- Rows of look-aheads, joint class by joint class.
-use Rattle.std.proofs.Common.{◌≡◌, inl, inr, ℕ, zero, suc, ◌+◌, ◌-◌, ◌*◌, ◌<◌, ◌++◌, ℤ, pos, ◌+ℤ◌, map, length, get_or, refl, sym, ap, ◌∙◌, arith}
+use Rattle.std.proofs.Common.{◌≡◌, inl, inr, ℕ, zero, suc, ◌+◌, ◌-◌, ◌*◌, ◌<◌, ◌++◌, ℤ, ◌+ℤ◌, map, length, get_or, refl, sym, ap, ◌∙◌, arith}
 use Rattle.std.specs.List.{range_with_len}
 use Rattle.std.proofs.lemmas.List.{get_or_append_left, get_or-append-add, length-append}
 use Rattle.std.proofs.lemmas.List.FromFn.{length-map-range_with_len}
@@ -17,7 +17,12 @@ use Rattle.dp_check.specs.Bounding.{rows_of}
 
 pub rows_length : (Q : ℕ → ℕ → ℤ) (S n : ℕ) → length (rows_of Q S n) ≡ n * S
 rows_length Q S zero = omega arith
-rows_length Q S (suc n) = omega (arith, length-append (rows_of Q S n) (map (Q n) (range_with_len 0 S)), rows_length Q S n, length-map-range_with_len (Q n) 0 S)
+rows_length Q S (suc n) = omega (
+  arith,
+  length-append (rows_of Q S n) (map (Q n) (range_with_len 0 S)),
+  rows_length Q S n,
+  length-map-range_with_len (Q n) 0 S,
+)
 
 -- the number of a row and a place
 pub rows_at : (Q : ℕ → ℕ → ℤ) (S n C a : ℕ) (d : ℤ) → C < n → a < S → get_or (rows_of Q S n) (C * S + a) d ≡ Q C a
@@ -32,13 +37,18 @@ rows_at Q S (suc n) C a d hC hs =
           ∙ made_at S a d (Q n) hs ∙ ap (λ (z : ℕ). Q z a) (sym e)
       | inr lt ↦
           let inside : C * S + a < length (rows_of Q S n) = rw long (row_below C n S a lt hs) in
-          get_or_append_left (rows_of Q S n) (map (Q n) (range_with_len 0 S)) d (C * S + a) inside ∙ rows_at Q S n C a d lt hs
+          get_or_append_left (rows_of Q S n) (map (Q n) (range_with_len 0 S)) d (C * S + a) inside
+          ∙ rows_at Q S n C a d lt hs
     ]
 
 -- look-ahead after a joint action counts the weights of the states alone
-pub action_look_ahead_in_ext : (A : Arithmetic) (m : Model) (r k : ℕ) (ws vs : ℕ → Span) (a : ℕ) → ((s : ℕ) → s < m.states → ws s ≡ vs s)
+pub action_look_ahead_in_ext : (A : Arithmetic) (m : Model) (r k : ℕ) (ws vs : ℕ → Span) (a : ℕ)
+    → ((s : ℕ) → s < m.states → ws s ≡ vs s)
     → action_look_ahead_in A m r ws a k ≡ action_look_ahead_in A m r vs a k
 unfolding action_look_ahead_in
 action_look_ahead_in_ext A m r k ws vs a h =
-    ap (λ (w : Span). w.high +ℤ int_sum (joint_observations m) (λ o. look_ahead_in A m r (weights_after_in A m ws a o) (k - 1))) (weighted_reward_in_ext A m r ws vs a h)
-    ∙ ap (λ x. (weighted_reward_in A m r vs a).high +ℤ x) (int_sum_ext (joint_observations m) _ _ (λ o p. look_ahead_in_ext A m r (k - 1) (weights_after_in A m ws a o) (weights_after_in A m vs a o) (λ t q. weights_after_in_ext A m ws vs a o t h)))
+    ap (λ (w : Span). w.high +ℤ int_sum (joint_observations m)
+    (λ o. look_ahead_in A m r (weights_after_in A m ws a o) (k - 1))) (weighted_reward_in_ext A m r ws vs a h)
+    ∙ ap (λ x. (weighted_reward_in A m r vs a).high +ℤ x) (int_sum_ext (joint_observations m) _ _
+    (λ o p. look_ahead_in_ext A m r (k - 1) (weights_after_in A m ws a o) (weights_after_in A m vs a o)
+    (λ t q. weights_after_in_ext A m ws vs a o t h)))

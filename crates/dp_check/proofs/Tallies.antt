@@ -1,6 +1,5 @@
 -- What is counted over the nodes of a tree: the branches and merges, and the greatest bound of a leaf.
-use Rattle.std.proofs.Common.{◌≡◌, ℕ, zero, suc, ◌+◌, ◌<◌, ◌≤◌, Bool, true, false, cond, ℤ, pos, List, [], ◌∷◌, ◌++◌, Option, Some, None, refl, sym, ap, ◌∙◌, subst, arith}
-use Rattle.std.specs.Prelude.{unwrap_or}
+use Rattle.std.proofs.Common.{◌≡◌, ℕ, suc, ◌+◌, ◌≤◌, ℤ, List, [], ◌∷◌, ◌++◌, Option, Some, None, refl, sym, ap, ◌∙◌, arith}
 use Rattle.std.specs.Int.{int_max, int_min}
 use Rattle.std.proofs.lemmas.Int.{ints, clamps}
 use Rattle.dp_spec.specs.Arithmetic.{Arithmetic}
@@ -13,7 +12,7 @@ use Rattle.dp_spec.specs.Qualities.{Node, nodes_of, nodes_of_choices}
 use Rattle.dp_spec.specs.Reasons.{Reason, tree_reason}
 use Rattle.dp_spec.specs.Steps.{front_after_choice}
 use Rattle.dp_check.specs.Bounding.{with_greater}
-use Rattle.dp_check.specs.Walks.{Walked, counted, or_stopped, passed, stopped, walked}
+use Rattle.dp_check.specs.Walks.{Walked, counted, or_stopped, passed, walked}
 use Rattle.dp_check.specs.declared.tally.Tally.{Tally}
 use Rattle.dp_check.proofs.WalkSteps.{same_tally}
 
@@ -29,7 +28,8 @@ module _ (A : Arithmetic) (m : Model) (h : ℕ) where
 
   pub passed_is : (ns : List Node) (t new : Tally) → walked A m h ns t ≡ passed new → tally_after ns t ≡ new
   passed_is [] t new e = same_tally A m h t new e
-  passed_is (n ∷ ns) t new e = passed_is ns (counted A m h n n.tree t) new (after_reason (tree_reason A m h t.nodes n n.tree) (walked A m h ns (counted A m h n n.tree t)) new e)
+  passed_is (n ∷ ns) t new e = passed_is ns (counted A m h n n.tree t) new
+      (after_reason (tree_reason A m h t.nodes n n.tree) (walked A m h ns (counted A m h n n.tree t)) new e)
 
   -- ---- branches and merges
 
@@ -58,18 +58,25 @@ module _ (A : Arithmetic) (m : Model) (h : ℕ) where
   inner_append (x ∷ xs) ys = let rest = inner_append xs ys in omega arith
 
   mutual
-    inner_nodes : (look above : ℕ) (T : BoundTree) (F : Front) (cap : ℤ) → inner_in (nodes_of A m h look above T F cap) ≡ inner_count T
+    inner_nodes : (look above : ℕ) (T : BoundTree) (F : Front) (cap : ℤ)
+        → inner_in (nodes_of A m h look above T F cap) ≡ inner_count T
     inner_nodes look above (leaf x) F cap = refl
-    inner_nodes look above (branch i c ks) F cap = let rest = inner_choices look (suc above) ks F i c 0 cap in omega arith
+    inner_nodes look above (branch i c ks) F cap = let rest = inner_choices look (suc above) ks F i c 0 cap in
+        omega arith
     inner_nodes look above (merge i a b k) F cap =
-        let rest = inner_nodes look (suc above) k (merged_front F i a b) (int_min cap (front_bound A m h look (merged_front F i a b))) in omega arith
+        let rest = inner_nodes look (suc above) k (merged_front F i a b)
+        (int_min cap (front_bound A m h look (merged_front F i a b))) in omega arith
 
-    inner_choices : (look above : ℕ) (ks : BoundTrees) (F : Front) (i c a : ℕ) (cap : ℤ) → inner_in (nodes_of_choices A m h look above ks F i c a cap) ≡ inner_counts ks
+    inner_choices : (look above : ℕ) (ks : BoundTrees) (F : Front) (i c a : ℕ) (cap : ℤ)
+        → inner_in (nodes_of_choices A m h look above ks F i c a cap) ≡ inner_counts ks
     inner_choices look above no_bound_trees F i c a cap = refl
     inner_choices look above (more_bound_trees k ks) F i c a cap =
-        let first = inner_nodes look above k (front_after_choice m F i c a) (int_min cap (front_bound A m h look (front_after_choice m F i c a))) in
+        let first = inner_nodes look above k (front_after_choice m F i c a)
+        (int_min cap (front_bound A m h look (front_after_choice m F i c a))) in
         let rest = inner_choices look above ks F i c (suc a) cap in
-        let both = inner_append (nodes_of A m h look above k (front_after_choice m F i c a) (int_min cap (front_bound A m h look (front_after_choice m F i c a)))) (nodes_of_choices A m h look above ks F i c (suc a) cap) in
+        let both = inner_append (nodes_of A m h look above k (front_after_choice m F i c a)
+        (int_min cap (front_bound A m h look (front_after_choice m F i c a))))
+        (nodes_of_choices A m h look above ks F i c (suc a) cap) in
         omega arith
 
   pub inner_is_count : (look above : ℕ) (T : BoundTree) (F : Front) (cap : ℤ) (t new : Tally) → t.inner ≡ 0
@@ -90,14 +97,16 @@ module _ (A : Arithmetic) (m : Model) (h : ℕ) where
   greatest_in [] o = o
   greatest_in (n ∷ ns) o = greatest_in ns (with_leaf_of n.tree o)
 
-  greatest_counted : (n : Node) (T : BoundTree) (t : Tally) → (counted A m h n T t).greatest ≡ with_leaf_of T t.greatest
+  greatest_counted : (n : Node) (T : BoundTree) (t : Tally) → (counted A m h n T t).greatest
+      ≡ with_leaf_of T t.greatest
   greatest_counted n (leaf x) t = refl
   greatest_counted n (branch i c ks) t = refl
   greatest_counted n (merge i a b k) t = refl
 
   greatest_after : (ns : List Node) (t : Tally) → (tally_after ns t).greatest ≡ greatest_in ns t.greatest
   greatest_after [] t = refl
-  greatest_after (n ∷ ns) t = greatest_after ns (counted A m h n n.tree t) ∙ ap (greatest_in ns) (greatest_counted n n.tree t)
+  greatest_after (n ∷ ns) t = greatest_after ns (counted A m h n n.tree t)
+      ∙ ap (greatest_in ns) (greatest_counted n n.tree t)
 
   greatest_append : (xs ys : List Node) (o : Option ℤ) → greatest_in (xs ++ ys) o ≡ greatest_in ys (greatest_in xs o)
   greatest_append [] ys o = refl
@@ -117,27 +126,37 @@ module _ (A : Arithmetic) (m : Model) (h : ℕ) where
     greatest_nodes : (look above : ℕ) (T : BoundTree) (F : Front) (cap : ℤ) (o : Option ℤ) → HasSmallBranches T
         → greatest_in (nodes_of A m h look above T F cap) o ≡ with_greater o (greatest_leaf T)
     greatest_nodes look above (leaf x) F cap o small = refl
-    greatest_nodes look above (branch i c ks) F cap o small = greatest_choices look (suc above) ks F i c 0 cap o small.0 small.2
+    greatest_nodes look above (branch i c ks) F cap o small = greatest_choices look (suc above)
+        ks F i c 0 cap o small.0 small.2
     greatest_nodes look above (merge i a b k) F cap o small =
-        greatest_nodes look (suc above) k (merged_front F i a b) (int_min cap (front_bound A m h look (merged_front F i a b))) o small
+        greatest_nodes look (suc above) k (merged_front F i a b)
+        (int_min cap (front_bound A m h look (merged_front F i a b))) o small
 
-    greatest_choices : (look above : ℕ) (ks : BoundTrees) (F : Front) (i c a : ℕ) (cap : ℤ) (o : Option ℤ) → 1 ≤ child_count ks → HaveSmallBranches ks
+    greatest_choices : (look above : ℕ) (ks : BoundTrees) (F : Front) (i c a : ℕ) (cap : ℤ) (o : Option ℤ)
+        → 1 ≤ child_count ks → HaveSmallBranches ks
         → greatest_in (nodes_of_choices A m h look above ks F i c a cap) o ≡ with_greater o (greatest_leaf_of ks)
     greatest_choices look above no_bound_trees F i c a cap o some small = absurd (omega arith)
     greatest_choices look above (more_bound_trees k no_bound_trees) F i c a cap o some small =
-        greatest_append (nodes_of A m h look above k (front_after_choice m F i c a) (int_min cap (front_bound A m h look (front_after_choice m F i c a)))) [] o
-        ∙ greatest_nodes look above k (front_after_choice m F i c a) (int_min cap (front_bound A m h look (front_after_choice m F i c a))) o small.0
+        greatest_append (nodes_of A m h look above k (front_after_choice m F i c a)
+        (int_min cap (front_bound A m h look (front_after_choice m F i c a)))) [] o
+        ∙ greatest_nodes look above k (front_after_choice m F i c a)
+        (int_min cap (front_bound A m h look (front_after_choice m F i c a))) o small.0
     greatest_choices look above (more_bound_trees k (more_bound_trees k' ks)) F i c a cap o some small =
         let G = front_after_choice m F i c a in
         let low = int_min cap (front_bound A m h look G) in
-        greatest_append (nodes_of A m h look above k G low) (nodes_of_choices A m h look above (more_bound_trees k' ks) F i c (suc a) cap) o
-        ∙ ap (greatest_in (nodes_of_choices A m h look above (more_bound_trees k' ks) F i c (suc a) cap)) (greatest_nodes look above k G low o small.0)
-        ∙ greatest_choices look above (more_bound_trees k' ks) F i c (suc a) cap (with_greater o (greatest_leaf k)) (omega arith) small.1
+        greatest_append (nodes_of A m h look above k G low) (nodes_of_choices A m h look above
+        (more_bound_trees k' ks) F i c (suc a) cap) o
+        ∙ ap (greatest_in (nodes_of_choices A m h look above (more_bound_trees k' ks) F i c (suc a) cap))
+        (greatest_nodes look above k G low o small.0)
+        ∙ greatest_choices look above (more_bound_trees k' ks) F i c (suc a) cap (with_greater o (greatest_leaf k))
+        (omega arith) small.1
         ∙ greater_both o (greatest_leaf k) (greatest_leaf_of (more_bound_trees k' ks))
 
-  pub greatest_is_leaf : (look above : ℕ) (T : BoundTree) (F : Front) (cap : ℤ) (t new : Tally) → t.greatest ≡ None → HasSmallBranches T
+  pub greatest_is_leaf : (look above : ℕ) (T : BoundTree) (F : Front) (cap : ℤ) (t new : Tally) → t.greatest ≡ None
+      → HasSmallBranches T
       → walked A m h (nodes_of A m h look above T F cap) t ≡ passed new → new.greatest ≡ Some (greatest_leaf T)
   greatest_is_leaf look above T F cap t new none small e =
       sym (ap (λ (s : Tally). s.greatest) (passed_is (nodes_of A m h look above T F cap) t new e))
-      ∙ greatest_after (nodes_of A m h look above T F cap) t ∙ ap (greatest_in (nodes_of A m h look above T F cap)) none
+      ∙ greatest_after (nodes_of A m h look above T F cap) t
+      ∙ ap (greatest_in (nodes_of A m h look above T F cap)) none
       ∙ greatest_nodes look above T F cap None small

@@ -3,7 +3,7 @@ use Rattle.std.specs.Prelude.{ℕ, zero, suc, ◌-◌, ◌<◌, ◌≤◌, ◌�
 use Rattle.std.specs.Int.{int_max}
 use Rattle.std.specs.List.{range_with_len}
 use Rattle.dp_spec.specs.Arithmetic.{Arithmetic, arithmetic}
-use Rattle.dp_spec.specs.Front.{AgentFront, Front, class_counts}
+use Rattle.dp_spec.specs.Front.{Front, class_counts}
 use Rattle.dp_spec.specs.JointNumbers.{parts_of, product}
 use Rattle.dp_spec.specs.Mode.{IsTrueFit}
 use Rattle.dp_spec.specs.Model.{Model, joint_actions}
@@ -32,7 +32,8 @@ pub record IsWithRoom (m : Model) (b : Bounds) (k : KeptFront) : Type 0 where
 -- the look-ahead from joint class C of a front where joint action a is done first
 abbrev pub look_ahead_at : Model → Bounds → Front → ℕ → ℕ → ℤ
 look_ahead_at m b F C a =
-    action_look_ahead_in (arithmetic_of m b) m (b.fit.horizon - F.stage - 1) (class_weight_in (arithmetic_of m b) m F C) a
+    action_look_ahead_in (arithmetic_of m b) m (b.fit.horizon - F.stage - 1)
+    (class_weight_in (arithmetic_of m b) m F C) a
     b.look
 
 -- n rows of so many numbers, one after the other
@@ -43,12 +44,14 @@ rows_of Q width (suc n) = rows_of Q width n ++ map (Q n) (range_with_len 0 width
 -- before the horizon a row for each joint class, with the look-ahead of each joint action
 abbrev pub AreLookAheads : Model → Bounds → Front → List ℤ → Type 0
 AreLookAheads m b F looks =
-    F.stage < b.fit.horizon → looks ≡ rows_of (look_ahead_at m b F) (joint_actions m) (product (class_counts F.agents))
+    F.stage < b.fit.horizon → looks ≡ rows_of (look_ahead_at m b F) (joint_actions m)
+    (product (class_counts F.agents))
 
 -- for each agent the action of its class in joint class C, or none
 abbrev pub AreChoices : Front → ℕ → List (Option ℕ) → Type 0
 AreChoices F C choices =
-    (i : ℕ) → i < length F.agents → get_or choices i None ≡ choice_at F.agents i (get_or (parts_of (class_counts F.agents) C) i 0)
+    (i : ℕ) → i < length F.agents → get_or choices i None ≡ choice_at F.agents i
+    (get_or (parts_of (class_counts F.agents) C) i 0)
 
 -- the greater of a number and another, if there is one
 abbrev pub with_greater : Option ℤ → ℤ → Option ℤ

@@ -19,8 +19,8 @@ use Rattle.dp_check.specs.Nodes.{IsBelow, node_with}
 use Rattle.dp_check.specs.Verdicts.{reason_of}
 use Rattle.dp_check.specs.Walks.{entered, passed, stopped}
 
--- A branch on class c of agent i with so many children may stand at a node: a step is left, it is not wide, the class is
--- unassigned, and there is a child for each action.
+-- A branch on class c of agent i with so many children may stand at a node: a step is left, it is not wide, the class
+-- is unassigned, and there is a child for each action.
 pub record IsEnterable (m : Model) (b : Bounds) (n : Node) (i c count : ℕ) : Type 0 where
   pub stage : n.front.front.stage < b.fit.horizon
   pub narrow : is_wide m b.fit.horizon n.above n.front.front ≡ false
@@ -33,7 +33,8 @@ IsEntered m b n i a c old new (Below child) =
     ((k : BoundTree) → entered (arithmetic_of m b) m b.fit.horizon (node_with (merge i a c k) n) old ≡ passed new)
     × IsBelow m b n (merged_front n.front.front i a c) child
 IsEntered m b n i a c old new (Wrong r) =
-    (k : BoundTree) → entered (arithmetic_of m b) m b.fit.horizon (node_with (merge i a c k) n) old ≡ stopped (reason_of r)
+    (k : BoundTree) → entered (arithmetic_of m b) m b.fit.horizon (node_with (merge i a c k) n) old
+    ≡ stopped (reason_of r)
 
 -- the faults of a merge of classes that may be merged if they are equivalent
 abbrev pub MayFail : MergeFault → Type 0

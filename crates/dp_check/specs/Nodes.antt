@@ -1,5 +1,5 @@
 -- The nodes of a bound tree as the code holds them. (Own.)
-use Rattle.std.specs.Prelude.{ℕ, suc, ◌≤◌, ◌≡◌, ℤ, List}
+use Rattle.std.specs.Prelude.{suc, ◌≤◌, ◌≡◌, List}
 use Rattle.std.specs.Int.{int_min}
 use Rattle.dp_spec.specs.BoundTree.{BoundTree}
 use Rattle.dp_spec.specs.Fitting.{front_bound}
@@ -25,8 +25,8 @@ node_with T n = record { tree = T; above = n.above; front = n.front.front; cap =
 abbrev pub nodes_at : Model → Bounds → BoundTree → Node → List qualities.Node
 nodes_at m b T n = nodes_of (arithmetic_of m b) m b.fit.horizon b.look n.above T n.front.front n.cap
 
--- A node below another, with front F: one branch or merge more stands above it, and the least bound on its path is the
--- lesser of the other's and that of its front.
+-- A node below another, with front F: one branch or merge more stands above it, and the least bound on its path is
+-- the lesser of the other's and that of its front.
 pub record IsBelow (m : Model) (b : Bounds) (n : Node) (F : Front) (child : Node) : Type 0 where
   pub of_model : IsNodeOf m b child
   pub front : child.front.front ≡ F

@@ -48,7 +48,15 @@ IfRejected (Rejected r) P = P r
 
 -- nothing is counted yet
 abbrev pub nothing_counted : Bool → Tally
-nothing_counted exact = record { nodes = 0; inner = 0; greatest = None; not_full = None; narrow = None; least = None; merged = exact }
+nothing_counted exact = record {
+  nodes = 0;
+  inner = 0;
+  greatest = None;
+  not_full = None;
+  narrow = None;
+  least = None;
+  merged = exact;
+}
 
 -- the first reason of the definitions, if there is one
 abbrev pub names : Option Reason → Option reasons.Reason
@@ -58,4 +66,5 @@ names (Some r) = Some (reason_of r)
 -- the reason against a certificate whose tree has so many branches and merges and this greatest bound of a leaf
 abbrev pub last_of : Certificate → ℕ → ℤ → Option reasons.Reason
 last_of c inner upper =
-    option_or (unless (c.inner == inner) (reasons.inner_is inner)) (unless (int_eq c.upper upper) (reasons.upper_is upper))
+    option_or (unless (c.inner == inner) (reasons.inner_is inner))
+    (unless (int_eq c.upper upper) (reasons.upper_is upper))

@@ -30,7 +30,12 @@ with_leaf not_full narrow x t = record t {
 
 -- one branch more, and whether all branches so far stand where no classes could be merged
 abbrev pub with_branch : ℤ → Bool → Tally → Tally
-with_branch cap merged t = record t { nodes = t.nodes + 1; inner = t.inner + 1; least = with_lesser t.least cap; merged = merged }
+with_branch cap merged t = record t {
+  nodes = t.nodes + 1;
+  inner = t.inner + 1;
+  least = with_lesser t.least cap;
+  merged = merged;
+}
 
 -- one merge more
 abbrev pub with_merge : ℤ → Tally → Tally

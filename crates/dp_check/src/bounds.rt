@@ -67,7 +67,8 @@ fn push_class(
     requires class { class < product (class_counts front.now.front.agents) }
     requires room { bounds.now.look * m.now.model.states ≤ room.old }
     ensures row { IfOk result (λ _. all.new.items ≡ all.old.items ++
-        map (look_ahead_at m.now.model bounds.now front.now.front class) (range_with_len 0 (joint_actions m.now.model))) }
+        map (look_ahead_at m.now.model bounds.now front.now.front class)
+        (range_with_len 0 (joint_actions m.now.model))) }
     ensures room { room.new ≡ room.old }
 {
     m.invariant();

@@ -1,13 +1,14 @@
 //! The check of a certificate.
-ghost use Rattle.std.specs.Prelude.{◌≡◌, ◌≤◌, ◌↔◌, ◌⊎◌, pos, true, None, unwrap_or, IfOk, IsTrue};
+ghost use Rattle.std.specs.Prelude.{◌≡◌, ◌≤◌, ◌≤ℤ◌, ◌↔◌, ◌⊎◌, pos, true, None, unwrap_or, IfOk, IsTrue};
 ghost use Rattle.dp_spec.specs.Certificate.{IsCertificateOf, IsValid, arithmetic_for};
-ghost use Rattle.dp_spec.specs.Claims.{ClaimsHold};
+ghost use Rattle.dp_spec.specs.Claims.{ClaimsHold, IsOptimal};
 ghost use Rattle.dp_spec.specs.FirstReason.{IsFirstReason};
-ghost use Rattle.dp_spec.specs.Qualities.{certificate_nodes};
+ghost use Rattle.dp_spec.specs.Qualities.{IsClosed, IsLean, IsMerged, certificate_nodes};
 ghost use Rattle.dp_spec.specs.Reasons.{first_reason, lower_of};
+ghost use Rattle.dp_spec.specs.SharedPolicy.{unfolded};
 ghost use Rattle.dp_model.specs.Horizons.{fit_of};
 ghost use Rattle.dp_cert.specs.CertificateValue.{certificate_of};
-ghost use Rattle.dp_check.specs.Verdicts.{IfRejected, IsAccepted, last_of, names, nothing_counted, outcome, reason_of};
+ghost use Rattle.dp_check.specs.Verdicts.{IfAccepted, IfRejected, IsAccepted, last_of, names, nothing_counted, outcome, reason_of};
 ghost use Rattle.dp_check.specs.Words.{AreInOrder, AtMost};
 ghost use Rattle.dp_check.specs.Walks.{passed, walked};
 
@@ -183,8 +184,18 @@ fn are_in_order(first: Option<i128>, second: Option<i128>) -> bool
 pub fn check(alloc: Global, m: &Model, c: &Certificate) -> Result<Verdict, Memory>
     requires { IsCertificateOf m.now.model (certificate_of c.now) }
     ensures accepted { IfOk result (λ v. IsAccepted v ↔ IsValid m.now.model (certificate_of c.now)) }
-    ensures rejected { IfOk result (λ v. IfRejected v (λ r. IsFirstReason m.now.model (certificate_of c.now) (reason_of r))) }
+    ensures rejected { IfOk result (λ v.
+        IfRejected v (λ r. IsFirstReason m.now.model (certificate_of c.now) (reason_of r))) }
+    ensures closed { IfOk result (λ v.
+        IfAccepted v (λ closed lean merged. IsTrue closed ↔ IsClosed m.now.model (certificate_of c.now))) }
+    ensures lean { IfOk result (λ v.
+        IfAccepted v (λ closed lean merged. IsTrue lean ↔ IsLean m.now.model (certificate_of c.now))) }
+    ensures merged { IfOk result (λ v.
+        IfAccepted v (λ closed lean merged. IsTrue merged ↔ IsMerged m.now.model (certificate_of c.now))) }
     ensures claims { IfOk result (λ v. IsAccepted v → ClaimsHold m.now.model (certificate_of c.now)) }
+    ensures ordered { IfOk result (λ v. IsAccepted v → c.now.lower ≤ℤ c.now.upper) }
+    ensures optimal { IfOk result (λ v. IfAccepted v (λ closed lean merged. IsTrue closed → c.now.exact ≡ true →
+        (c.now.lower ≡ c.now.upper) × IsOptimal m.now.model c.now.horizon (unfolded c.now.policy.rows))) }
 {
     m.invariant();
     let mut tally = Tally::new(c.exact);

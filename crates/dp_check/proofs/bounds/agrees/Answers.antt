@@ -1,6 +1,5 @@
 use Rattle.std.proofs.Common.{◌≡◌, ◌<◌, ◌≤◌, length, sym, ◌∙◌, arith, rules}
-use Rattle.std.proofs.lemmas.List.{length-map}
-use Rattle.dp_spec.specs.Front.{AgentFront, class_counts}
+use Rattle.dp_spec.specs.Front.{class_counts}
 use Rattle.dp_spec.specs.JointNumbers.{parts_of}
 use Rattle.dp_spec.proofs.JointNumberLaws.{length-parts_of}
 use Rattle.dp_cluster.proofs.ChosenActions.{agents_of}
@@ -14,9 +13,11 @@ returns-then-not-agrees_with c =
     let bs = c.args.m.now.model.actions in
     let agents = agents_of c.requires.front.agents in
     let lt : c.loop-agent.agent < length ds = omega (arith, c.agents-agent-end.ensures.is, c.loop-agent-test.true) in
-    let classes : length (parts_of (class_counts ds) c.args.class) ≡ length ds = length-parts_of (class_counts ds) c.args.class ∙ as_many_counts ds in
+    let classes : length (parts_of (class_counts ds) c.args.class)
+    ≡ length ds = length-parts_of (class_counts ds) c.args.class ∙ as_many_counts ds in
     let actions : length (parts_of bs c.args.action) ≡ length ds = length-parts_of bs c.args.action ∙ sym agents in
-    agree_not ds _ _ c.loop-agent.agent _ _ lt classes actions (c.requires.choices c.loop-agent.agent lt) c.local_action.ensures (search rules) ∙ c.loop-agent.invariant
+    agree_not ds _ _ c.loop-agent.agent _ _ lt classes actions (c.requires.choices c.loop-agent.agent lt)
+    c.local_action.ensures (search rules) ∙ c.loop-agent.invariant
 
 pub loop-agent-preserved : goal.loop-agent-preserved
 loop-agent-preserved c =
@@ -24,9 +25,11 @@ loop-agent-preserved c =
     let bs = c.args.m.now.model.actions in
     let agents = agents_of c.requires.front.agents in
     let lt : c.loop-agent.agent < length ds = omega (arith, c.agents-agent-end.ensures.is, c.loop-agent-test.true) in
-    let classes : length (parts_of (class_counts ds) c.args.class) ≡ length ds = length-parts_of (class_counts ds) c.args.class ∙ as_many_counts ds in
+    let classes : length (parts_of (class_counts ds) c.args.class)
+    ≡ length ds = length-parts_of (class_counts ds) c.args.class ∙ as_many_counts ds in
     let actions : length (parts_of bs c.args.action) ≡ length ds = length-parts_of bs c.args.action ∙ sym agents in
-    sym (agree_next ds _ _ c.loop-agent.agent _ _ lt classes actions (c.requires.choices c.loop-agent.agent lt) c.local_action.ensures (search rules)) ∙ c.loop-agent.invariant
+    sym (agree_next ds _ _ c.loop-agent.agent _ _ lt classes actions (c.requires.choices c.loop-agent.agent lt)
+    c.local_action.ensures (search rules)) ∙ c.loop-agent.invariant
 
 pub returns : goal.returns
 returns c =

@@ -10,5 +10,6 @@ abbrev pub invariant-loop-class : goal.invariant-loop-class
 invariant-loop-class l =
     let F = l.front.front in
     l.total
-    ≡ (earned_reward_in (arithmetic_of l.m.model l.bounds) l.m.model (fixed_joint_action l.m.model F) l.bounds.fit.horizon F.stage).high
+    ≡ (earned_reward_in (arithmetic_of l.m.model l.bounds) l.m.model (fixed_joint_action l.m.model F)
+    l.bounds.fit.horizon F.stage).high
     +ℤ int_sum l.class (λ C. greatest (look_ahead_at l.m.model l.bounds F C) (agreeing_actions l.m.model F C))

@@ -1,9 +1,8 @@
-use Rattle.std.proofs.Common.{◌≡◌, ℕ, pos, sym, ap, subst, ◌∙◌, rules, refl}
+use Rattle.std.proofs.Common.{◌≡◌, pos, ap, ◌∙◌, rules}
 use Rattle.std.specs.Prelude.{unwrap_or}
 use Rattle.dp_spec.specs.Fitting.{front_bound}
 use Rattle.dp_spec.specs.Steps.{root_front}
 use Rattle.dp_spec.specs.Certificate.{arithmetic_for}
-use Rattle.dp_tree.specs.TreeValue.{bound_tree}
 use Rattle.dp_cert.specs.CertificateValue.{certificate_of}
 use Rattle.dp_check.proofs.Heads.{reason_after, reason_at_node}
 use Rattle.dp_check.proofs.Tallies.{greatest_is_leaf, inner_is_count}
@@ -37,7 +36,10 @@ returns-clause-reason c =
     let root = root_front m in
     let cap = front_bound A m cert.horizon cert.look root in
     let new = c.walk_tree.new.tally in
-    let inner = inner_is_count A m cert.horizon cert.look 0 cert.tree root cap c.args.tally.now new (ap (λ t. t.inner) c.requires.nothing) passes in
-    let greatest = greatest_is_leaf A m cert.horizon cert.look 0 cert.tree root cap c.args.tally.now new (ap (λ t. t.greatest) c.requires.nothing) c.requires.fits.children passes in
-    reason_after m cert mode unit lower c.args.tally.now new _ new.inner (unwrap_or new.greatest (pos 0)) c.requires.nothing passes inner
+    let inner = inner_is_count A m cert.horizon cert.look 0 cert.tree root cap c.args.tally.now new
+    (ap (λ t. t.inner) c.requires.nothing) passes in
+    let greatest = greatest_is_leaf A m cert.horizon cert.look 0 cert.tree root cap c.args.tally.now new
+    (ap (λ t. t.greatest) c.requires.nothing) c.requires.fits.children passes in
+    reason_after m cert mode unit lower c.args.tally.now new _ new.inner (unwrap_or new.greatest (pos 0))
+    c.requires.nothing passes inner
     (ap (λ o. unwrap_or o (pos 0)) greatest) c.last_reason.ensures

@@ -15,6 +15,7 @@ invariant-loop-action l =
     let A = arithmetic_of l.m.model l.bounds in
     let left = map bound_tree (drop l.action l.kids.items) in
     (walked A l.m.model l.bounds.fit.horizon (nodes_at l.m.model l.bounds (bound_tree l.tree) l.node) l.fn.tally
-    ≡ walked A l.m.model l.bounds.fit.horizon (choices_from l.m.model l.bounds l.node l.agent l.class l.action left) l.tally)
+    ≡ walked A l.m.model l.bounds.fit.horizon (choices_from l.m.model l.bounds l.node l.agent l.class l.action
+    left) l.tally)
     × (l.tally.nodes + node_counts (bound_trees left) ≤ 2 ^ 28)
     × (l.tally.inner ≤ l.tally.nodes)
