@@ -1,6 +1,7 @@
 pub mod ActionParts
 pub mod Agreement
 pub mod Bounds
+pub mod Callers
 pub mod Changes
 pub mod Choosing
 pub mod ClassPlaces
