@@ -22,7 +22,8 @@ use Rattle.dp_cert.specs.TextSteps.{Text}
 
 -- ---- limits that are kept
 
-none_first : (o : Option TooLarge) (os : List (Option TooLarge)) → first_passed (o ∷ os) ≡ None → (o ≡ None) × (first_passed os ≡ None)
+none_first : (o : Option TooLarge) (os : List (Option TooLarge)) → first_passed (o ∷ os) ≡ None → (o ≡ None)
+    × (first_passed os ≡ None)
 none_first None os e = (refl, e)
 none_first (Some passed) os e = absurd cc
 
@@ -32,7 +33,8 @@ not_passed what n e = by_test (nat_lt (greatest_allowed what) n) refl e
     past : TooLarge
     past = record { what = what; count = n }
 
-    by_test : (b : Bool) → nat_lt (greatest_allowed what) n ≡ b → cond b (Some past) None ≡ None → n ≤ greatest_allowed what
+    by_test : (b : Bool) → nat_lt (greatest_allowed what) n ≡ b → cond b (Some past) None ≡ None
+        → n ≤ greatest_allowed what
     by_test true is f = absurd cc
     by_test false is f = grind (arith, nat_tests)
 
@@ -54,7 +56,8 @@ kept_limits m h some e =
 abbrev past_steps : ℕ → TooLarge
 past_steps h = record { what = limits.Horizon; count = h }
 
-pub kept_version_one : (m : Model) (version h : ℕ) → version ≡ 1 → 1 ≤ h → horizon_passed m version h ≡ None → IsWithinLimits m h
+pub kept_version_one : (m : Model) (version h : ℕ) → version ≡ 1 → 1 ≤ h → horizon_passed m version h ≡ None
+    → IsWithinLimits m h
 unfolding horizon_passed
 kept_version_one m version h one some e = kept_limits m h some (rw one at e)
 
@@ -113,7 +116,8 @@ from_version m = refl
 abbrev answered : {V : Type 0} → Result (Rest V) (Fault TooLarge) → Result V (Fault TooLarge)
 answered r = elim r [ Ok rest ↦ whole rest | Err fault ↦ Err fault ]
 
-pub text_fails : {V : Type 0} (g : Text V) (bytes : List ℕ) (fault : Fault TooLarge) → front_of g 1 bytes ≡ Err fault
+pub text_fails : {V : Type 0} (g : Text V) (bytes : List ℕ) (fault : Fault TooLarge)
+    → front_of g 1 bytes ≡ Err fault
     → text_from g 1 bytes ≡ Err fault
 text_fails {V = V} g bytes fault e = ap (λ (r : Result (Rest V) (Fault TooLarge)). answered r) e
 
@@ -123,6 +127,8 @@ text_ends {V = V} g bytes v line [] e none = ap (λ (r : Result (Rest V) (Fault 
 text_ends g bytes v line (b ∷ rest) e none = absurd (omega (arith, none))
 
 pub text_goes_on : {V : Type 0} (g : Text V) (bytes : List ℕ) (v : V) (line : ℕ) (rest : List ℕ)
-    → front_of g 1 bytes ≡ Ok (rest_at v line rest) → 0 < length rest → text_from g 1 bytes ≡ Err (bad line Shape)
+    → front_of g 1 bytes ≡ Ok (rest_at v line rest) → 0 < length rest
+    → text_from g 1 bytes ≡ Err (bad line Shape)
 text_goes_on g bytes v line [] e some = absurd (omega (arith, some))
-text_goes_on {V = V} g bytes v line (b ∷ rest) e some = ap (λ (r : Result (Rest V) (Fault TooLarge)). answered r) e
+text_goes_on {V = V} g bytes v line (b ∷ rest) e some = ap (λ (r : Result (Rest V) (Fault TooLarge)).
+    answered r) e

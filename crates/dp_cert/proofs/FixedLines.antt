@@ -20,24 +20,30 @@ unfolding are_in_range
 words_inside [] zs = refl
 words_inside (w ∷ ws) zs = words_inside ws zs
 
-pub only_shape : (ws : List (List ℕ)) (bytes : List ℕ) (why : FileWhy) → line_at (fixed_form ws) bytes ≡ Err why → why ≡ Shape
+pub only_shape : (ws : List (List ℕ)) (bytes : List ℕ) (why : FileWhy) → line_at (fixed_form ws) bytes ≡ Err why
+    → why ≡ Shape
 unfolding line_at
 only_shape ws bytes why e = by_numbers (numbers_at (fixed_form ws) bytes) e
   where
     by_numbers : (o : Option (List ℤ × List ℕ)) → judged_line (fixed_form ws) o ≡ Err why → why ≡ Shape
     by_numbers None e = cc
-    by_numbers (Some found) e = absurd (let f = rw (words_typed ws found.0, words_inside ws found.0) at e in cc f)
+    by_numbers (Some found) e = absurd (let f = rw (words_typed ws found.0, words_inside ws found.0) at e in
+        cc f)
 
 -- ---- the title of a version
 
 pub one_is_word : AreWords (codes "decplan" ∷ codes "certificate" ∷ decimal 1 ∷ [])
-one_is_word = let e : decimal 1 ≡ 49 ∷ [] = decimal_digit 1 (omega arith) in rw e (assumption, (assumption, (assumption, tt)))
+one_is_word = let e : decimal 1 ≡ 49 ∷ [] = decimal_digit 1 (omega arith) in
+    rw e (assumption, (assumption, (assumption, tt)))
 
 pub two_is_word : AreWords (codes "decplan" ∷ codes "certificate" ∷ decimal 2 ∷ [])
-two_is_word = let e : decimal 2 ≡ 50 ∷ [] = decimal_digit 2 (omega arith) in rw e (assumption, (assumption, (assumption, tt)))
+two_is_word = let e : decimal 2 ≡ 50 ∷ [] = decimal_digit 2 (omega arith) in
+    rw e (assumption, (assumption, (assumption, tt)))
 
-pub one_joined : codes "decplan certificate 1" ≡ join_with_byte 32 (codes "decplan" ∷ codes "certificate" ∷ decimal 1 ∷ [])
+pub one_joined : codes "decplan certificate 1" ≡ join_with_byte 32
+    (codes "decplan" ∷ codes "certificate" ∷ decimal 1 ∷ [])
 one_joined = let e : decimal 1 ≡ 49 ∷ [] = decimal_digit 1 (omega arith) in rw e refl
 
-pub two_joined : codes "decplan certificate 2" ≡ join_with_byte 32 (codes "decplan" ∷ codes "certificate" ∷ decimal 2 ∷ [])
+pub two_joined : codes "decplan certificate 2" ≡ join_with_byte 32
+    (codes "decplan" ∷ codes "certificate" ∷ decimal 2 ∷ [])
 two_joined = let e : decimal 2 ≡ 50 ∷ [] = decimal_digit 2 (omega arith) in rw e refl

@@ -10,10 +10,16 @@ use Rattle.dp_cert.specs.TextSteps.{Text, the_words, the_numbers, one_of, first_
 
 abbrev pub behind_title : List ℤ → ℕ → Interval → List ℤ → Unit {0} → Text Head
 behind_title look mode interval inner title =
-    ends (record { look = first_plain look; is_exact = mode == 0; interval = interval; inner = first_plain inner })
+    ends (record {
+      look = first_plain look;
+      is_exact = mode == 0;
+      interval = interval;
+      inner = first_plain inner;
+    })
 
 abbrev pub behind_inner : List ℤ → ℕ → Interval → List ℤ → Text Head
-behind_inner look mode interval inner = the_words (codes "policy" ∷ []) >>= behind_title look mode interval inner
+behind_inner look mode interval inner = the_words (codes "policy" ∷ [])
+    >>= behind_title look mode interval inner
 
 abbrev pub behind_interval : List ℤ → ℕ → Interval → Text Head
 behind_interval look mode interval = the_numbers inner_form >>= behind_inner look mode interval

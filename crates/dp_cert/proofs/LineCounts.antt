@@ -17,47 +17,58 @@ number_count (fixed text ∷ form) = number_count form
 number_count (plain low high ∷ form) = suc (number_count form)
 number_count (signed ∷ form) = suc (number_count form)
 
-count_first : (want : Item) (form : List Item) (zs : List ℤ) (item : List ℕ) → ItemSays want zs item → length zs + number_count form ≡ number_count (want ∷ form)
+count_first : (want : Item) (form : List Item) (zs : List ℤ) (item : List ℕ) → ItemSays want zs item
+    → length zs + number_count form ≡ number_count (want ∷ form)
 count_first (fixed text) form zs item says = rw says.0 (omega arith)
 count_first (plain low high) form zs item says = rw says.1 (omega arith)
 count_first signed form zs item says = rw says.1 (omega arith)
 
-spelled_count : (form : List Item) (zs : List ℤ) (items : List (List ℕ)) → AreSpelled form zs items → length zs ≡ number_count form
+spelled_count : (form : List Item) (zs : List ℤ) (items : List (List ℕ)) → AreSpelled form zs items
+    → length zs ≡ number_count form
 spelled_count [] [] [] s = refl
 spelled_count [] (z ∷ zs) items s = absurd s
 spelled_count [] [] (item ∷ items) s = absurd s
 spelled_count (want ∷ form) zs items s =
     let f = first_spelled want form zs items s in
-    let sizes : length zs ≡ length f.mine + length f.others = ap length f.numbers ∙ length-append f.mine f.others in
+    let sizes : length zs ≡ length f.mine + length f.others = ap length f.numbers
+    ∙ length-append f.mine f.others in
     let rest = spelled_count form f.others f.rest f.spelled in
     let first = count_first want form f.mine f.item f.says in
     omega (arith, sizes, rest, first)
 
-pub line_count : (form : List Item) (bytes : List ℕ) (zs : List ℤ) (more : List ℕ) → line_at form bytes ≡ Ok (zs, more) → length zs ≡ number_count form
+pub line_count : (form : List Item) (bytes : List ℕ) (zs : List ℤ) (more : List ℕ)
+    → line_at form bytes ≡ Ok (zs, more) → length zs ≡ number_count form
 unfolding line_at
 line_count form bytes zs more e = by_numbers (numbers_at form bytes) refl e
   where
-    by_numbers : (o : Option (List ℤ × List ℕ)) → numbers_at form bytes ≡ o → judged_line form o ≡ Ok (zs, more) → length zs ≡ number_count form
+    by_numbers : (o : Option (List ℤ × List ℕ)) → numbers_at form bytes ≡ o → judged_line form o ≡ Ok (zs, more)
+        → length zs ≡ number_count form
     by_numbers None is e = absurd cc
     by_numbers (Some read) is e =
         let found : List ℤ × List ℕ = (zs, more) in
         let same : read ≡ found = judged_ok (are_typed form read.0) (are_in_range form read.0) read found e in
         let s = numbers_at-says form bytes read.0 read.1 is in
-        sym (ap (λ (p : List ℤ × List ℕ). length p.0) same) ∙ spelled_count form read.0 s.says.items s.says.spelled
+        sym (ap (λ (p : List ℤ × List ℕ). length p.0) same) ∙ spelled_count form read.0 s.says.items
+        s.says.spelled
 
 map_length : (xs : List ℕ) → length (map pos xs) ≡ length xs
 map_length [] = refl
 map_length (x ∷ xs) = ap suc (map_length xs)
 
 -- a line of three plain numbers has three
-pub three_numbers : (word : List ℕ) (a b c d e f : ℕ) (bytes xs more : List ℕ) → line_at (fixed word ∷ plain a b ∷ plain c d ∷ plain e f ∷ []) bytes ≡ Ok (map pos xs, more) → length xs ≡ 3
-three_numbers word a b c d e f bytes xs more is = sym (map_length xs) ∙ line_count (fixed word ∷ plain a b ∷ plain c d ∷ plain e f ∷ []) bytes (map pos xs) more is
+pub three_numbers : (word : List ℕ) (a b c d e f : ℕ) (bytes xs more : List ℕ)
+    → line_at (fixed word ∷ plain a b ∷ plain c d ∷ plain e f ∷ []) bytes ≡ Ok (map pos xs, more)
+    → length xs ≡ 3
+three_numbers word a b c d e f bytes xs more is = sym (map_length xs)
+    ∙ line_count (fixed word ∷ plain a b ∷ plain c d ∷ plain e f ∷ []) bytes (map pos xs) more is
 
-pub three_are : (xs : List ℕ) (a b c : ℕ) → length xs ≡ 3 → a ≡ get_or xs 0 a → b ≡ get_or xs 1 b → c ≡ get_or xs 2 c → map pos xs ≡ pos a ∷ pos b ∷ pos c ∷ []
+pub three_are : (xs : List ℕ) (a b c : ℕ) → length xs ≡ 3 → a ≡ get_or xs 0 a → b ≡ get_or xs 1 b
+    → c ≡ get_or xs 2 c → map pos xs ≡ pos a ∷ pos b ∷ pos c ∷ []
 three_are [] a b c n p q r = absurd (omega (arith, n))
 three_are (x ∷ []) a b c n p q r = absurd (omega (arith, n))
 three_are (x ∷ y ∷ []) a b c n p q r = absurd (omega (arith, n))
-three_are (x ∷ y ∷ z ∷ []) a b c n p q r = let p' : a ≡ x = p in let q' : b ≡ y = q in let r' : c ≡ z = r in rw (p', q', r') refl
+three_are (x ∷ y ∷ z ∷ []) a b c n p q r = let p' : a ≡ x = p in let q' : b ≡ y = q in let r' : c ≡ z = r in
+    rw (p', q', r') refl
 three_are (x ∷ y ∷ z ∷ w ∷ xs) a b c n p q r = absurd (omega (arith, n))
 
 -- a line of one plain number has one
@@ -78,7 +89,8 @@ judged_inside true true x y e = refl
 judged_inside true false x y e = absurd cc
 judged_inside false inside x y e = absurd cc
 
-pub line_inside : (form : List Item) (bytes : List ℕ) (zs : List ℤ) (more : List ℕ) → line_at form bytes ≡ Ok (zs, more)
+pub line_inside : (form : List Item) (bytes : List ℕ) (zs : List ℤ) (more : List ℕ)
+    → line_at form bytes ≡ Ok (zs, more)
     → AreInRange form zs
 unfolding line_at
 line_inside form bytes zs more e = by_numbers (numbers_at form bytes) e
@@ -90,7 +102,8 @@ line_inside form bytes zs more e = by_numbers (numbers_at form bytes) e
         let same : read ≡ found = judged_ok (are_typed form read.0) (are_in_range form read.0) read found e in
         let numbers = ap (λ (p : List ℤ × List ℕ). p.0) same in
         subst (AreInRange form) numbers
-        (in_range_from form read.0 (judged_inside (are_typed form read.0) (are_in_range form read.0) read found e))
+        (in_range_from form read.0 (judged_inside (are_typed form read.0) (are_in_range form read.0)
+        read found e))
 
 pub one_inside : (word : List ℕ) (a b : ℕ) (bytes more : List ℕ) (n : ℕ)
     → line_at (fixed word ∷ plain a b ∷ []) bytes ≡ Ok (pos n ∷ [], more) → (a ≤ n) × (n ≤ b)
@@ -111,4 +124,5 @@ row_count ranges bytes xs more is =
 pub numbers_count : (word : List ℕ) (ranges : List PlainRange) (bytes xs more : List ℕ)
     → line_at (fixed word ∷ plain_form ranges) bytes ≡ Ok (map pos xs, more) → length xs ≡ length ranges
 numbers_count word ranges bytes xs more is =
-    sym (map_length xs) ∙ line_count (fixed word ∷ plain_form ranges) bytes (map pos xs) more is ∙ plain_count ranges
+    sym (map_length xs) ∙ line_count (fixed word ∷ plain_form ranges) bytes (map pos xs) more is
+    ∙ plain_count ranges

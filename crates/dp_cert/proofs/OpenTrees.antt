@@ -61,11 +61,13 @@ repeated_more T m K line bytes =
     by_first_tree : (r : Result (Rest BoundTree) (Fault TooLarge))
         → given_to (then_front r (λ first. repeated T m >>= λ others. ends (more_bound_trees first others))) K
         ≡ given_to r
-        (λ first at more. given_to (front_of (repeated T m) at more) (λ others. K (more_bound_trees first others)))
+        (λ first at more. given_to (front_of (repeated T m) at more)
+        (λ others. K (more_bound_trees first others)))
     by_first_tree (Err fault) = refl
     by_first_tree (Ok first) =
         ap (λ (r : Result (Rest BoundTrees) (Fault TooLarge)). given_to r K)
-        (front_bind (repeated T m) (λ others. ends (more_bound_trees first.value others)) first.line first.bytes)
+        (front_bind (repeated T m) (λ others. ends (more_bound_trees first.value others))
+        first.line first.bytes)
         ∙ given_more (front_of (repeated T m) first.line first.bytes) first.value K
 
 given_alike : {V : Type 0} (r : Result (Rest V) (Fault TooLarge)) (K J : V → Run)
@@ -76,26 +78,32 @@ given_alike (Err fault) K J same = refl
 -- ---- a finished child
 
 -- the branch is whole
-pub closed_whole : (left i c : ℕ) (kids : List BoundTree) (fs : List Frame) (t : BoundTree) (line : ℕ) (bytes : List ℕ)
+pub closed_whole : (left i c : ℕ) (kids : List BoundTree) (fs : List Frame) (t : BoundTree) (line : ℕ)
+    (bytes : List ℕ)
     → closed left (branch_frame i c kids 0 ∷ fs) t line bytes
     ≡ closed (suc left) fs (branch i c (bound_trees (kids ++ t ∷ []))) line bytes
 closed_whole left i c kids fs t line bytes =
     ap (λ ts. closed (suc left) fs (branch i c ts) line bytes) (behind_is kids (t ∷ []))
 
 -- it waits for more
-pub closed_waits : (left i c m : ℕ) (kids : List BoundTree) (fs : List Frame) (t : BoundTree) (line : ℕ) (bytes : List ℕ)
+pub closed_waits : (left i c m : ℕ) (kids : List BoundTree) (fs : List Frame) (t : BoundTree) (line : ℕ)
+    (bytes : List ℕ)
     → closed left (branch_frame i c kids (suc m) ∷ fs) t line bytes
     ≡ opened left (branch_frame i c (kids ++ t ∷ []) m ∷ fs) line bytes
 closed_waits left i c m kids fs t line bytes =
-    repeated_more (tree_lines left) m (λ others. closed (suc left) fs (branch i c (behind_children kids (more_bound_trees t others)))) line bytes
+    repeated_more (tree_lines left) m (λ others. closed (suc left) fs
+    (branch i c (behind_children kids (more_bound_trees t others)))) line bytes
     ∙ given_alike (front_of (tree_lines left) line bytes) _ _ (λ first at more.
     given_alike (front_of (repeated (tree_lines left) m) at more) _ _ (λ others at' more'.
-    ap (λ ts. closed (suc left) fs (branch i c ts) at' more') (sym (behind_snoc kids t (more_bound_trees first others)))))
+    ap (λ ts. closed (suc left) fs (branch i c ts) at' more')
+    (sym (behind_snoc kids t (more_bound_trees first others)))))
 
 -- ---- the line of a node
 
-pub node_read : (left : ℕ) (fs : List Frame) (line : ℕ) (bytes : List ℕ) (found : Found) → lines_at node_forms bytes ≡ Ok found
-    → opened left fs line bytes ≡ given_to (front_of (after_line left found.k found.zs) (suc line) found.more) (closed left fs)
+pub node_read : (left : ℕ) (fs : List Frame) (line : ℕ) (bytes : List ℕ) (found : Found)
+    → lines_at node_forms bytes ≡ Ok found
+    → opened left fs line bytes ≡ given_to (front_of (after_line left found.k found.zs) (suc line) found.more)
+    (closed left fs)
 node_read zero fs line bytes found e =
     ap (λ (r : Result (Rest BoundTree) (Fault TooLarge)). given_to r (closed 0 fs))
     (by_first node_forms leaf_only line bytes (Ok found) e)
@@ -103,7 +111,8 @@ node_read (suc left) fs line bytes found e =
     ap (λ (r : Result (Rest BoundTree) (Fault TooLarge)). given_to r (closed (suc left) fs))
     (by_first node_forms (node_below (tree_lines left)) line bytes (Ok found) e)
 
-pub node_bad : (left : ℕ) (fs : List Frame) (line : ℕ) (bytes : List ℕ) (why : FileWhy) → lines_at node_forms bytes ≡ Err why
+pub node_bad : (left : ℕ) (fs : List Frame) (line : ℕ) (bytes : List ℕ) (why : FileWhy)
+    → lines_at node_forms bytes ≡ Err why
     → opened left fs line bytes ≡ Err (bad line why)
 node_bad zero fs line bytes why e =
     ap (λ (r : Result (Rest BoundTree) (Fault TooLarge)). given_to r (closed 0 fs))
@@ -113,21 +122,25 @@ node_bad (suc left) fs line bytes why e =
     (by_first node_forms (node_below (tree_lines left)) line bytes (Err why) e)
 
 leaf_end : (left : ℕ) (fs : List Frame) (z : ℤ) (line : ℕ) (bytes : List ℕ)
-    → given_to (front_of (after_line left 0 (z ∷ [])) line bytes) (closed left fs) ≡ closed left fs (leaf z) line bytes
+    → given_to (front_of (after_line left 0 (z ∷ [])) line bytes) (closed left fs)
+    ≡ closed left fs (leaf z) line bytes
 leaf_end zero fs z line bytes = refl
 leaf_end (suc left) fs z line bytes = refl
 
 branch_end : (left i c m : ℕ) (fs : List Frame) (line : ℕ) (bytes : List ℕ)
-    → given_to (front_of (after_line (suc left) 1 (pos i ∷ pos c ∷ pos (suc m) ∷ [])) line bytes) (closed (suc left) fs)
+    → given_to (front_of (after_line (suc left) 1 (pos i ∷ pos c ∷ pos (suc m) ∷ [])) line bytes)
+    (closed (suc left) fs)
     ≡ opened left (branch_frame i c [] m ∷ fs) line bytes
 branch_end left i c m fs line bytes =
     ap (λ (r : Result (Rest BoundTree) (Fault TooLarge)). given_to r (closed (suc left) fs))
     (front_bind (repeated (tree_lines left) (suc m)) (λ kids. ends (branch i c kids)) line bytes)
-    ∙ given_mapped (front_of (repeated (tree_lines left) (suc m)) line bytes) (branch i c) (closed (suc left) fs)
+    ∙ given_mapped (front_of (repeated (tree_lines left) (suc m)) line bytes) (branch i c)
+    (closed (suc left) fs)
     ∙ repeated_more (tree_lines left) m (λ kids. closed (suc left) fs (branch i c kids)) line bytes
 
 merge_end : (left i a b : ℕ) (fs : List Frame) (line : ℕ) (bytes : List ℕ)
-    → given_to (front_of (after_line (suc left) 2 (pos i ∷ pos a ∷ pos b ∷ [])) line bytes) (closed (suc left) fs)
+    → given_to (front_of (after_line (suc left) 2 (pos i ∷ pos a ∷ pos b ∷ [])) line bytes)
+    (closed (suc left) fs)
     ≡ opened left (merge_frame i a b ∷ fs) line bytes
 merge_end left i a b fs line bytes =
     ap (λ (r : Result (Rest BoundTree) (Fault TooLarge)). given_to r (closed (suc left) fs))
@@ -150,22 +163,27 @@ pub place_branch : (i c k left : ℕ) (fs gs : List Frame) → 0 < k → left �
 place_branch i c k left fs gs some is lt e line bytes =
     let f = branch_frame i c [] left in
     let more : k ≡ suc left = omega (arith, some, is) in
-    ap (λ (n : ℕ). given_to (front_of (after_line n 1 (pos i ∷ pos c ∷ pos k ∷ [])) line bytes) (closed n fs)) (one_left fs f lt)
-    ∙ ap (λ (n : ℕ). given_to (front_of (after_line (suc (left_below (f ∷ fs))) 1 (pos i ∷ pos c ∷ pos n ∷ [])) line bytes) (closed (suc (left_below (f ∷ fs))) fs)) more
+    ap (λ (n : ℕ). given_to (front_of (after_line n 1 (pos i ∷ pos c ∷ pos k ∷ [])) line bytes) (closed n fs))
+    (one_left fs f lt)
+    ∙ ap (λ (n : ℕ). given_to (front_of (after_line (suc (left_below (f ∷ fs))) 1 (pos i ∷ pos c ∷ pos n ∷ []))
+    line bytes) (closed (suc (left_below (f ∷ fs))) fs)) more
     ∙ branch_end (left_below (f ∷ fs)) i c left fs line bytes
     ∙ ap (λ (l : List Frame). opened (left_below l) l line bytes) (sym e)
 
-pub place_merge : (i a b : ℕ) (fs gs : List Frame) → length fs < 2048 → gs ≡ merge_frame i a b ∷ fs → (line : ℕ) (bytes : List ℕ)
+pub place_merge : (i a b : ℕ) (fs gs : List Frame) → length fs < 2048 → gs ≡ merge_frame i a b ∷ fs
+    → (line : ℕ) (bytes : List ℕ)
     → behind_node (nodes.Merge i a b) fs line bytes ≡ opened (left_below gs) gs line bytes
 place_merge i a b fs gs lt e line bytes =
     let f = merge_frame i a b in
-    ap (λ (n : ℕ). given_to (front_of (after_line n 2 (pos i ∷ pos a ∷ pos b ∷ [])) line bytes) (closed n fs)) (one_left fs f lt)
+    ap (λ (n : ℕ). given_to (front_of (after_line n 2 (pos i ∷ pos a ∷ pos b ∷ [])) line bytes) (closed n fs))
+    (one_left fs f lt)
     ∙ merge_end (left_below (f ∷ fs)) i a b fs line bytes
     ∙ ap (λ (l : List Frame). opened (left_below l) l line bytes) (sym e)
 
 -- one inner node too many
 pub place_deep : (k : ℕ) (zs : List ℤ) (fs : List Frame) → length fs ≡ 2048 → (line : ℕ) (bytes : List ℕ)
-    → given_to (front_of (after_line (left_below fs) (suc k) zs) line bytes) (closed (left_below fs) fs) ≡ Err (limit deepest)
+    → given_to (front_of (after_line (left_below fs) (suc k) zs) line bytes) (closed (left_below fs) fs)
+    ≡ Err (limit deepest)
 place_deep k zs fs full line bytes =
     let none : left_below fs ≡ 0 = omega (arith, full) in
     ap (λ (n : ℕ). given_to (front_of (after_line n (suc k) zs) line bytes) (closed n fs)) none
@@ -177,14 +195,16 @@ frames_push os o = ap (map frame_of) (reverse-append os (o ∷ []))
 
 reverse_length : (os : List Open) → length (reverse os) ≡ length os
 reverse_length [] = refl
-reverse_length (o ∷ os) = ap length (reverse-append (o ∷ []) os) ∙ length-append (reverse os) (o ∷ []) ∙ (let e = reverse_length os in omega (arith, e))
+reverse_length (o ∷ os) = ap length (reverse-append (o ∷ []) os) ∙ length-append (reverse os) (o ∷ [])
+    ∙ (let e = reverse_length os in omega (arith, e))
 
 pub frames_length : (os : List Open) → length (frames_of os) ≡ length os
 frames_length os = mapped_length frame_of (reverse os) ∙ reverse_length os
 
 -- ---- what is given
 
-pub branch_given : (i c left : ℕ) (kids : List BoundTree) (t : BoundTree) (g : Given) → IsBranchWith i c (kids ++ t ∷ []) left g
+pub branch_given : (i c left : ℕ) (kids : List BoundTree) (t : BoundTree) (g : Given)
+    → IsBranchWith i c (kids ++ t ∷ []) left g
     → IsGiven (branch_frame i c kids left) t g
 branch_given i c left kids t (given.Whole whole) is = λ depth fs line bytes.
     ap (λ (n : ℕ). closed depth (branch_frame i c kids n ∷ fs) t line bytes) is.0
@@ -197,22 +217,27 @@ branch_given i c left kids t (given.Waits node) is = λ depth fs line bytes.
 
 pub merge_given : (i a b : ℕ) (t : BoundTree) (whole : Tree) → bound_tree whole ≡ merge i a b t
     → IsGiven (merge_frame i a b) t (given.Whole whole)
-merge_given i a b t whole e = λ left fs line bytes. ap (λ (x : BoundTree). closed (suc left) fs x line bytes) (sym e)
+merge_given i a b t whole e = λ left fs line bytes. ap (λ (x : BoundTree). closed (suc left) fs x line bytes)
+    (sym e)
 
 -- as the code tells it
-pub given_in : (o : Open) (f : Frame) (t : BoundTree) (g : Given) → frame_of o ≡ f → IsGiven f t g → IsGiven (frame_of o) t g
+pub given_in : (o : Open) (f : Frame) (t : BoundTree) (g : Given) → frame_of o ≡ f → IsGiven f t g
+    → IsGiven (frame_of o) t g
 given_in o f t g e is = subst (λ (x : Frame). IsGiven x t g) (sym e) is
 
 -- a node that is not read has the fault of the whole tree
-pub node_fails : (fault : CertFault) (line : ℕ) (read : Result Found FileWhy) (all : Result (Rest BoundTree) (Fault TooLarge))
-    → NodeFails fault line read → ((why : FileWhy) → read ≡ Err why → all ≡ Err (bad line why)) → Fails fault all
+pub node_fails : (fault : CertFault) (line : ℕ) (read : Result Found FileWhy)
+    (all : Result (Rest BoundTree) (Fault TooLarge))
+    → NodeFails fault line read → ((why : FileWhy) → read ≡ Err why → all ≡ Err (bad line why))
+    → Fails fault all
 node_fails (faults.At n why) line read all gives is = is why gives.0 ∙ ap (λ m. Err (bad m why)) (sym gives.1)
 node_fails (faults.TooLarge passed) line read all gives is = absurd gives
 node_fails faults.Memory line read all gives is = tt
 
 -- ---- the whole tree
 
-given_whole : (r : Result (Rest BoundTree) (Fault TooLarge)) → r ≡ given_to r (λ t line bytes. Ok (rest_at t line bytes))
+given_whole : (r : Result (Rest BoundTree) (Fault TooLarge))
+    → r ≡ given_to r (λ t line bytes. Ok (rest_at t line bytes))
 given_whole (Ok rest) = refl
 given_whole (Err fault) = refl
 
@@ -231,8 +256,10 @@ node_behind node fs line to bytes more gives =
     ∙ ap (λ (n : ℕ). behind_node node fs n more) (sym gives.1)
 
 -- a node is not placed
-pub place_fails : (fault : CertFault) (node : Node) (fs gs : List Frame) (all : Result (Rest BoundTree) (Fault TooLarge))
-    (line : ℕ) (bytes : List ℕ) → all ≡ behind_node node fs line bytes → Places node fs gs (Err fault) → Fails fault all
+pub place_fails : (fault : CertFault) (node : Node) (fs gs : List Frame)
+    (all : Result (Rest BoundTree) (Fault TooLarge))
+    (line : ℕ) (bytes : List ℕ) → all ≡ behind_node node fs line bytes → Places node fs gs (Err fault)
+    → Fails fault all
 place_fails (faults.At n why) node fs gs all line bytes e places = absurd places
 place_fails (faults.TooLarge passed) node fs gs all line bytes e places = e ∙ places line bytes
 place_fails faults.Memory node fs gs all line bytes e places = tt

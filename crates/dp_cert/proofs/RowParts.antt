@@ -35,7 +35,8 @@ ranges_step first done more k range so_far e =
     ap plain_form e
     ∙ map-append (λ (r : PlainRange). plain r.low r.high) done (range ∷ [])
     ∙ ap (λ l. l ++ plain range.low range.high ∷ []) so_far
-    ∙ append_assoc (plain_form first) (replicate k (plain range.low range.high)) (plain range.low range.high ∷ [])
+    ∙ append_assoc (plain_form first) (replicate k (plain range.low range.high))
+    (plain range.low range.high ∷ [])
     ∙ ap (λ l. plain_form first ++ l) (replicate-snoc k (plain range.low range.high))
 
 -- ---- cells
@@ -72,7 +73,8 @@ kept_cells [] e = tt
 kept_cells (x ∷ xs) e = by_test (nat_lt (2 ^ 22) x) refl e (kept_cells xs)
   where
     by_test : (b : Bool) → nat_lt (2 ^ 22) x ≡ b → passed_of (cond b (Some x) (first_past (2 ^ 22) xs)) ≡ None
-        → (cells_passed xs ≡ None → AllByRecursion (λ (k : ℕ). k ≤ 2 ^ 22) xs) → AllByRecursion (λ (k : ℕ). k ≤ 2 ^ 22) (x ∷ xs)
+        → (cells_passed xs ≡ None → AllByRecursion (λ (k : ℕ). k ≤ 2 ^ 22) xs)
+        → AllByRecursion (λ (k : ℕ). k ≤ 2 ^ 22) (x ∷ xs)
     by_test true is f others = absurd cc
     by_test false is f others = (not_past (2 ^ 22) x is, others f)
 
@@ -122,10 +124,14 @@ pub some_counts : (h : ℕ) (xs : List ℕ) → length xs ≡ h → AreInRange (
     → AllByRecursion (λ (x : ℕ). 0 < x) xs
 some_counts h [] e inside = tt
 some_counts zero (x ∷ xs) e inside = absurd (omega (arith, e))
-some_counts (suc h) (x ∷ xs) e inside = (omega (arith, inside.0), same_some h (2 ^ 22) xs (omega (arith, e)) inside.2)
+some_counts (suc h) (x ∷ xs) e inside = (
+  omega (arith, inside.0),
+  same_some h (2 ^ 22) xs (omega (arith, e)) inside.2,
+)
 
 -- those that follow one, too
-pub some_dropped : (xs : List ℕ) (k : ℕ) → AllByRecursion (λ (x : ℕ). 0 < x) xs → AllByRecursion (λ (x : ℕ). 0 < x) (drop k xs)
+pub some_dropped : (xs : List ℕ) (k : ℕ) → AllByRecursion (λ (x : ℕ). 0 < x) xs
+    → AllByRecursion (λ (x : ℕ). 0 < x) (drop k xs)
 some_dropped [] zero all = tt
 some_dropped [] (suc k) all = tt
 some_dropped (x ∷ xs) zero all = all
@@ -148,12 +154,14 @@ rows_step n t first seen actions next done more lt is from e so_far =
     ∙ ap (λ l. l ++ rows_from n seen (t + 1) (drop (suc t) actions)) e
     ∙ append_assoc done (row ∷ []) (rows_from n seen (t + 1) (drop (suc t) actions))
     ∙ ap (λ l. done ++ row_with (get_or actions t 0) l ∷ rows_from n seen (t + 1) (drop (suc t) actions)) is
-    ∙ ap (λ (f : ℕ). done ++ row_with (get_or actions t 0) (map (λ o. f + o) seen) ∷ rows_from n seen (t + 1) (drop (suc t) actions)) from
+    ∙ ap (λ (f : ℕ). done ++ row_with (get_or actions t 0) (map (λ o. f + o) seen) ∷ rows_from n seen (t + 1)
+    (drop (suc t) actions)) from
     ∙ ap (λ l. done ++ rows_from n seen t l) (sym (drop-cons actions t 0 lt))
     ∙ so_far
 
 pub rows_end : (n t : ℕ) (seen actions : List ℕ) (done : List PolicyRow) → length actions ≤ t
-    → done ++ rows_from n seen t (drop t actions) ≡ rows_from n seen 0 actions → done ≡ rows_from n seen 0 actions
+    → done ++ rows_from n seen t (drop t actions) ≡ rows_from n seen 0 actions
+    → done ≡ rows_from n seen 0 actions
 rows_end n t seen actions done le so_far =
     sym (append-nil done) ∙ ap (λ l. done ++ rows_from n seen t l) (sym (drop_all t actions le)) ∙ so_far
 

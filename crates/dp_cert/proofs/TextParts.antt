@@ -16,7 +16,8 @@ use Rattle.dp_cert.specs.Reading.{Fails, Gives, rest_at, onto}
 -- ---- one part after the other
 
 -- what is read behind a part that is read
-abbrev pub then_front : {V W : Type 0} → Result (Rest V) (Fault TooLarge) → (V → Text W) → Result (Rest W) (Fault TooLarge)
+abbrev pub then_front : {V W : Type 0} → Result (Rest V) (Fault TooLarge) → (V → Text W)
+    → Result (Rest W) (Fault TooLarge)
 then_front (Ok rest) f = front_of (f rest.value) rest.line rest.bytes
 then_front (Err fault) f = Err fault
 
@@ -30,13 +31,19 @@ front_bind {V = V} {W = W} (next forms after) f line bytes =
     by_line : (r : Result Found FileWhy)
         → ((k : ℕ) (zs : List ℤ) (more : List ℕ)
         → front_of (after k zs >>= f) (suc line) more ≡ then_front (front_of (after k zs) (suc line) more) f)
-        → (elim r as (λ x. Result (Rest W) (Fault TooLarge)) [ Ok found ↦ front_of (after found.k found.zs >>= f) (suc line) found.more | Err why ↦ Err (bad line why) ])
-        ≡ then_front (elim r as (λ x. Result (Rest V) (Fault TooLarge)) [ Ok found ↦ front_of (after found.k found.zs) (suc line) found.more | Err why ↦ Err (bad line why) ]) f
+        → (elim r as (λ x. Result (Rest W) (Fault TooLarge)) [
+          | Ok found ↦ front_of (after found.k found.zs >>= f) (suc line) found.more
+          | Err why ↦ Err
+              (bad line why)
+        ])
+        ≡ then_front (elim r as (λ x. Result (Rest V) (Fault TooLarge))
+        [ Ok found ↦ front_of (after found.k found.zs) (suc line) found.more | Err why ↦ Err (bad line why) ]) f
     by_line (Ok found) rest = rest found.k found.zs found.more
     by_line (Err why) rest = refl
 
 pub bind_ok : {V W : Type 0} (g : Text V) (f : V → Text W) (line : ℕ) (bytes : List ℕ) (rest : Rest V)
-    → front_of g line bytes ≡ Ok rest → front_of (g >>= f) line bytes ≡ front_of (f rest.value) rest.line rest.bytes
+    → front_of g line bytes ≡ Ok rest → front_of (g >>= f) line bytes
+    ≡ front_of (f rest.value) rest.line rest.bytes
 bind_ok g f line bytes rest e = front_bind g f line bytes ∙ rw e refl
 
 pub bind_err : {V W : Type 0} (g : Text V) (f : V → Text W) (line : ℕ) (bytes : List ℕ) (fault : Fault TooLarge)
@@ -51,13 +58,16 @@ fails_also (faults.TooLarge passed) r s same g = same (limit passed) g
 fails_also faults.Memory r s same g = tt
 
 -- a part behind what is read fails, and so does all
-pub fails_then : {V W : Type 0} (e : CertFault) (all : Result (Rest W) (Fault TooLarge)) (g : Text V) (f : V → Text W)
-    (line : ℕ) (bytes : List ℕ) → all ≡ front_of (g >>= f) line bytes → Fails e (front_of g line bytes) → Fails e all
+pub fails_then : {V W : Type 0} (e : CertFault) (all : Result (Rest W) (Fault TooLarge)) (g : Text V)
+    (f : V → Text W)
+    (line : ℕ) (bytes : List ℕ) → all ≡ front_of (g >>= f) line bytes → Fails e (front_of g line bytes)
+    → Fails e all
 fails_then e all g f line bytes same fails =
     fails_also e (front_of g line bytes) all (λ fault is. same ∙ bind_err g f line bytes fault is) fails
 
 -- what is given by what follows is given by all
-pub gives_at : {X V : Type 0} (view : X → V) (r : Result X CertFault) (a b : Result V (Fault TooLarge)) → a ≡ b → Gives view r b
+pub gives_at : {X V : Type 0} (view : X → V) (r : Result X CertFault) (a b : Result V (Fault TooLarge)) → a ≡ b
+    → Gives view r b
     → Gives view r a
 gives_at view r a b e gives = subst (Gives view r) (sym e) gives
 
@@ -66,9 +76,11 @@ gives_at view r a b e gives = subst (Gives view r) (sym e) gives
 -- what is read of the first line decides
 pub by_first : {V : Type 0} (forms : List (List Item)) (after : ℕ → List ℤ → Text V) (line : ℕ) (bytes : List ℕ)
     (r : Result Found FileWhy) → lines_at forms bytes ≡ r
-    → front_of (next forms after) line bytes ≡ (elim r as (λ x. Result (Rest V) (Fault TooLarge)) [ Ok found ↦ front_of (after found.k found.zs) (suc line) found.more | Err why ↦ Err (bad line why) ])
+    → front_of (next forms after) line bytes ≡ (elim r as (λ x. Result (Rest V) (Fault TooLarge))
+    [ Ok found ↦ front_of (after found.k found.zs) (suc line) found.more | Err why ↦ Err (bad line why) ])
 by_first {V = V} forms after line bytes r e =
-    ap (λ (x : Result Found FileWhy). elim x as (λ y. Result (Rest V) (Fault TooLarge)) [ Ok found ↦ front_of (after found.k found.zs) (suc line) found.more | Err why ↦ Err (bad line why) ]) e
+    ap (λ (x : Result Found FileWhy). elim x as (λ y. Result (Rest V) (Fault TooLarge))
+    [ Ok found ↦ front_of (after found.k found.zs) (suc line) found.more | Err why ↦ Err (bad line why) ]) e
 
 one_ok : (form : List Item) (bytes : List ℕ) (zs : List ℤ) (more : List ℕ) → line_at form bytes ≡ Ok (zs, more)
     → lines_at (form ∷ []) bytes ≡ Ok (record { k = 0; zs = zs; more = more })
@@ -93,19 +105,22 @@ words_bad ws line bytes why e =
     by_first (fixed_form ws ∷ []) (λ k zs. ends tt) line bytes _ (one_bad (fixed_form ws) bytes why e)
 
 numbers_ok : (form : List Item) (line : ℕ) (bytes : List ℕ) (zs : List ℤ) (more : List ℕ)
-    → line_at form bytes ≡ Ok (zs, more) → front_of (the_numbers form) line bytes ≡ Ok (rest_at zs (suc line) more)
+    → line_at form bytes ≡ Ok (zs, more) → front_of (the_numbers form) line bytes
+    ≡ Ok (rest_at zs (suc line) more)
 numbers_ok form line bytes zs more e =
     by_first (form ∷ []) (λ k zs. ends zs) line bytes _ (one_ok form bytes zs more e)
 
 pub numbers_bad : (form : List Item) (line : ℕ) (bytes : List ℕ) (why : FileWhy) → line_at form bytes ≡ Err why
     → front_of (the_numbers form) line bytes ≡ Err (bad line why)
-numbers_bad form line bytes why e = by_first (form ∷ []) (λ k zs. ends zs) line bytes _ (one_bad form bytes why e)
+numbers_bad form line bytes why e = by_first (form ∷ []) (λ k zs. ends zs) line bytes _
+    (one_bad form bytes why e)
 
 -- as the code tells it
 pub numbers_to : (form : List Item) (line to : ℕ) (bytes : List ℕ) (zs : List ℤ) (more behind : List ℕ)
     → line_at form bytes ≡ Ok (zs, more) → to ≡ line + 1 → behind ≡ more
     → front_of (the_numbers form) line bytes ≡ Ok (rest_at zs to behind)
-numbers_to form line to bytes zs more behind e t b = numbers_ok form line bytes zs more e ∙ rw (t, add-one, b) refl
+numbers_to form line to bytes zs more behind e t b = numbers_ok form line bytes zs more e
+    ∙ rw (t, add-one, b) refl
 
 pub words_to : (ws : List (List ℕ)) (line to : ℕ) (bytes more behind : List ℕ)
     → line_at (fixed_form ws) bytes ≡ Ok ([], more) → to ≡ line + 1 → behind ≡ more
@@ -114,22 +129,27 @@ words_to ws line to bytes more behind e t b = words_ok ws line bytes more e ∙ 
 
 -- ---- one of two lines
 
-pub first_to : (first second : List Item) (line to : ℕ) (bytes more behind : List ℕ) → line_at first bytes ≡ Ok ([], more)
+pub first_to : (first second : List Item) (line to : ℕ) (bytes more behind : List ℕ)
+    → line_at first bytes ≡ Ok ([], more)
     → to ≡ line + 1 → behind ≡ more → front_of (one_of first second) line bytes ≡ Ok (rest_at 0 to behind)
 unfolding lines_at
 first_to first second line to bytes more behind e t b =
-    by_first (first ∷ second ∷ []) (λ k zs. ends k) line bytes (Ok (record { k = 0; zs = []; more = more })) (rw e refl)
+    by_first (first ∷ second ∷ []) (λ k zs. ends k) line bytes (Ok (record { k = 0; zs = []; more = more }))
+    (rw e refl)
     ∙ rw (t, add-one, b) refl
 
-pub second_to : (first second : List Item) (line to : ℕ) (bytes more behind : List ℕ) → line_at first bytes ≡ Err Shape
+pub second_to : (first second : List Item) (line to : ℕ) (bytes more behind : List ℕ)
+    → line_at first bytes ≡ Err Shape
     → line_at second bytes ≡ Ok ([], more) → to ≡ line + 1 → behind ≡ more
     → front_of (one_of first second) line bytes ≡ Ok (rest_at 1 to behind)
 unfolding lines_at
 second_to first second line to bytes more behind none e t b =
-    by_first (first ∷ second ∷ []) (λ k zs. ends k) line bytes (Ok (record { k = 1; zs = []; more = more })) (rw (none, e) refl)
+    by_first (first ∷ second ∷ []) (λ k zs. ends k) line bytes (Ok (record { k = 1; zs = []; more = more }))
+    (rw (none, e) refl)
     ∙ rw (t, add-one, b) refl
 
-pub neither_bad : (first second : List Item) (line : ℕ) (bytes : List ℕ) (why : FileWhy) → line_at first bytes ≡ Err Shape
+pub neither_bad : (first second : List Item) (line : ℕ) (bytes : List ℕ) (why : FileWhy)
+    → line_at first bytes ≡ Err Shape
     → line_at second bytes ≡ Err why → front_of (one_of first second) line bytes ≡ Err (bad line why)
 unfolding lines_at
 neither_bad first second line bytes why none e =
@@ -145,15 +165,18 @@ neither_bad first second line bytes why none e =
 -- one before those that are read
 pub front_cons : {A : Type 0} (g : Text (List A)) (x : A) (line : ℕ) (bytes : List ℕ)
     → front_of (g >>= λ others. ends (x ∷ others)) line bytes ≡ onto (x ∷ []) (front_of g line bytes)
-front_cons {A = A} g x line bytes = front_bind g (λ others. ends (x ∷ others)) line bytes ∙ by_front (front_of g line bytes)
+front_cons {A = A} g x line bytes = front_bind g (λ others. ends (x ∷ others)) line bytes
+    ∙ by_front (front_of g line bytes)
   where
-    by_front : (r : Result (Rest (List A)) (Fault TooLarge)) → then_front r (λ others. ends (x ∷ others)) ≡ onto (x ∷ []) r
+    by_front : (r : Result (Rest (List A)) (Fault TooLarge))
+        → then_front r (λ others. ends (x ∷ others)) ≡ onto (x ∷ []) r
     by_front (Ok rest) = refl
     by_front (Err fault) = refl
 
 pub onto-onto : {A F : Type 0} (front more : List A) (r : Result (Rest (List A)) F)
     → onto front (onto more r) ≡ onto (front ++ more) r
-onto-onto front more (Ok rest) = ap (λ l. Ok (record rest { value = l })) (sym (append_assoc front more rest.value))
+onto-onto front more (Ok rest) = ap (λ l. Ok (record rest { value = l }))
+    (sym (append_assoc front more rest.value))
 onto-onto front more (Err fault) = refl
 
 pub onto-none : {A F : Type 0} (r : Result (Rest (List A)) F) → onto [] r ≡ r

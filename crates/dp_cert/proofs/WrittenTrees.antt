@@ -10,13 +10,17 @@ use Rattle.dp_cert.specs.CertificateBytes.{children_bytes, node_bytes, three_byt
 pub behind : (x y z a b : List ℕ) → y ≡ x ++ a → z ≡ y ++ b → z ≡ x ++ (a ++ b)
 behind x y z a b e f = f ∙ ap (λ l. l ++ b) e ∙ append_assoc x a b
 
-pub one_child : (before after all : List ℕ) (t : BoundTree) (ts : List BoundTree) → after ≡ before ++ node_bytes t
+pub one_child : (before after all : List ℕ) (t : BoundTree) (ts : List BoundTree)
+    → after ≡ before ++ node_bytes t
     → before ++ children_bytes (bound_trees (t ∷ ts)) ≡ all → after ++ children_bytes (bound_trees ts) ≡ all
 one_child before after all t ts e so_far =
-    ap (λ l. l ++ children_bytes (bound_trees ts)) e ∙ append_assoc before (node_bytes t) (children_bytes (bound_trees ts)) ∙ so_far
+    ap (λ l. l ++ children_bytes (bound_trees ts)) e ∙ append_assoc before (node_bytes t)
+    (children_bytes (bound_trees ts)) ∙ so_far
 
 -- a branch begins
-pub branch_start : (old text : List ℕ) (i c n : ℕ) (ks : BoundTrees) → text ≡ old ++ three_bytes (codes "B ") i c n → n ≡ child_count ks
+pub branch_start : (old text : List ℕ) (i c n : ℕ) (ks : BoundTrees)
+    → text ≡ old ++ three_bytes (codes "B ") i c n
+    → n ≡ child_count ks
     → text ++ children_bytes ks ≡ old ++ node_bytes (branch i c ks)
 branch_start old text i c n ks e count =
     ap (λ l. l ++ children_bytes ks) e
@@ -31,9 +35,11 @@ pub is_other : (v : ℕ) → (v ≡ 1 → ⊥) → (v == 1) ≡ false
 is_other v differ = grind (arith, nat_tests)
 
 -- what is still to be is written, from one on
-pub step_on : (before after a rest all : List ℕ) → after ≡ before ++ a → before ++ (a ++ rest) ≡ all → after ++ rest ≡ all
+pub step_on : (before after a rest all : List ℕ) → after ≡ before ++ a → before ++ (a ++ rest) ≡ all
+    → after ++ rest ≡ all
 step_on before after a rest all e so_far = ap (λ l. l ++ rest) e ∙ append_assoc before a rest ∙ so_far
 
-pub mapped_twice : {X Y Z : Type 0} (f : X → Y) (g : Y → Z) (xs : List X) → map g (map f xs) ≡ map (λ x. g (f x)) xs
+pub mapped_twice : {X Y Z : Type 0} (f : X → Y) (g : Y → Z) (xs : List X)
+    → map g (map f xs) ≡ map (λ x. g (f x)) xs
 mapped_twice f g [] = refl
 mapped_twice f g (x ∷ xs) = ap (λ l. g (f x) ∷ l) (mapped_twice f g xs)

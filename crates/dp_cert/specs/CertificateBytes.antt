@@ -28,11 +28,13 @@ manner_bytes c =
 -- the lines of the interval
 abbrev pub interval_bytes : Certificate → List ℕ
 interval_bytes c =
-    signed_bytes (codes "unit ") c.unit ++ (signed_bytes (codes "lower ") c.lower ++ signed_bytes (codes "upper ") c.upper)
+    signed_bytes (codes "unit ") c.unit ++ (signed_bytes (codes "lower ") c.lower
+    ++ signed_bytes (codes "upper ") c.upper)
 
 -- the lines before the policy
 abbrev pub head_bytes : Certificate → List ℕ
-head_bytes c = manner_bytes c ++ (interval_bytes c ++ (plain_bytes (codes "inner ") c.inner ++ codes "policy\n"))
+head_bytes c = manner_bytes c ++ (interval_bytes c ++ (plain_bytes (codes "inner ") c.inner
+    ++ codes "policy\n"))
 
 -- the agents from this one on, each with the lines of its rows
 abbrev pub agents_bytes : (AgentRows → List ℕ) → ℕ → SharedPolicy → List ℕ
@@ -43,7 +45,8 @@ agents_bytes rows agent (stages ∷ others) =
 -- in version 1 the actions of each stage
 abbrev pub actions_bytes : AgentRows → List ℕ
 actions_bytes [] = []
-actions_bytes (rows ∷ stages) = (row_tail true (map (λ (row : PolicyRow). row.action) rows) ++ 10 ∷ []) ++ actions_bytes stages
+actions_bytes (rows ∷ stages) = (row_tail true (map (λ (row : PolicyRow). row.action) rows) ++ 10 ∷ [])
+    ++ actions_bytes stages
 
 -- in version 2 the rows of each stage
 abbrev pub row_bytes : PolicyRow → List ℕ
@@ -59,7 +62,8 @@ stages_bytes (rows ∷ stages) = rows_bytes rows ++ stages_bytes stages
 
 -- how many there are
 abbrev pub counts_bytes : AgentRows → List ℕ
-counts_bytes stages = codes "rows" ++ (row_tail false (map (λ (rows : List PolicyRow). length rows) stages) ++ 10 ∷ [])
+counts_bytes stages = codes "rows" ++ (row_tail false (map (λ (rows : List PolicyRow). length rows) stages)
+    ++ 10 ∷ [])
 
 abbrev pub counted_bytes : AgentRows → List ℕ
 counted_bytes stages = counts_bytes stages ++ stages_bytes stages

@@ -61,7 +61,12 @@ head_grammar = do
   interval ← interval_grammar
   inner ← the_numbers inner_form
   title ← the_words (codes "policy" ∷ [])
-  ends (record { look = first_plain look; is_exact = mode == 0; interval = interval; inner = first_plain inner })
+  ends (record {
+    look = first_plain look;
+    is_exact = mode == 0;
+    interval = interval;
+    inner = first_plain inner;
+  })
 
 -- ---- the tree
 

@@ -6,8 +6,8 @@ use Rattle.dp_model.specs.declared.limit.TooLarge.{TooLarge}
 use Rattle.dp_lines.specs.Grammar.{Fault, IsAnswer}
 use Rattle.dp_cert.specs.CertificateGrammar.{certificate_grammar}
 
--- Bytes are the text of one certificate, or have one first line that is not as required, or pass one limit before such a
--- line, and no two of these.
+-- Bytes are the text of one certificate, or have one first line that is not as required, or pass one limit before
+-- such a line, and no two of these.
 abbrev pub EachCertificateTextHasOneAnswer : Type 0
 EachCertificateTextHasOneAnswer =
     (m : Model) → IsModel m → (bytes : List ℕ) → (r : Result Certificate (Fault TooLarge))

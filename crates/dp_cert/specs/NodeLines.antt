@@ -44,6 +44,7 @@ NodeFails (faults.TooLarge passed) line read = ⊥
 NodeFails faults.Memory line read = Unit {0}
 
 -- A node was read with the line and the bytes after it, or the line is bad, or memory ran out.
-abbrev pub GivesNode : {X : Type 0} → (X → Node × ℕ × List ℕ) → Result X CertFault → ℕ → Result Found FileWhy → Type 0
+abbrev pub GivesNode : {X : Type 0} → (X → Node × ℕ × List ℕ) → Result X CertFault → ℕ → Result Found FileWhy
+    → Type 0
 GivesNode view (Ok x) line read = (read ≡ Ok (found_of (view x).0 (view x).2)) × ((view x).1 ≡ suc line)
 GivesNode view (Err fault) line read = NodeFails fault line read

@@ -37,7 +37,8 @@ abbrev pub Run : Type 0
 Run = ℕ → List ℕ → Result (Rest BoundTree) (Fault TooLarge)
 
 -- what is made of something that is read, and of what is behind it
-abbrev pub given_to : {V : Type 0} → Result (Rest V) (Fault TooLarge) → (V → Run) → Result (Rest BoundTree) (Fault TooLarge)
+abbrev pub given_to : {V : Type 0} → Result (Rest V) (Fault TooLarge) → (V → Run)
+    → Result (Rest BoundTree) (Fault TooLarge)
 given_to (Ok rest) K = K rest.value rest.line rest.bytes
 given_to (Err fault) K = Err fault
 
@@ -82,8 +83,10 @@ IsDeep faults.Memory count = Unit {0}
 
 -- what is to be read is what the open nodes are now, or the tree is finished
 abbrev pub IsOpenAt : Run → List Frame → Option Tree → Type 0
-IsOpenAt run frames (Some t) = (line : ℕ) (bytes : List ℕ) → run line bytes ≡ Ok (rest_at (bound_tree t) line bytes)
-IsOpenAt run frames None = (line : ℕ) (bytes : List ℕ) → run line bytes ≡ opened (left_below frames) frames line bytes
+IsOpenAt run frames (Some t) = (line : ℕ) (bytes : List ℕ) → run line bytes
+    ≡ Ok (rest_at (bound_tree t) line bytes)
+IsOpenAt run frames None = (line : ℕ) (bytes : List ℕ) → run line bytes
+    ≡ opened (left_below frames) frames line bytes
 
 -- a node is put below open nodes
 abbrev pub Places : Node → List Frame → List Frame → Result (Option Tree) CertFault → Type 0
@@ -112,4 +115,5 @@ IsGiven frame t (given.Waits node) =
 -- a branch with these children is whole, or waits for more
 abbrev pub IsBranchWith : ℕ → ℕ → List BoundTree → ℕ → Given → Type 0
 IsBranchWith i c kids left (given.Whole whole) = (left ≡ 0) × (bound_tree whole ≡ branch i c (bound_trees kids))
-IsBranchWith i c kids left (given.Waits node) = (more : ℕ) × (left ≡ suc more) × (frame_of node ≡ branch_frame i c kids more)
+IsBranchWith i c kids left (given.Waits node) = (more : ℕ) × (left ≡ suc more)
+    × (frame_of node ≡ branch_frame i c kids more)

@@ -79,11 +79,13 @@ first_of_counts (count ∷ counts) = count
 abbrev pub shared_stages : ℕ → ℕ → List ℕ → Text AgentRows
 shared_stages b n [] = ends []
 shared_stages b n (count ∷ counts) =
-    and_then (rows_of_form (shared_row_form b (nexts_before n counts) (first_of_counts counts)) count) (shared_stages b n counts)
+    and_then (rows_of_form (shared_row_form b (nexts_before n counts) (first_of_counts counts)) count)
+    (shared_stages b n counts)
 
 -- the limit that the cells of the stages pass: the first of them that is too large
 unfoldable pub cells_passed : List ℕ → Option TooLarge
-cells_passed cells = option_map (λ count. record { what = PolicyCells; count = count }) (first_past (2 ^ 22) cells)
+cells_passed cells = option_map (λ count. record { what = PolicyCells; count = count })
+    (first_past (2 ^ 22) cells)
 
 -- The counts of an agent behind others whose joint rows make these cells at the stages, of h stages.
 abbrev pub counts_grammar : ℕ → ℕ → List ℕ → Text (List ℕ)

@@ -141,7 +141,8 @@ fn push_actions(text: &mut Vec<u8>, stages: &[Vec<Row>]) -> Result<(), Memory>
 
 // The actions of rows on one line.
 fn push_action_line(text: &mut Vec<u8>, rows: &[Row]) -> Result<(), Memory>
-    ensures { OnOk result (text.new.items ≡ text.old.items ++ (row_tail true (map (λ r. r.action) rows.now) ++ 10 ∷ [])) }
+    ensures { OnOk result (text.new.items
+        ≡ text.old.items ++ (row_tail true (map (λ r. r.action) rows.now) ++ 10 ∷ [])) }
 {
     let mut first = true;
     for row in rows {

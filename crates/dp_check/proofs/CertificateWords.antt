@@ -86,7 +86,8 @@ from_max x lower cap above le = omega (arith, ints, clamps)
 -- ---- the certificate
 
 module _ (m : Model) (c : Certificate) (small : HasSmallBranches c.tree) (new : Tally)
-    (e : walked (arithmetic_for m c) m c.horizon (certificate_nodes m c) (nothing_counted c.is_exact) ≡ passed new)
+    (e : walked (arithmetic_for m c) m c.horizon (certificate_nodes m c) (nothing_counted c.is_exact)
+    ≡ passed new)
   where
     abbrev A : Arithmetic
     A = arithmetic_for m c
@@ -130,7 +131,8 @@ module _ (m : Model) (c : Certificate) (small : HasSmallBranches c.tree) (new : 
       λ p. subst (λ o. AtMost o z) (sym greatest_is) (leaves_to z c.tree small p),
     )
 
-    pub closed_is : (AtMost new.not_full c.lower × (c.is_exact ≡ true → AtMost new.greatest c.lower)) ↔ IsClosed m c
+    pub closed_is : (AtMost new.not_full c.lower × (c.is_exact ≡ true → AtMost new.greatest c.lower))
+        ↔ IsClosed m c
     closed_is = (
       λ p. record {
         open_leaves = (not_full_is c.lower).0 p.0;
@@ -154,7 +156,8 @@ module _ (m : Model) (c : Certificate) (small : HasSmallBranches c.tree) (new : 
                 exact = parts.0;
                 branches = all_weaker (λ n. IfBranch n.tree (λ i k. IsMergedAt A m c.horizon n))
                     (λ n. IfBranch n.tree (λ i k. HasNoEquivalent m n.front)) nodes
-                    (λ n. branch_weaker n.tree (IsMergedAt A m c.horizon n) (HasNoEquivalent m n.front) (λ q. q.1))
+                    (λ n. branch_weaker n.tree (IsMergedAt A m c.horizon n) (HasNoEquivalent m n.front)
+                    (λ q. q.1))
                     parts.1;
               },
           λ merged. sym (ap (λ (t : Tally). t.merged) after) ∙ both.1 (
@@ -176,7 +179,8 @@ module _ (m : Model) (c : Certificate) (small : HasSmallBranches c.tree) (new : 
         → All (LeanAt n) nodes
     lean_below n z most fine =
         all_weaker (λ k. IfNarrowLeaf m c.horizon k (λ x. x ≤ℤ z)) (LeanAt n) nodes
-        (λ k. narrow_weaker m c.horizon k (λ x. x ≤ℤ z) (λ x. c.lower <ℤ x → x ≤ℤ n.cap) fine) ((narrow_is z).0 most)
+        (λ k. narrow_weaker m c.horizon k (λ x. x ≤ℤ z) (λ x. c.lower <ℤ x → x ≤ℤ n.cap) fine)
+        ((narrow_is z).0 most)
 
     not_both : (x lower cap : ℤ) → x ≤ℤ lower → lower <ℤ x → x ≤ℤ cap
     not_both x lower cap le above = absurd (omega (arith, ints))

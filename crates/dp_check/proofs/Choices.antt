@@ -1,4 +1,5 @@
--- The actions that are chosen for the classes of a joint class, agent by agent, and the joint actions that agree with them.
+-- The actions that are chosen for the classes of a joint class, agent by agent, and the joint actions that agree
+-- with them.
 use Rattle.std.proofs.Common.{◌≡◌, ℕ, zero, suc, ◌+◌, ◌*◌, ◌/◌, ◌%◌, ◌^◌, ◌<◌, ◌≤◌, Bool, true, false, cond, ℤ, pos, List, [], ◌∷◌, length, get_or, set, drop, filter, add-one, Option, Some, None, refl, sym, ap, ◌∙◌, subst, arith, inl, inr}
 use Rattle.std.specs.Prelude.{◌&&◌, unwrap_or}
 use Rattle.std.specs.Int.{int_max}
@@ -18,8 +19,8 @@ use Rattle.dp_cluster.proofs.FrontParts.{count_read}
 use Rattle.dp_cluster.proofs.Pairs.{divided, most}
 use Rattle.dp_check.specs.Bounding.{with_greater}
 
--- After i agents: how many joint classes are left to tell apart, what is left of joint class C, and the choices that are
--- read.
+-- After i agents: how many joint classes are left to tell apart, what is left of joint class C, and the choices that
+-- are read.
 pub record IsReading (ds : List AgentFront) (C i left rest : ℕ) (choices : List (Option ℕ)) : Type 0 where
   pub left_is : left ≡ product (class_counts (drop i ds))
   pub below : rest < left
@@ -27,7 +28,8 @@ pub record IsReading (ds : List AgentFront) (C i left rest : ℕ) (choices : Lis
   pub parts : (j : ℕ) → get_or (parts_of (class_counts ds) C) (i + j) 0
       ≡ get_or (parts_of (class_counts (drop i ds)) rest) j 0
   pub long : length choices ≡ 6
-  pub read : (j : ℕ) → j < i → get_or choices j None ≡ choice_at ds j (get_or (parts_of (class_counts ds) C) j 0)
+  pub read : (j : ℕ) → j < i → get_or choices j None ≡ choice_at ds j
+      (get_or (parts_of (class_counts ds) C) j 0)
 
 pub reading_starts : (ds : List AgentFront) (C left : ℕ) (choices : List (Option ℕ))
     → left ≡ product (class_counts ds) → left ≤ 2 ^ 22
@@ -45,7 +47,8 @@ reading_starts ds C left choices is few lt long = record {
     plain j = omega arith
 
 module _ (ds : List AgentFront) (C i left rest k : ℕ) (choices : List (Option ℕ)) (lt : i < length ds)
-    (most_agents : length ds ≤ 6) (ek : k ≡ get_or (class_counts ds) i 0) (u : IsReading ds C i left rest choices)
+    (most_agents : length ds ≤ 6) (ek : k ≡ get_or (class_counts ds) i 0)
+    (u : IsReading ds C i left rest choices)
   where
     abbrev d : AgentFront
     d = get_or ds i root_agent
@@ -66,7 +69,8 @@ module _ (ds : List AgentFront) (C i left rest k : ℕ) (choices : List (Option 
     some = let below = u.below in let e = split in let all : 0 < k * P = omega arith in positive_left k P 0 all
 
     some_left : 0 < P
-    some_left = let below = u.below in let e = split in let all : 0 < k * P = omega arith in positive_right k P 0 all
+    some_left = let below = u.below in let e = split in let all : 0 < k * P = omega arith in
+        positive_right k P 0 all
 
     after : left / k ≡ P
     after = divided k P left some split
@@ -138,7 +142,8 @@ pub agree_next : (ds : List AgentFront) (cs as' : List ℕ) (i : ℕ) (o : Optio
 agree_next ds cs as' i o a lt p q eo ea holds =
     let one = add-one i in
     let now = sym (ap (λ z. agrees z (get_or as' i 0)) eo) ∙ sym (ap (agrees o) ea) ∙ holds in
-    agree_step ds cs as' i lt p q ∙ ap (λ b. b && all_agree (drop (suc i) ds) (drop (suc i) cs) (drop (suc i) as'))
+    agree_step ds cs as' i lt p q ∙ ap (λ b. b && all_agree (drop (suc i) ds) (drop (suc i) cs)
+    (drop (suc i) as'))
     now
     ∙ ap (λ z. all_agree (drop z ds) (drop z cs) (drop z as')) (sym one)
 
@@ -179,7 +184,8 @@ best_is_greatest f [] = refl
 best_is_greatest f (x ∷ []) = refl
 best_is_greatest f (x ∷ (y ∷ ys)) = greatest_with f (f x) y ys (best_in f ys) (best_is_greatest f (y ∷ ys))
 
-best_if : (f : ℕ → ℤ) (x : ℕ) (xs : List ℕ) (t : Bool) → cond t (with_greater (best_in f xs) (f x)) (best_in f xs)
+best_if : (f : ℕ → ℤ) (x : ℕ) (xs : List ℕ) (t : Bool) → cond t (with_greater (best_in f xs) (f x))
+    (best_in f xs)
     ≡ best_in f (cond t (x ∷ xs) xs)
 best_if f x xs true = refl
 best_if f x xs false = refl

@@ -206,7 +206,8 @@ unequal_first m k i a c p fault e holds = (subst (IsMergeFault m k i a c) e hold
 
 pub merge_refused : (m : Model) (b : Bounds) (n : Node) (i a c : ℕ) (k : BoundTree) (t : Tally)
     → may_merge (arithmetic_of m b) m b.fit.horizon (node_with (merge i a c k) n) i a c ≡ true
-    → (fault : MergeFault) (r : verdicts.Reason) → IsMergeFault m n.front i a c fault → NamesPlace t.nodes fault r
+    → (fault : MergeFault) (r : verdicts.Reason) → IsMergeFault m n.front i a c fault
+    → NamesPlace t.nodes fault r
     → entered (arithmetic_of m b) m b.fit.horizon (node_with (merge i a c k) n) t ≡ stopped (reason_of r)
 merge_refused m b n i a c k t may fault r holds names =
     merge_differs (arithmetic_of m b) m b.fit.horizon n i a c k t names.0 may

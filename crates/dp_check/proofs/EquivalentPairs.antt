@@ -62,14 +62,16 @@ module _ (m : Model) (F : Front) where
   pub no_pair_decides : (i : ℕ) → Decides (has_no_pair m F i) (HasNoPair m F i)
   no_pair_decides i =
       Decides-like (has_no_pair m F i)
-      (λ none c d lt first second alike. none d (unassigned_in F.agents i d second).1 c lt (first, (second, alike)))
+      (λ none c d lt first second alike. none d (unassigned_in F.agents i d second).1 c lt
+      (first, (second, alike)))
       (λ none d inside c lt pair. none c d lt pair.0 pair.1.0 pair.1.1)
       (none_among i (get_or (class_counts F.agents) i 0))
 
   pub no_pairs_decide : Decides (has_no_pairs m F) (HasNoEquivalent m F)
   no_pairs_decide =
       Decides-like (has_no_pairs m F)
-      (λ none i c d lt first second alike. none i (unassigned_in F.agents i c first).0 c d lt first second alike)
+      (λ none i c d lt first second alike. none i (unassigned_in F.agents i c first).0 c d lt first second
+      alike)
       (λ none i inside. none i)
       (Decides-below_and (has_no_pair m F) (HasNoPair m F) (below_all (has_no_pair m F)) no_pair_decides refl
       (λ n. refl) (length F.agents))

@@ -97,7 +97,8 @@ module _ (m : Model) (b : Bounds) (with : IsBounding m b) (k : KeptFront) (is : 
 
     pub best_is : (C : ℕ) (row : List ℤ) (looks : List ℤ) → C < product (class_counts F.agents)
         → AreLookAheads m b F looks
-        → ((a : ℕ) → a < joint_actions m → get_or row a (pos 0) ≡ get_or looks (C * joint_actions m + a) (pos 0))
+        → ((a : ℕ) → a < joint_actions m → get_or row a (pos 0)
+        ≡ get_or looks (C * joint_actions m + a) (pos 0))
         → greatest (λ a. get_or row a (pos 0)) (agreeing_actions m F C) ≡ best C
     best_is C row looks p rows are =
         greatest_ext _ _ (agreeing_actions m F C) (λ a i.
@@ -144,7 +145,8 @@ module _ (m : Model) (b : Bounds) (with : IsBounding m b) (k : KeptFront) (is : 
         let last = row_end C (product (class_counts F.agents)) width p in
         let long = looks_long looks rows in rw (long, ← e) last
 
-    pub added : (looks : List ℤ) → AreLookAheads m b F looks → (C width : ℕ) (row : List ℤ) → width ≡ joint_actions m
+    pub added : (looks : List ℤ) → AreLookAheads m b F looks → (C width : ℕ) (row : List ℤ)
+        → width ≡ joint_actions m
         → C < product (class_counts F.agents)
         → ((a : ℕ) → a < width → get_or row a (pos 0) ≡ get_or looks (C * width + a) (pos 0))
         → greatest (λ a. get_or row a (pos 0)) (agreeing_actions m F C) ≡ best C

@@ -49,7 +49,8 @@ module _ (A : Arithmetic) (m : Model) (h : ℕ) where
       ∙ walk_stops ns (counted A m h n n.tree t) rest r later)
 
   -- a walk that passes leaves the reasons after those at nodes
-  pub walk_passes : (ns : List Node) (t new : Tally) (rest : List (Option Reason)) → walked A m h ns t ≡ passed new
+  pub walk_passes : (ns : List Node) (t new : Tally) (rest : List (Option Reason))
+      → walked A m h ns t ≡ passed new
       → first_of (node_reasons A m h t.nodes ns ++ rest) ≡ first_of rest
   walk_passes [] t new rest e = refl
   walk_passes (n ∷ ns) t new rest e =
@@ -92,9 +93,11 @@ module _ (m : Model) (c : Certificate) (mode : c.is_exact ≡ is_exact_mode m c.
       ∙ walk_stops (arithmetic_for m c) m c.horizon (certificate_nodes m c) t last_reasons r e)
 
   -- where it passes
-  pub reason_after : (t new : Tally) (o : Option Reason) (inner : ℕ) (upper : ℤ) → t ≡ nothing_counted c.is_exact
+  pub reason_after : (t new : Tally) (o : Option Reason) (inner : ℕ) (upper : ℤ)
+      → t ≡ nothing_counted c.is_exact
       → walked (arithmetic_for m c) m c.horizon (certificate_nodes m c) t ≡ passed new
-      → inner ≡ inner_count c.tree → upper ≡ greatest_leaf c.tree → o ≡ last_of c inner upper → o ≡ first_reason m c
+      → inner ≡ inner_count c.tree → upper ≡ greatest_leaf c.tree → o ≡ last_of c inner upper
+      → o ≡ first_reason m c
   reason_after t new o inner upper none e same_inner same_upper is =
       is ∙ (λ j. last_of c (same_inner j) (same_upper j))
       ∙ ap (option_or (unless (eqb c.inner (inner_count c.tree)) (inner_is (inner_count c.tree))))

@@ -25,7 +25,8 @@ rows_length Q S (suc n) = omega (
 )
 
 -- the number of a row and a place
-pub rows_at : (Q : ℕ → ℕ → ℤ) (S n C a : ℕ) (d : ℤ) → C < n → a < S → get_or (rows_of Q S n) (C * S + a) d ≡ Q C a
+pub rows_at : (Q : ℕ → ℕ → ℤ) (S n C a : ℕ) (d : ℤ) → C < n → a < S
+    → get_or (rows_of Q S n) (C * S + a) d ≡ Q C a
 rows_at Q S zero C a d hC hs = absurd (omega arith)
 rows_at Q S (suc n) C a d hC hs =
     let long = rows_length Q S n in

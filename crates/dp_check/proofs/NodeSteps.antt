@@ -103,10 +103,12 @@ module _ (m : Model) (b : Bounds) (with : IsBounding m b) (n : Node) (is : IsNod
   }
 
   -- where it is not
-  pub chosen_is : (t : Bool) → t ≡ is_complete k.front.agents → t ≡ false → k.front ≡ front_after_choice m F i c a
+  pub chosen_is : (t : Bool) → t ≡ is_complete k.front.agents → t ≡ false
+      → k.front ≡ front_after_choice m F i c a
   chosen_is t e fails = front_is ∙ sym (after_incomplete m F i c a (complete_is t e ∙ fails))
 
-  pub chosen_with_room : (t : Bool) → t ≡ is_complete k.front.agents → t ≡ false → IsFrontOf m k → IsWithRoom m b k
+  pub chosen_with_room : (t : Bool) → t ≡ is_complete k.front.agents → t ≡ false → IsFrontOf m k
+      → IsWithRoom m b k
   chosen_with_room t e fails of_model = record {
     of_model = of_model;
     horizon = horizon_is;

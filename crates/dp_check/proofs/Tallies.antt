@@ -108,7 +108,8 @@ module _ (A : Arithmetic) (m : Model) (h : ℕ) where
   greatest_after (n ∷ ns) t = greatest_after ns (counted A m h n n.tree t)
       ∙ ap (greatest_in ns) (greatest_counted n n.tree t)
 
-  greatest_append : (xs ys : List Node) (o : Option ℤ) → greatest_in (xs ++ ys) o ≡ greatest_in ys (greatest_in xs o)
+  greatest_append : (xs ys : List Node) (o : Option ℤ) → greatest_in (xs ++ ys) o
+      ≡ greatest_in ys (greatest_in xs o)
   greatest_append [] ys o = refl
   greatest_append (x ∷ xs) ys o = greatest_append xs ys (with_leaf_of x.tree o)
 
@@ -134,7 +135,8 @@ module _ (A : Arithmetic) (m : Model) (h : ℕ) where
 
     greatest_choices : (look above : ℕ) (ks : BoundTrees) (F : Front) (i c a : ℕ) (cap : ℤ) (o : Option ℤ)
         → 1 ≤ child_count ks → HaveSmallBranches ks
-        → greatest_in (nodes_of_choices A m h look above ks F i c a cap) o ≡ with_greater o (greatest_leaf_of ks)
+        → greatest_in (nodes_of_choices A m h look above ks F i c a cap) o
+        ≡ with_greater o (greatest_leaf_of ks)
     greatest_choices look above no_bound_trees F i c a cap o some small = absurd (omega arith)
     greatest_choices look above (more_bound_trees k no_bound_trees) F i c a cap o some small =
         greatest_append (nodes_of A m h look above k (front_after_choice m F i c a)
@@ -148,11 +150,13 @@ module _ (A : Arithmetic) (m : Model) (h : ℕ) where
         (more_bound_trees k' ks) F i c (suc a) cap) o
         ∙ ap (greatest_in (nodes_of_choices A m h look above (more_bound_trees k' ks) F i c (suc a) cap))
         (greatest_nodes look above k G low o small.0)
-        ∙ greatest_choices look above (more_bound_trees k' ks) F i c (suc a) cap (with_greater o (greatest_leaf k))
+        ∙ greatest_choices look above (more_bound_trees k' ks) F i c (suc a) cap
+        (with_greater o (greatest_leaf k))
         (omega arith) small.1
         ∙ greater_both o (greatest_leaf k) (greatest_leaf_of (more_bound_trees k' ks))
 
-  pub greatest_is_leaf : (look above : ℕ) (T : BoundTree) (F : Front) (cap : ℤ) (t new : Tally) → t.greatest ≡ None
+  pub greatest_is_leaf : (look above : ℕ) (T : BoundTree) (F : Front) (cap : ℤ) (t new : Tally)
+      → t.greatest ≡ None
       → HasSmallBranches T
       → walked A m h (nodes_of A m h look above T F cap) t ≡ passed new → new.greatest ≡ Some (greatest_leaf T)
   greatest_is_leaf look above T F cap t new none small e =

@@ -44,7 +44,8 @@ module _ (A : Arithmetic) (m : Model) (h : ℕ) where
   -- one node first
   pub walked_first : (n : qualities.Node) (ns : List qualities.Node) (t : Tally)
       → walked A m h (n ∷ ns) t ≡ and_then (entered A m h n t) (walked A m h ns)
-  walked_first n ns t = one_first (tree_reason A m h t.nodes n n.tree) (walked A m h ns (counted A m h n n.tree t))
+  walked_first n ns t = one_first (tree_reason A m h t.nodes n n.tree)
+      (walked A m h ns (counted A m h n n.tree t))
       (counted A m h n n.tree t) (walked A m h ns) refl
 
   -- ---- how many are counted
@@ -70,7 +71,8 @@ module _ (A : Arithmetic) (m : Model) (h : ℕ) where
       tally_of (stopped r) s = s
       tally_of (passed t) s = t
 
-  pub passed_counts : (ns : List qualities.Node) (t new : Tally) → walked A m h ns t ≡ passed new → t.inner ≤ t.nodes
+  pub passed_counts : (ns : List qualities.Node) (t new : Tally) → walked A m h ns t ≡ passed new
+      → t.inner ≤ t.nodes
       → (new.nodes ≡ t.nodes + length ns) × (new.inner ≤ new.nodes)
   passed_counts [] t new e le =
       let same = same_tally t new e in (
@@ -81,7 +83,8 @@ module _ (A : Arithmetic) (m : Model) (h : ℕ) where
       let now = counted A m h n n.tree t in
       let nodes = counted_nodes n n.tree t in
       let inner = counted_inner n n.tree t in
-      let later = passed_counts ns now new (passed_part (tree_reason A m h t.nodes n n.tree) (walked A m h ns now)
+      let later = passed_counts ns now new (passed_part (tree_reason A m h t.nodes n n.tree)
+      (walked A m h ns now)
       new e) (omega arith) in
       ((let first = later.0 in omega arith), later.1)
 
@@ -114,7 +117,8 @@ module _ (m : Model) (b : Bounds) (n : Node) where
   pub nodes_below : (T : BoundTree) (F : Front) (child : Node) → IsBelow m b n F child
       → nodes_at m b T child ≡ nodes_of (arithmetic_of m b) m b.fit.horizon b.look (suc n.above) T F
       (int_min n.cap (front_bound (arithmetic_of m b) m b.fit.horizon b.look F))
-  nodes_below T F child is = λ j. nodes_of (arithmetic_of m b) m b.fit.horizon b.look (is.above j) T (is.front j)
+  nodes_below T F child is = λ j. nodes_of (arithmetic_of m b) m b.fit.horizon b.look (is.above j) T
+      (is.front j)
       (is.cap j)
 
   -- the nodes below a branch, from the child of action a on
@@ -150,10 +154,12 @@ child_nodes (y ∷ xs) (suc a) x lt e = let rest = child_nodes xs a x (omega ari
 pub child_smaller : (T : BoundTree) (i c : ℕ) (xs : List Tree) (a : ℕ) (x : Tree)
     → T ≡ branch i c (bound_trees (map bound_tree xs))
     → a < length xs → x ≡ get_or xs a x → node_count (bound_tree x) < node_count T
-child_smaller T i c xs a x is lt e = let all = ap node_count is in let few = child_nodes xs a x lt e in omega arith
+child_smaller T i c xs a x is lt e = let all = ap node_count is in let few = child_nodes xs a x lt e in
+    omega arith
 
 -- the child of a merge has fewer than the merge
-pub merged_smaller : (T : BoundTree) (i a c : ℕ) (k : BoundTree) → T ≡ merge i a c k → node_count k < node_count T
+pub merged_smaller : (T : BoundTree) (i a c : ℕ) (k : BoundTree) → T ≡ merge i a c k
+    → node_count k < node_count T
 merged_smaller T i a c k is = let all = ap node_count is in omega arith
 
 -- ---- a branch, child after child
@@ -202,12 +208,14 @@ module _ (m : Model) (b : Bounds) (n : Node) (i c a : ℕ) (T : BoundTree) (Ts l
   child_first = so_far ∙ ap (λ l. walked (arithmetic_of m b) m b.fit.horizon (choices_from m b n i c a l) s) is
       ∙ walked_child m b n i c a T Ts child s below
 
-  pub child_stops : (r : Reason) → walked (arithmetic_of m b) m b.fit.horizon (nodes_at m b T child) s ≡ stopped r
+  pub child_stops : (r : Reason) → walked (arithmetic_of m b) m b.fit.horizon (nodes_at m b T child) s
+      ≡ stopped r
       → whole ≡ stopped r
   child_stops r e = child_first ∙ ap (λ v. and_then v (walked (arithmetic_of m b) m b.fit.horizon
       (choices_from m b n i c (suc a) Ts))) e
 
-  pub child_passes : (new : Tally) → walked (arithmetic_of m b) m b.fit.horizon (nodes_at m b T child) s ≡ passed new
+  pub child_passes : (new : Tally) → walked (arithmetic_of m b) m b.fit.horizon (nodes_at m b T child) s
+      ≡ passed new
       → whole ≡ walked (arithmetic_of m b) m b.fit.horizon (choices_from m b n i c (suc a) Ts) new
   child_passes new e = child_first ∙ ap (λ v. and_then v (walked (arithmetic_of m b) m b.fit.horizon
       (choices_from m b n i c (suc a) Ts))) e
@@ -215,26 +223,31 @@ module _ (m : Model) (b : Bounds) (n : Node) (i c a : ℕ) (T : BoundTree) (Ts l
   pub child_room : s.nodes + node_counts (bound_trees left) ≤ 2 ^ 28 → s.nodes + node_count T ≤ 2 ^ 28
   child_room room = let size = ap (λ l. node_counts (bound_trees l)) is in omega arith
 
-  pub room_left : (new : Tally) → walked (arithmetic_of m b) m b.fit.horizon (nodes_at m b T child) s ≡ passed new
+  pub room_left : (new : Tally) → walked (arithmetic_of m b) m b.fit.horizon (nodes_at m b T child) s
+      ≡ passed new
       → s.inner ≤ s.nodes
       → s.nodes + node_counts (bound_trees left) ≤ 2 ^ 28 → (new.nodes + node_counts (bound_trees Ts) ≤ 2 ^ 28)
       × (new.inner ≤ new.nodes)
   room_left new e le room =
       let counts = passed_counts (arithmetic_of m b) m b.fit.horizon (nodes_at m b T child) s new e le in
       let size = ap (λ l. node_counts (bound_trees l)) is in
-      let long = nodes_length (arithmetic_of m b) m b.fit.horizon b.look child.above T child.front.front child.cap in
+      let long = nodes_length (arithmetic_of m b) m b.fit.horizon b.look child.above T child.front.front
+      child.cap in
       let first = counts.0 in
       (omega arith, counts.1)
 
 -- ---- a merge
 
-module _ (m : Model) (b : Bounds) (n : Node) (i a c : ℕ) (k T : BoundTree) (is : T ≡ merge i a c k) (t : Tally) where
+module _ (m : Model) (b : Bounds) (n : Node) (i a c : ℕ) (k T : BoundTree) (is : T ≡ merge i a c k)
+    (t : Tally) where
   abbrev all : Walked
   all = walked (arithmetic_of m b) m b.fit.horizon (nodes_at m b T n) t
 
   abbrev below_nodes : List qualities.Node
-  below_nodes = nodes_of (arithmetic_of m b) m b.fit.horizon b.look (suc n.above) k (merged_front n.front.front i a c)
-      (int_min n.cap (front_bound (arithmetic_of m b) m b.fit.horizon b.look (merged_front n.front.front i a c)))
+  below_nodes = nodes_of (arithmetic_of m b) m b.fit.horizon b.look (suc n.above) k
+      (merged_front n.front.front i a c)
+      (int_min n.cap (front_bound (arithmetic_of m b) m b.fit.horizon b.look
+      (merged_front n.front.front i a c)))
 
   merge_first : all ≡ and_then (entered (arithmetic_of m b) m b.fit.horizon (node_with (merge i a c k) n) t)
       (walked (arithmetic_of m b) m b.fit.horizon below_nodes)
@@ -244,7 +257,8 @@ module _ (m : Model) (b : Bounds) (n : Node) (i a c : ℕ) (k T : BoundTree) (is
 
   pub merge_stops : (r : Reason) → entered (arithmetic_of m b) m b.fit.horizon (node_with (merge i a c k) n) t
       ≡ stopped r → all ≡ stopped r
-  merge_stops r e = merge_first ∙ ap (λ v. and_then v (walked (arithmetic_of m b) m b.fit.horizon below_nodes)) e
+  merge_stops r e = merge_first ∙ ap (λ v. and_then v (walked (arithmetic_of m b)
+      m b.fit.horizon below_nodes)) e
 
   pub merge_goes_on : (new : Tally) (child : Node) → entered (arithmetic_of m b) m b.fit.horizon
       (node_with (merge i a c k) n) t ≡ passed new
@@ -259,7 +273,8 @@ module _ (m : Model) (b : Bounds) (n : Node) (i a c : ℕ) (k T : BoundTree) (is
       ≡ passed new → t.inner ≤ t.nodes
       → t.nodes + node_count T ≤ 2 ^ 28 → (new.nodes + node_count k ≤ 2 ^ 28) × (new.inner ≤ new.nodes)
   merge_room new e le room =
-      let counts = passed_counts (arithmetic_of m b) m b.fit.horizon (node_with (merge i a c k) n ∷ []) t new e le in
+      let counts = passed_counts (arithmetic_of m b) m b.fit.horizon (node_with (merge i a c k) n ∷ [])
+      t new e le in
       let first = counts.0 in
       let size = ap node_count is in
       (omega arith, counts.1)

@@ -18,12 +18,14 @@ drop_all (x ∷ xs) (suc i) le = drop_all xs i (omega arith)
 
 -- ---- the classes of an agent
 
-one_more : (o : Option ℕ) (os : List (Option ℕ)) (k total : ℕ) → k + none_count (o ∷ os) ≡ total → is_none o ≡ true
+one_more : (o : Option ℕ) (os : List (Option ℕ)) (k total : ℕ) → k + none_count (o ∷ os) ≡ total
+    → is_none o ≡ true
     → k + 1 + none_count os ≡ total
 one_more None os k total e some = omega arith
 one_more (Some a) os k total e some = absurd (let no' : false ≡ true = some in cc)
 
-no_more : (o : Option ℕ) (os : List (Option ℕ)) (k total : ℕ) → k + none_count (o ∷ os) ≡ total → is_none o ≡ false
+no_more : (o : Option ℕ) (os : List (Option ℕ)) (k total : ℕ) → k + none_count (o ∷ os) ≡ total
+    → is_none o ≡ false
     → k + none_count os ≡ total
 no_more None os k total e none = absurd (let no' : true ≡ false = none in cc)
 no_more (Some a) os k total e none = e
@@ -46,7 +48,8 @@ counted_none os c k total lt none e =
 
 pub counted_all : (os : List (Option ℕ)) (c k total : ℕ) → length os ≤ c → k + none_count (drop c os) ≡ total
     → k ≡ total
-counted_all os c k total le e = let all = ap none_count (drop_all os c le) in let last = ap (λ z. k + z) (sym all)
+counted_all os c k total le e = let all = ap none_count (drop_all os c le) in
+    let last = ap (λ z. k + z) (sym all)
     ∙ e in omega arith
 
 -- ---- the agents
@@ -79,7 +82,8 @@ unassigned_at (d ∷ ds) (suc i) c lt = unassigned_at ds i c (omega arith)
 -- ---- whether a node is wide
 
 -- with 2048 branches and merges above it a node is wide, where a step is left
-pub wide_below : (m : Model) (h above : ℕ) (F : Front) → F.stage < h → is_wide m h above F ≡ false → above < 2048
+pub wide_below : (m : Model) (h above : ℕ) (F : Front) → F.stage < h → is_wide m h above F ≡ false
+    → above < 2048
 unfolding is_wide
 wide_below m h above F lt narrow = grind (arith, nat_tests)
 
@@ -123,7 +127,8 @@ classes_read (d ∷ ds) zero lt = refl
 classes_read (d ∷ ds) (suc i) lt = classes_read ds i (omega arith)
 
 -- whether a class that was read has no action
-pub read_none : (ds : List AgentFront) (i c : ℕ) (o : Option ℕ) (t : Bool) → i < length ds → o ≡ choice_at ds i c
+pub read_none : (ds : List AgentFront) (i c : ℕ) (o : Option ℕ) (t : Bool) → i < length ds
+    → o ≡ choice_at ds i c
     → is_some o ≡ not t
     → is_none (get_or (get_or ds i root_agent).chosen c None) ≡ t
 read_none ds i c o t lt e test = sym (none_test o t test ∙ ap is_none (e ∙ chosen_read ds i c lt))

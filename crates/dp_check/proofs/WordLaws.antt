@@ -35,11 +35,19 @@ min_of_both x y z p q = omega (arith, ints, clamps)
 -- with one number more the greatest is at most z where both are
 pub at_most_with : (o : Option ℤ) (x z : ℤ) → AtMost (with_greater o x) z ↔ (AtMost o z × (x ≤ℤ z))
 at_most_with None x z = (λ h. (tt, h), λ p. p.1)
-at_most_with (Some y) x z = (λ h. let both = max_parts x y z h in (both.1, both.0), λ p. max_of_both x y z p.1 p.0)
+at_most_with (Some y) x z = (
+  λ h. let both = max_parts x y z h in
+      (both.1, both.0),
+  λ p. max_of_both x y z p.1 p.0,
+)
 
 pub at_least_with : (o : Option ℤ) (x z : ℤ) → AtLeast (with_lesser o x) z ↔ (AtLeast o z × (z ≤ℤ x))
 at_least_with None x z = (λ h. (tt, h), λ p. p.1)
-at_least_with (Some y) x z = (λ h. let both = min_parts x y z h in (both.1, both.0), λ p. min_of_both x y z p.1 p.0)
+at_least_with (Some y) x z = (
+  λ h. let both = min_parts x y z h in
+      (both.1, both.0),
+  λ p. min_of_both x y z p.1 p.0,
+)
 
 -- where it counts by a test
 at_most_if : {Q : Type 0} (t : Bool) → Decides t Q → (o : Option ℤ) (x z : ℤ)
@@ -65,7 +73,8 @@ kept P n ns X Y Z here later = (
 
 module _ (A : Arithmetic) (m : Model) (h : ℕ) where
   one_not_full : (n : Node) (T : BoundTree) (t : Tally) (z : ℤ)
-      → AtMost (counted A m h n T t).not_full z ↔ (AtMost t.not_full z × IfLeaf T (λ x. n.front.stage < h → x ≤ℤ z))
+      → AtMost (counted A m h n T t).not_full z ↔ (AtMost t.not_full z
+      × IfLeaf T (λ x. n.front.stage < h → x ≤ℤ z))
   one_not_full n (leaf x) t z = at_most_if (nat_lt n.front.stage h) (Decides-ltb n.front.stage h) t.not_full x z
   one_not_full n (branch i c ks) t z = (λ p. (p, tt), λ p. p.0)
   one_not_full n (merge i a b k) t z = (λ p. (p, tt), λ p. p.0)
@@ -110,7 +119,8 @@ module _ (A : Arithmetic) (m : Model) (h : ℕ) where
       (AtLeast t.least z × All (λ n. IfInner n.tree (z ≤ℤ n.cap)) ns)
   least_after [] t z = (λ p. (p, All-nil (λ n. IfInner n.tree (z ≤ℤ n.cap))), λ p. p.0)
   least_after (n ∷ ns) t z =
-      kept (λ n. IfInner n.tree (z ≤ℤ n.cap)) n ns (AtLeast t.least z) (AtLeast (counted A m h n n.tree t).least z)
+      kept (λ n. IfInner n.tree (z ≤ℤ n.cap)) n ns (AtLeast t.least z)
+      (AtLeast (counted A m h n n.tree t).least z)
       (AtLeast (tally_after A m h (n ∷ ns) t).least z)
       (one_least n n.tree t z) (least_after ns (counted A m h n n.tree t) z)
 
@@ -145,7 +155,8 @@ mutual
   leaves_from u (branch i c ks) le small = all_leaves_from u ks le small.2
   leaves_from u (merge i a b k) le small = leaves_from u k le small
 
-  all_leaves_from : (u : ℤ) (ks : BoundTrees) → greatest_leaf_of ks ≤ℤ u → HaveSmallBranches ks → AllLeavesAtMost u ks
+  all_leaves_from : (u : ℤ) (ks : BoundTrees) → greatest_leaf_of ks ≤ℤ u → HaveSmallBranches ks
+      → AllLeavesAtMost u ks
   all_leaves_from u no_bound_trees le small = tt
   all_leaves_from u (more_bound_trees k no_bound_trees) le small = (leaves_from u k le small.0, tt)
   all_leaves_from u (more_bound_trees k (more_bound_trees k' ks)) le small =

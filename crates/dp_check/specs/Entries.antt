@@ -30,7 +30,8 @@ pub record IsEnterable (m : Model) (b : Bounds) (n : Node) (i c count : ℕ) : T
 -- A merge of classes a and c of agent i: its child's node, or the first reason there.
 abbrev pub IsEntered : Model → Bounds → Node → ℕ → ℕ → ℕ → Tally → Tally → Entered → Type 0
 IsEntered m b n i a c old new (Below child) =
-    ((k : BoundTree) → entered (arithmetic_of m b) m b.fit.horizon (node_with (merge i a c k) n) old ≡ passed new)
+    ((k : BoundTree) → entered (arithmetic_of m b) m b.fit.horizon (node_with (merge i a c k) n) old
+    ≡ passed new)
     × IsBelow m b n (merged_front n.front.front i a c) child
 IsEntered m b n i a c old new (Wrong r) =
     (k : BoundTree) → entered (arithmetic_of m b) m b.fit.horizon (node_with (merge i a c k) n) old

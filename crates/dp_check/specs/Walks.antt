@@ -84,7 +84,8 @@ or_stopped (Some r) w = stopped r
 -- after these nodes, of which the first has the number of nodes so far
 abbrev pub walked : Arithmetic → Model → ℕ → List Node → Tally → Walked
 walked A m h [] t = passed t
-walked A m h (n ∷ ns) t = or_stopped (tree_reason A m h t.nodes n n.tree) (walked A m h ns (counted A m h n n.tree t))
+walked A m h (n ∷ ns) t = or_stopped (tree_reason A m h t.nodes n n.tree)
+    (walked A m h ns (counted A m h n n.tree t))
 
 -- what comes after a walk that found no reason
 abbrev pub and_then : Walked → (Tally → Walked) → Walked

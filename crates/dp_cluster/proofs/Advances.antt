@@ -90,7 +90,8 @@ module _ (A : Arithmetic) (C : Calls) (m : Model) (k : KeptFront) (is : IsAdvanc
 
   -- ---- what is earned, joint class by joint class
   abbrev pub earned_to : ℕ → ℕ → Span
-  earned_to r n = span_add k.earned (span_sum n (λ D. weighted_reward_in A m r (class_weight_in A m F D) (act D)))
+  earned_to r n = span_add k.earned (span_sum n (λ D. weighted_reward_in A m r (class_weight_in A m F D)
+      (act D)))
 
   pub earned_start : (r : ℕ) → k.earned ≡ earned_to r 0
   earned_start r = sym (span_add_none k.earned)
@@ -100,7 +101,8 @@ module _ (A : Arithmetic) (C : Calls) (m : Model) (k : KeptFront) (is : IsAdvanc
       → span_add total reward ≡ earned_to r (suc n)
   earned_next r n total reward e f = (λ j. span_add (e j) (f j)) ∙ span_add_assoc k.earned _ _
 
-  pub earned_room : (r n : ℕ) → F.stage + suc r ≡ k.horizon → n ≤ product counts → size (earned_to r n) < 2 ^ 127
+  pub earned_room : (r n : ℕ) → F.stage + suc r ≡ k.horizon → n ≤ product counts
+      → size (earned_to r n) < 2 ^ 127
   unfolding class_reward_size
   earned_room r n e le =
       let W = λ (D : ℕ). weighted_reward_in A m r (class_weight_in A m F D) (act D) in
@@ -115,7 +117,8 @@ module _ (A : Arithmetic) (C : Calls) (m : Model) (k : KeptFront) (is : IsAdvanc
       let both = size_add k.earned (span_sum n W) in
       omega arith
 
-  pub earned_end : (r n : ℕ) (total : Span) → F.stage + suc r ≡ k.horizon → n ≡ product counts → total ≡ earned_to r n
+  pub earned_end : (r n : ℕ) (total : Span) → F.stage + suc r ≡ k.horizon → n ≡ product counts
+      → total ≡ earned_to r n
       → total ≡ earned_reward_in A m (fixed_joint_action m (advanced_front m F)) k.horizon (suc F.stage)
   earned_end r n total e all is_total =
       is_total ∙ ap (earned_to r) all ∙ ap (λ (w : Span). span_add w
@@ -137,7 +140,8 @@ stage_cells m k is stored lt e =
 mode_advanceable : (m : Model) (k : KeptFront) → IsFrontOf m k → IsStored k → k.front.stage < k.horizon
     → IsAdvanceable (arithmetic k.is_exact m.scales) (calls_in k.is_exact m.scales) m k
 mode_advanceable m k is stored lt =
-    let can = mode_can_refine m is.model k.horizon is.some_step is.horizon k.is_exact is.mode k.front is.front lt
+    let can = mode_can_refine m is.model k.horizon is.some_step is.horizon k.is_exact is.mode k.front
+    is.front lt
     (stage_cells m k is stored lt) in
     record {
       model = is.model;
@@ -178,7 +182,8 @@ room_weights m h F lt room =
 
 -- how many joint classes the advanced front has
 advanced_count : (m : Model) (h : ℕ) (F : Front) → IsFront m h F
-    → product (class_counts (advanced_front m F).agents) ≡ product (class_counts F.agents) * joint_observations m
+    → product (class_counts (advanced_front m F).agents) ≡ product
+    (class_counts F.agents) * joint_observations m
 advanced_count m h F front =
     ap product (counts_are_pairs m h F front)
     ∙ product_pairs (class_counts F.agents) m.observations (as_many_agents front.agents)
@@ -187,7 +192,8 @@ advanced_count m h F front =
 -- so has the advanced front
 pub advanced_weights_few : (m : Model) (k : KeptFront) → IsFrontOf m k
     → has_room m k.horizon (advanced_front m k.front) ≡ true
-    → suc k.front.stage < k.horizon → product (class_counts k.front.agents) * joint_observations m * m.states ≤ 2 ^ 22
+    → suc k.front.stage < k.horizon → product (class_counts k.front.agents) * joint_observations m * m.states
+    ≤ 2 ^ 22
 advanced_weights_few m k is room early =
     let few = room_weights m k.horizon (advanced_front m k.front) early room in
     let moved = subst (λ (n : ℕ). m.states * n ≤ 2 ^ 22) (advanced_count m k.horizon k.front is.front) few in
@@ -228,7 +234,8 @@ module _ (m : Model) (k : KeptFront) (is : IsFrontOf m k) (lt : k.front.stage < 
     next_weights early C s hC hs =
         ap (λ (n : ℕ). get_or ws (C * n + s) (point (pos 0))) is.states
         ∙ ap (λ l. get_or l (C * m.states + s) (point (pos 0))) (rows early)
-        ∙ rows_at (class_weight_in A m G) m.states (product (class_counts k.front.agents) * joint_observations m)
+        ∙ rows_at (class_weight_in A m G) m.states (product (class_counts
+        k.front.agents) * joint_observations m)
         C s (point (pos 0)) (subst (λ (n : ℕ). C < n) next_count hC) hs
         ∙ ap (λ (z : Front). class_weight_in A m z C s) (sym next_front)
 

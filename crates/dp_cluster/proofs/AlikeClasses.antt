@@ -29,7 +29,8 @@ pub weighted_alike : (v w : OwnVector) (x y : Vec ℤ Global) → v ≡ Weighted
     → r ≡ pointwise int_eq x.items y.items → IsTrue r ↔ AreAlike v w
 weighted_alike v w x y ev ew r is =
     let told = signed_items x.items y.items in (
-      λ yes. subst (λ z. AreAlike z w) (sym ev) (subst (AreAlike (Weighted x)) (sym ew) (told.0 (sym is ∙ yes))),
+      λ yes. subst (λ z. AreAlike z w) (sym ev) (subst (AreAlike (Weighted x)) (sym ew)
+          (told.0 (sym is ∙ yes))),
       λ alike. is ∙ told.1 (subst (AreAlike (Weighted x)) ew (subst (λ z. AreAlike z w) ev alike)),
     )
 
@@ -51,7 +52,8 @@ module _ (m : Model) (h : ℕ) (F : Front) (front : IsFront m h F) (i : ℕ) (ag
     second : IsUnassigned i d F.agents
     equivalent : AreEquivalent m F i c d
 
-  alike_are : (c d : ℕ) (v w : OwnVector) → IsVectorOf m F i c v → IsVectorOf m F i d w → AreAlike v w → ArePair c d
+  alike_are : (c d : ℕ) (v w : OwnVector) → IsVectorOf m F i c v → IsVectorOf m F i d w → AreAlike v w
+      → ArePair c d
   alike_are c d Assigned w one other alike = absurd alike
   alike_are c d Weightless Assigned one other alike = absurd alike
   alike_are c d Weightless Weightless one other alike =
@@ -68,7 +70,8 @@ module _ (m : Model) (h : ℕ) (F : Front) (front : IsFront m h F) (i : ℕ) (ag
       let tells = primitive_vectors_tell m h F i c d us vs front agent one.2.1 other.2.1 one.1 other.1 in
       record { first = one.0; second = other.0; equivalent = tells.1 same }
 
-  are_alike : (c d : ℕ) (v w : OwnVector) → IsVectorOf m F i c v → IsVectorOf m F i d w → ArePair c d → AreAlike v w
+  are_alike : (c d : ℕ) (v w : OwnVector) → IsVectorOf m F i c v → IsVectorOf m F i d w → ArePair c d
+      → AreAlike v w
   are_alike c d Assigned w one other pair = absurd (one pair.first)
   are_alike c d Weightless Assigned one other pair = absurd (other pair.second)
   are_alike c d Weightless Weightless one other pair = tt
@@ -93,7 +96,8 @@ module _ (m : Model) (h : ℕ) (F : Front) (front : IsFront m h F) (i : ℕ) (ag
 
     alike_of : (c d : ℕ) → IsPair m F i c d → AlikeAt vs c d
     alike_of c d pair =
-        are_alike c d _ _ (are.are c (unassigned_below c pair.first)) (are.are d (unassigned_below d pair.second))
+        are_alike c d _ _ (are.are c (unassigned_below c pair.first))
+        (are.are d (unassigned_below d pair.second))
         (record { first = pair.first; second = pair.second; equivalent = pair.equivalent })
 
     -- the least places that are alike are the least pair
@@ -151,7 +155,8 @@ module _ (m : Model) (h : ℕ) (F : Front) (front : IsFront m h F) (i : ℕ) (ag
       front_read (y ∷ ys) x zero lt = refl
       front_read (y ∷ ys) x (suc d) lt = front_read ys x d (omega arith)
 
-      last_read : (xs : List OwnVector) (x : OwnVector) (d : ℕ) → length xs ≡ d → get_or (xs ++ x ∷ []) d Assigned ≡ x
+      last_read : (xs : List OwnVector) (x : OwnVector) (d : ℕ) → length xs ≡ d
+          → get_or (xs ++ x ∷ []) d Assigned ≡ x
       last_read [] x zero e = refl
       last_read [] x (suc d) e = absurd (omega arith)
       last_read (y ∷ ys) x zero e = absurd (omega arith)

@@ -72,7 +72,8 @@ module _ (bs : List ℕ) (ds : List AgentFront) (i left rest action J k b : ℕ)
   some = let below = u.below in let e = split in let all : 0 < k * P = omega arith in positive_left k P 0 all
 
   some_left : 0 < P
-  some_left = let below = u.below in let e = split in let all : 0 < k * P = omega arith in positive_right k P 0 all
+  some_left = let below = u.below in let e = split in let all : 0 < k * P = omega arith in
+      positive_right k P 0 all
 
   after : left / k ≡ P
   after = divided k P left some split
@@ -102,7 +103,8 @@ module _ (bs : List ℕ) (ds : List AgentFront) (i left rest action J k b : ℕ)
       (λ j. action * product (drop-cons bs i 0 lt' j) + joint_number (drop-cons bs i 0 lt' j)
       (actions_for (drop-cons ds i root_agent lt j) (parts_of (class_counts (drop-cons ds i root_agent lt j))
       rest)))
-      ∙ (λ j. action * (sym eb j * product (drop (suc i) bs)) + (own j * product (drop (suc i) bs) + joint_number
+      ∙ (λ j. action * (sym eb j * product (drop (suc i) bs)) + (own j * product
+      (drop (suc i) bs) + joint_number
       (drop (suc i) bs) (actions_for (drop (suc i) ds) (parts_of (class_counts (drop (suc i) ds)) (rest % P)))))
       ∙ regroup action b a (product (drop (suc i) bs)) _
 
@@ -140,10 +142,12 @@ choosing_end bs ds i left rest action J le u =
     (actions_for (drop i ds) (parts_of (class_counts (drop i ds)) rest))) ∙ u.action_is
 
 -- a front has a part for each agent
-pub agents_of : {f : ℕ} {bs ns : List ℕ} {ds : List AgentFront} → AreAgentFronts f bs ns ds → length ds ≡ length bs
+pub agents_of : {f : ℕ} {bs ns : List ℕ} {ds : List AgentFront} → AreAgentFronts f bs ns ds
+    → length ds ≡ length bs
 agents_of no_agents = refl
 agents_of (and_agent k ks) = let e = agents_of ks in omega arith
 
-pub seen_of : {f : ℕ} {bs ns : List ℕ} {ds : List AgentFront} → AreAgentFronts f bs ns ds → length ds ≡ length ns
+pub seen_of : {f : ℕ} {bs ns : List ℕ} {ds : List AgentFront} → AreAgentFronts f bs ns ds
+    → length ds ≡ length ns
 seen_of no_agents = refl
 seen_of (and_agent k ks) = let e = seen_of ks in omega arith

@@ -35,7 +35,8 @@ same_whole x y p q hy hq e =
     ]
 
 -- the same comparison, one step on
-pub step_same : (x y p q k l r s : ℕ) → x ≡ k * y + r → p ≡ l * q + s → k ≡ l → (x * q ≡ p * y) ↔ (y * s ≡ q * r)
+pub step_same : (x y p q k l r s : ℕ) → x ≡ k * y + r → p ≡ l * q + s → k ≡ l
+    → (x * q ≡ p * y) ↔ (y * s ≡ q * r)
 step_same x y p q k l r s ex ep e = (λ h. forward h, λ h. back h)
   where
     wx : x * q ≡ k * (y * q) + q * r
@@ -98,7 +99,8 @@ comparing_right a t b u x y p q c hy eq e =
     let none : x * q ≡ 0 = rw eq (omega arith) in
     let some = above p y (c.right_top eq) hy in omega arith
 
-pub compared : (a t b u x y p q : ℕ) → IsComparing a t b u x y p q → y ≡ 0 → IsTrue (nat_eq q 0) ↔ (a * u ≡ b * t)
+pub compared : (a t b u x y p q : ℕ) → IsComparing a t b u x y p q → y ≡ 0
+    → IsTrue (nat_eq q 0) ↔ (a * u ≡ b * t)
 compared a t b u x y p q c e = (
   λ yes. comparing_both a t b u x y p q c e (eqb-true q 0 yes),
   λ same. elim (cases_lt 0 q) [

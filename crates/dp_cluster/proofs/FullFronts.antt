@@ -26,7 +26,8 @@ value_where r P v x given e = (subst (λ o. SomeIff o P v) e given).1
 
 -- ---- tree by tree
 
-pub full_policy_is : (m : Model) (F : Front) → trees_doing_fixed F.stage m.observations F.agents ≡ full_policy m F
+pub full_policy_is : (m : Model) (F : Front) → trees_doing_fixed F.stage m.observations F.agents
+    ≡ full_policy m F
 unfolding full_policy
 full_policy_is m F = refl
 
@@ -60,5 +61,6 @@ module _ (m : Model) (k : KeptFront) (is : IsFrontOf m k) (full : k.front.stage 
       ∙ ap (λ (b : Bool). earned_reward_in (arithmetic b m.scales) m (fixed_joint_action m k.front)
       k.horizon k.front.stage) exact
       ∙ ap (λ f. earned_reward_in (arithmetic true m.scales) m (fixed_joint_action m k.front) k.horizon f) full
-      ∙ (exact_quantities m is.model).earned_rewards (fixed_joint_action m k.front) k.horizon k.horizon (omega arith)
+      ∙ (exact_quantities m is.model).earned_rewards (fixed_joint_action m k.front) k.horizon k.horizon
+      (omega arith)
       ∙ ap (λ v. point v) (sym (value_at_full_front m k.horizon k.front (full_policy m k.front) full keeps))

@@ -72,8 +72,10 @@ merged_kept m k is e lt i a b ab free_a free_b ws weights = record {
       m act k.horizon k.front.stage) (sym (fixed_joint_action_merged m k.front i a b));
 }
 
-module _ (m : Model) (k : KeptFront) (is : IsFrontOf m k) (e : k.is_exact ≡ true) (lt : k.front.stage < k.horizon)
-    (i a b : ℕ) (ab : a < b) (free_a : IsUnassigned i a k.front.agents) (free_b : IsUnassigned i b k.front.agents)
+module _ (m : Model) (k : KeptFront) (is : IsFrontOf m k) (e : k.is_exact ≡ true)
+    (lt : k.front.stage < k.horizon)
+    (i a b : ℕ) (ab : a < b) (free_a : IsUnassigned i a k.front.agents)
+    (free_b : IsUnassigned i b k.front.agents)
     (ws : List Span) (rows : ws ≡ weight_rows (merged_weight k i a b) k.states
     (product (take i (class_counts k.front.agents)) * (own_count k i - 1) * behind k i)) where
   pub join_kept : IsFrontOf m (record k { front = merged_front k.front i a b; weights = ws })
@@ -95,7 +97,8 @@ module _ (m : Model) (k : KeptFront) (is : IsFrontOf m k) (e : k.is_exact ≡ tr
   pub join_stored : IsStored k → IsStored (record k { front = merged_front k.front i a b; weights = ws })
   join_stored s = record {
     agents = let n = sym (as_many_counts (merged_agents i a b k.front.agents))
-        ∙ as_many_merged i a b k.front.agents ∙ as_many_counts k.front.agents in let le = s.agents in omega arith;
+        ∙ as_many_merged i a b k.front.agents ∙ as_many_counts k.front.agents in let le = s.agents in
+        omega arith;
     limit = s.limit;
     room = λ early. let le = mul-le-mul_right k.states fewer in let all = s.room early in omega arith;
     weights = λ early. ap length rows ∙ rows_length (merged_weight k i a b) k.states _

@@ -62,9 +62,11 @@ stands H n L D lt =
     }
 
 -- a class in its place is a joint class
-pub old_below : (H n L D e : ℕ) → D < H * (n - 1) * L → e < n → (D / L / (n - 1) * n + e) * L + D % L < H * n * L
+pub old_below : (H n L D e : ℕ) → D < H * (n - 1) * L → e < n
+    → (D / L / (n - 1) * n + e) * L + D % L < H * n * L
 old_below H n L D e lt he =
-    let s = stands H n L D lt in row_below _ (H * n) L (D % L) (row_below (D / L / (n - 1)) H n e s.row_below he)
+    let s = stands H n L D lt in row_below _ (H * n) L (D % L)
+    (row_below (D / L / (n - 1)) H n e s.row_below he)
     s.place_below
 
 -- ---- sizes
@@ -75,13 +77,16 @@ pub weight_fits : (m : Model) (k : KeptFront) → IsFrontOf m k → k.is_exact �
     → size (class_weight_in (exact m.scales) m E C s) < 2 ^ 127
 weight_fits m k is e E front lt C s p =
     class_fits (exact m.scales) m k.horizon E
-    (mode_can_refine m is.model k.horizon is.some_step is.horizon true (sym e ∙ is.mode) E front lt (λ no. cc no))
+    (mode_can_refine m is.model k.horizon is.some_step is.horizon true (sym e ∙ is.mode) E front lt
+    (λ no. cc no))
     C s p
 
 -- ---- the weights after the join are those of the merged front
 
-module _ (m : Model) (k : KeptFront) (is : IsFrontOf m k) (e : k.is_exact ≡ true) (lt : k.front.stage < k.horizon)
-    (i a b : ℕ) (ab : a < b) (free_a : IsUnassigned i a k.front.agents) (free_b : IsUnassigned i b k.front.agents)
+module _ (m : Model) (k : KeptFront) (is : IsFrontOf m k) (e : k.is_exact ≡ true)
+    (lt : k.front.stage < k.horizon)
+    (i a b : ℕ) (ab : a < b) (free_a : IsUnassigned i a k.front.agents)
+    (free_b : IsUnassigned i b k.front.agents)
   where
     abbrev pub counts : List ℕ
     counts = class_counts k.front.agents
@@ -121,17 +126,22 @@ module _ (m : Model) (k : KeptFront) (is : IsFrontOf m k) (e : k.is_exact ≡ tr
       x_in = rw (product_without i counts i_in) (row_below (row_in k i D) rows (behind k i) (D % behind k i)
           there.row_below there.place_below)
 
-      old_is : (c : ℕ) → old_class k i D c ≡ placed_number i counts c (row_in k i D * behind k i + D % behind k i)
-      old_is c = sym (placed_at i counts c (row_in k i D) (D % behind k i) i_in there.row_below there.place_below)
+      old_is : (c : ℕ) → old_class k i D c ≡ placed_number i counts c
+          (row_in k i D * behind k i + D % behind k i)
+      old_is c = sym (placed_at i counts c (row_in k i D) (D % behind k i)
+          i_in there.row_below there.place_below)
 
       new_is : placed_number i merged (class_in k i D) (row_in k i D * behind k i + D % behind k i) ≡ D
       new_is =
-          let L_same : product (drop (suc i) merged) ≡ behind k i = ap product (others_behind i a b k.front.agents) in
+          let L_same : product (drop (suc i) merged) ≡ behind k i = ap product
+          (others_behind i a b k.front.agents) in
           let H_same : product (take i merged) ≡ rows = ap product (others_before i a b k.front.agents) in
           let i_merged : i < length merged = let n = as_many_merged i a b k.front.agents in let l = i_in in
           omega arith in
-          ap (λ (L : ℕ). placed_number i merged (class_in k i D) (row_in k i D * L + D % behind k i)) (sym L_same)
-          ∙ placed_at i merged (class_in k i D) (row_in k i D) (D % behind k i) i_merged (rw H_same there.row_below)
+          ap (λ (L : ℕ). placed_number i merged (class_in k i D) (row_in k i D * L + D % behind k i))
+          (sym L_same)
+          ∙ placed_at i merged (class_in k i D) (row_in k i D) (D % behind k i) i_merged
+          (rw H_same there.row_below)
           (rw L_same there.place_below)
           ∙ (λ j. (row_in k i D * one_less j + class_in k i D) * L_same j + D % behind k i)
           ∙ by_place D (behind k i) (own_count k i - 1)
@@ -158,7 +168,8 @@ module _ (m : Model) (k : KeptFront) (is : IsFrontOf m k) (e : k.is_exact ≡ tr
             | inl same ↦
                 let yes : (class_in k i D == a) ≡ true = grind (arith, nat_tests) in
                 let kept : kept_class b (class_in k i D) ≡ a = ap (kept_class b) same ∙ sym (kept_low b a ab) in
-                (λ j. joined_weight k (old_class k i D (kept j)) (if yes j then Some (old_class k i D b) else None) s)
+                (λ j. joined_weight k (old_class k i D (kept j))
+                (if yes j then Some (old_class k i D b) else None) s)
                 ∙ (λ j. span_add (kept_old a s (omega (arith, b_in)) hs j) (kept_old b s b_in hs j))
                 ∙ sym (joined_span m is.model k.horizon k.front is.front lt i a b ab free_a free_b
                 (row_in k i D * behind k i + D % behind k i) s x_in)
@@ -171,7 +182,8 @@ module _ (m : Model) (k : KeptFront) (is : IsFrontOf m k) (e : k.is_exact ≡ tr
                 (λ j. joined_weight k (old_class k i D (kept_class b (class_in k i D)))
                 (if no j then Some (old_class k i D b) else None) s)
                 ∙ kept_old (kept_class b (class_in k i D)) s kept_here hs
-                ∙ sym (kept_span m is.model k.horizon k.front is.front lt i a b ab free_a free_b (class_in k i D)
+                ∙ sym (kept_span m is.model k.horizon k.front is.front lt i a b ab free_a free_b
+                (class_in k i D)
                 (row_in k i D * behind k i + D % behind k i) s class_merged apart x_in)
                 ∙ ap (λ (C : ℕ). class_weight_in (exact m.scales) m (merged_front k.front i a b) C s) new_is
           ]
@@ -179,7 +191,8 @@ module _ (m : Model) (k : KeptFront) (is : IsFrontOf m k) (e : k.is_exact ≡ tr
       pub merged_room : (s : ℕ) → s < m.states → size (merged_weight k i a b D s) < 2 ^ 127
       merged_room s hs =
           subst (λ (w : Span). size w < 2 ^ 127) (sym (merged_is s hs))
-          (weight_fits m k is e (merged_front k.front i a b) (merged_is_front m k.horizon k.front i a b is.front lt
+          (weight_fits m k is e (merged_front k.front i a b)
+          (merged_is_front m k.horizon k.front i a b is.front lt
           ab free_a free_b) lt D s hs)
 
       pub old_in : (c : ℕ) → c < own_count k i → old_class k i D c < product counts
@@ -193,7 +206,8 @@ module _ (m : Model) (k : KeptFront) (is : IsFrontOf m k) (e : k.is_exact ≡ tr
 module _ (m : Model) (k : KeptFront) (is : IsFrontOf m k) (e : k.is_exact ≡ true) (stored : IsStored k)
     (lt : k.front.stage < k.horizon) (i a b : ℕ) (ab : a < b) (free_a : IsUnassigned i a k.front.agents)
     (free_b : IsUnassigned i b k.front.agents) (joint count width : ℕ)
-    (ej : joint ≡ product (class_counts k.front.agents)) (ec : count ≡ own_count k i) (ew : width ≡ behind k i) where
+    (ej : joint ≡ product (class_counts k.front.agents)) (ec : count ≡ own_count k i)
+    (ew : width ≡ behind k i) where
   pub some_joint : 0 < product (class_counts k.front.agents)
   some_joint = some_class m k.horizon k.front is.model is.front
 
@@ -247,8 +261,10 @@ module _ (m : Model) (k : KeptFront) (is : IsFrontOf m k) (e : k.is_exact ≡ tr
     pub class_is : D / width % (count - 1) ≡ class_in k i D
     class_is = λ j. D / ew j % (ec j - 1)
 
-    pub place_room : (c : ℕ) → c < own_count k i → (D / width / (count - 1) * count + c) * width + D % width < 2 ^ 22
-    place_room c hc = let p = place_is c in let inside = old_in m k is e lt i a b ab free_a free_b D below' c hc in
+    pub place_room : (c : ℕ) → c < own_count k i → (D / width / (count - 1) * count + c) * width + D % width
+        < 2 ^ 22
+    place_room c hc = let p = place_is c in let inside = old_in m k is e lt i a b ab free_a free_b D below' c
+        hc in
         let few = few_joint in omega arith
 
     pub kept_room : kept_class b (D / width % (count - 1)) < own_count k i
@@ -273,9 +289,11 @@ module _ (m : Model) (k : KeptFront) (is : IsFrontOf m k) (e : k.is_exact ≡ tr
         → other ≡ (if D / width % (count - 1) == a then Some joined else None) → other ≡ Some C
         → C < product (class_counts k.front.agents)
     other_in other joined C ej' eother some =
-        let inside = old_in m k is e lt i a b ab free_a free_b D below' b (b_in m k is e lt i a b ab free_a free_b) in
+        let inside = old_in m k is e lt i a b ab free_a free_b D below' b
+        (b_in m k is e lt i a b ab free_a free_b) in
         let joined_is : joined ≡ old_class k i D b = ej' ∙ place_is b in
-        let same : joined ≡ C = picked (D / width % (count - 1) == a) joined C (sym eother ∙ some) in omega arith
+        let same : joined ≡ C = picked (D / width % (count - 1) == a) joined C (sym eother ∙ some) in
+        omega arith
       where
         picked : (t : Bool) (x y : ℕ) → (if t then Some x else None) ≡ Some y → x ≡ y
         picked true x y h = cc

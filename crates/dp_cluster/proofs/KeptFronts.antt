@@ -107,7 +107,8 @@ root_joint m h C is lt =
     let in_range = class_in_range m h (root_front m) (root_is_front m h is) [] tt in
     let one = root_product m in omega arith
 
-root_weight : (A : Arithmetic) (m : Model) (h C s : ℕ) → IsModel m → C < product (class_counts (root_front m).agents)
+root_weight : (A : Arithmetic) (m : Model) (h C s : ℕ) → IsModel m
+    → C < product (class_counts (root_front m).agents)
     → class_weight_in A m (root_front m) C s ≡ A.start (start_at m s)
 unfolding class_weight_in root_front
 root_weight A m h C s is lt = ap (λ (z : ℕ). cond (eqb z C) (A.start (start_at m s)) (point (pos 0)))
@@ -169,7 +170,8 @@ module _ (m : Model) (is : IsModel m) (h : ℕ) (some : 0 < h) (limit : h ≤ 24
     front = subst (λ (F : Front). IsFront m h F) (sym front_is) (root_is_front m h is);
     apart = λ x. subst (λ (F : Front). KeepsHistoriesApart m F) (sym front_is) (root_apart m);
     weights = λ lt C s hC hs. root_weights k.front front_is C s hC hs;
-    earned = root_earned (arithmetic e m.scales) m h ∙ ap (λ (F : Front). earned_reward_in (arithmetic e m.scales)
+    earned = root_earned (arithmetic e m.scales) m h ∙ ap (λ (F : Front). earned_reward_in
+        (arithmetic e m.scales)
         m (fixed_joint_action m F) h F.stage) (sym front_is);
   }
 
@@ -181,11 +183,13 @@ module _ (m : Model) (is : IsModel m) (h : ℕ) (some : 0 < h) (limit : h ≤ 24
         omega arith;
     limit = omega arith;
     room = λ lt.
-        let one : product (class_counts k.front.agents) ≡ 1 = ap (λ (F : Front). product (class_counts F.agents))
+        let one : product (class_counts k.front.agents) ≡ 1 = ap
+        (λ (F : Front). product (class_counts F.agents))
         front_is ∙ root_product m in
         let few = is.sizes.states_limit in rw one (omega arith);
     weights = λ lt.
-        let one : product (class_counts k.front.agents) ≡ 1 = ap (λ (F : Front). product (class_counts F.agents))
+        let one : product (class_counts k.front.agents) ≡ 1 = ap
+        (λ (F : Front). product (class_counts F.agents))
         front_is ∙ root_product m in
         ap length weights ∙ length-map-range m.states ∙ sym states ∙ rw one (omega arith);
   }

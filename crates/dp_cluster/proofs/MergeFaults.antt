@@ -37,7 +37,8 @@ none_of (Some a) e = absurd (let no : true ≡ false = e in cc)
 
 pub comparable : (k : KeptFront) (i a b : ℕ) (x y : Option ℕ) → k.is_exact ≡ true → a ≤ b → (a ≡ b → ⊥)
     → i < length k.front.agents → b < get_or (class_counts k.front.agents) i 0
-    → x ≡ choice_at k.front.agents i a → is_some x ≡ false → y ≡ choice_at k.front.agents i b → is_some y ≡ false
+    → x ≡ choice_at k.front.agents i a → is_some x ≡ false → y ≡ choice_at k.front.agents i b
+    → is_some y ≡ false
     → AreComparable k i a b
 comparable k i a b x y exact order apart agent class first no_first second no_second =
     let less : a < b = omega arith in

@@ -10,7 +10,8 @@ use Rattle.dp_laws.proofs.SizeLaws.{mode_can_update_weights}
 -- made of the scales c, in the branch of a test of x where it is e
 pub same_arithmetic : (e x : Bool) (c : Scales) (m : Model) → c ≡ m.scales → x ≡ e
     → arithmetic e c ≡ arithmetic x m.scales
-same_arithmetic e x c m same branch = ap (arithmetic e) same ∙ ap (λ (b : Bool). arithmetic b m.scales) (sym branch)
+same_arithmetic e x c m same branch = ap (arithmetic e) same
+    ∙ ap (λ (b : Bool). arithmetic b m.scales) (sym branch)
 
 -- the calls for the weights of the start
 pub starts : (e x : Bool) (c : Scales) (m : Model) → IsModel m → c ≡ m.scales → x ≡ e → (h : ℕ) → 0 < h → h ≤ 24

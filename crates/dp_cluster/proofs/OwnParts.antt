@@ -130,7 +130,8 @@ part_with_choice n ss k cs c a lt =
 abbrev pub HasClasses : ℕ → AgentFront → Type 0
 HasClasses n d = (x : ℕ) → x < n ^ length d.fixed → get_or d.class_of x 0 < length d.chosen
 
-module _ (n : ℕ) (ss : List PastStage) (k : ℕ) (cs : List (Option ℕ)) (classes : HasClasses n (part_of n ss k cs))
+module _ (n : ℕ) (ss : List PastStage) (k : ℕ) (cs : List (Option ℕ))
+    (classes : HasClasses n (part_of n ss k cs))
   where
     pub class_in : (x : ℕ) → x < n ^ length ss → class_after n ss x < k
     class_in x lt =
@@ -142,7 +143,8 @@ module _ (n : ℕ) (ss : List PastStage) (k : ℕ) (cs : List (Option ℕ)) (cla
 
     pub part_advanced : (s : PastStage) → s.links.items ≡ []
         → s.actions.items ≡ map (λ c. unwrap_or (get_or cs c None) 0) (range_with_len 0 k)
-        → part_of n (s ∷ ss) (k * n) [] ≡ advanced_agent n (length (part_of n ss k cs).fixed) (part_of n ss k cs)
+        → part_of n (s ∷ ss) (k * n) [] ≡ advanced_agent n (length (part_of n ss k cs).fixed)
+        (part_of n ss k cs)
     unfolding part_of advanced_agent
     part_advanced s no_links actions =
         let P = part_of n ss k cs in
@@ -183,7 +185,8 @@ abbrev pub kept_action : List (Option ℕ) → ℕ → ℕ → Option ℕ
 kept_action cs b c = get_or cs (kept_class b c) None
 
 chosen_without : (k : ℕ) (cs : List (Option ℕ)) (b : ℕ) → b < k
-    → map (kept_action cs b) (range_with_len 0 (k - 1)) ≡ without b (map (λ i. get_or cs i None) (range_with_len 0 k))
+    → map (kept_action cs b) (range_with_len 0 (k - 1)) ≡ without b
+    (map (λ i. get_or cs i None) (range_with_len 0 k))
 chosen_without k cs b lt =
     let old = map (λ i. get_or cs i None) (range_with_len 0 k) in
     let long : length old ≡ k = length-map-range_with_len (λ i. get_or cs i None) 0 k in
@@ -250,7 +253,8 @@ module _ (n k : ℕ) (cs : List (Option ℕ)) (a b : ℕ) (ab : a < b) (lt : b <
   pub parts_merged : (ss ss' : List PastStage) → AreMergedStages n a b ss ss' → ArePastStages n ss
       → part_of n ss' (k - 1) (map (kept_action cs b) (range_with_len 0 (k - 1)))
       ≡ merged_agent a b (part_of n ss k cs)
-  parts_merged [] ss' same past = ap (λ z. part_of n z (k - 1) (map (kept_action cs b) (range_with_len 0 (k - 1))))
+  parts_merged [] ss' same past = ap (λ z. part_of n z (k - 1)
+      (map (kept_action cs b) (range_with_len 0 (k - 1))))
       same ∙ root_part_merged
   parts_merged (s ∷ ss) [] same past = absurd same
   parts_merged (s ∷ ss) (s' ∷ ss') same past =
@@ -279,7 +283,8 @@ take_next f (y ∷ ys) zero x lt e = ap (λ z. f z ∷ []) (sym e)
 take_next f (y ∷ ys) (suc i) x lt e = ap (λ l. f y ∷ l) (take_next f ys i x (omega arith) e)
 
 -- a list of values goes on with that of one item more
-pub next_value : {X Y : Type 0} (f : X → Y) (pre : List Y) (xs all all' : List X) (i : ℕ) (x new : X) → i < length xs
+pub next_value : {X Y : Type 0} (f : X → Y) (pre : List Y) (xs all all' : List X) (i : ℕ) (x new : X)
+    → i < length xs
     → x ≡ get_or xs i x → f new ≡ f x → all' ≡ all ++ new ∷ [] → map f all ≡ pre ++ take i (map f xs)
     → map f all' ≡ pre ++ take (i + 1) (map f xs)
 next_value f pre xs all all' i x new lt e same pushed before =
@@ -289,7 +294,8 @@ next_value f pre xs all all' i x new lt e same pushed before =
     ∙ ap (λ (k : ℕ). take k (map f xs)) (sym (add-one i)))
 
 -- a made list goes on with one item more
-pub next_made : {X : Type 0} (f : ℕ → X) (all all' : List X) (i : ℕ) (new : X) → new ≡ f i → all' ≡ all ++ new ∷ []
+pub next_made : {X : Type 0} (f : ℕ → X) (all all' : List X) (i : ℕ) (new : X) → new ≡ f i
+    → all' ≡ all ++ new ∷ []
     → all ≡ map f (range_with_len 0 i) → all' ≡ map f (range_with_len 0 (i + 1))
 next_made f all all' i new same pushed before =
     pushed ∙ (λ j. before j ++ same j ∷ []) ∙ sym (map-range_with_len_more f 0 i i (omega arith))
@@ -303,7 +309,8 @@ next_after f pre all all' i new same pushed before =
     ∙ ap (λ l. pre ++ l) (sym (map-range_with_len_more f 0 i i (omega arith)))
 
 -- made links are read
-pub links_made : (s : PastStage) (i : ℕ) (f : ℕ → ℕ) (p : ℕ) → p < i → s.links.items ≡ map f (range_with_len 0 i)
+pub links_made : (s : PastStage) (i : ℕ) (f : ℕ → ℕ) (p : ℕ) → p < i
+    → s.links.items ≡ map f (range_with_len 0 i)
     → class_led_to s p ≡ f p
 links_made s i f p lt made = ap (λ l. get_or l p p) made ∙ made_at i p p f lt
 
@@ -319,7 +326,8 @@ pub not_all_chosen : (os : List (Option ℕ)) (k : ℕ) → k < length os → is
     → false ≡ all_chosen os
 not_all_chosen [] k lt e = absurd (omega arith)
 not_all_chosen (o ∷ os) zero lt e = ap (λ b. b && all_chosen os) (sym e)
-not_all_chosen (o ∷ os) (suc k) lt e = right_false (is_some o) (all_chosen os) (not_all_chosen os k (omega arith) e)
+not_all_chosen (o ∷ os) (suc k) lt e = right_false (is_some o) (all_chosen os)
+    (not_all_chosen os k (omega arith) e)
   where
     right_false : (x y : Bool) → false ≡ y → false ≡ x && y
     right_false true y h = h
@@ -342,7 +350,8 @@ pub below_count : (n : ℕ) (ss : List PastStage) (k : ℕ) (cs : List (Option �
 below_count n ss k cs v c is lt =
     let count = part_classes n ss k cs ∙ ap (λ (p : OwnPart). length p.front.chosen) is in omega arith
 
-pub after_choice : (n : ℕ) (ss ss' : List PastStage) (k i : ℕ) (cs cs' : List (Option ℕ)) (v : OwnPart) (c a : ℕ)
+pub after_choice : (n : ℕ) (ss ss' : List PastStage) (k i : ℕ) (cs cs' : List (Option ℕ)) (v : OwnPart)
+    (c a : ℕ)
     → record { observations = n; front = part_of n ss k cs } ≡ v → c < length v.front.chosen → ss' ≡ ss → i ≡ k
     → cs' ≡ map (with_action cs c a) (range_with_len 0 i)
     → record { observations = n; front = part_of n ss' k cs' } ≡ chosen_in v c a
@@ -358,7 +367,8 @@ after_choice n ss ss' k i cs cs' v c a is lt stages all chosen =
 pub after_advance : (n : ℕ) (ss ss' : List PastStage) (k i : ℕ) (cs cs' : List (Option ℕ)) (s : PastStage)
     (v : OwnPart)
     → record { observations = n; front = part_of n ss k cs } ≡ v
-    → ((x : ℕ) → x < v.observations ^ length v.front.fixed → get_or v.front.class_of x 0 < length v.front.chosen)
+    → ((x : ℕ) → x < v.observations ^ length v.front.fixed → get_or v.front.class_of x 0
+    < length v.front.chosen)
     → ss' ≡ s ∷ ss → i ≡ k → s.actions.items ≡ map (λ c. unwrap_or (get_or cs c None) 0) (range_with_len 0 i)
     → s.links.items ≡ [] → cs' ≡ []
     → record { observations = n; front = part_of n ss' (k * n) cs' } ≡ advanced_in v
@@ -366,13 +376,16 @@ after_advance n ss ss' k i cs cs' s v is classes stages all actions links none =
     let classes' : HasClasses n (part_of n ss k cs) = subst (λ (w : OwnPart). HasClasses w.observations w.front)
     (sym is) classes in
     let list = actions ∙ ap (λ (z : ℕ). map (λ c. unwrap_or (get_or cs c None) 0) (range_with_len 0 z)) all in
-    let part : part_of n ss' (k * n) cs' ≡ advanced_agent n (length (part_of n ss k cs).fixed) (part_of n ss k cs) =
+    let part : part_of n ss' (k * n) cs' ≡ advanced_agent n (length (part_of n ss k cs).fixed)
+    (part_of n ss k cs) =
     (λ j. part_of n (stages j) (k * n) (none j)) ∙ part_advanced n ss k cs classes' s links list in
     (λ j. record { observations = n; front = part j }) ∙ ap advanced_in is
 
-pub past_after : (n : ℕ) (ss ss' : List PastStage) (k i : ℕ) (cs : List (Option ℕ)) (s : PastStage) (v : OwnPart)
+pub past_after : (n : ℕ) (ss ss' : List PastStage) (k i : ℕ) (cs : List (Option ℕ)) (s : PastStage)
+    (v : OwnPart)
     → record { observations = n; front = part_of n ss k cs } ≡ v
-    → ((x : ℕ) → x < v.observations ^ length v.front.fixed → get_or v.front.class_of x 0 < length v.front.chosen)
+    → ((x : ℕ) → x < v.observations ^ length v.front.fixed → get_or v.front.class_of x 0
+    < length v.front.chosen)
     → length v.front.chosen * v.observations < 2 ^ 32
     → ss' ≡ s ∷ ss → i ≡ k → s.actions.items ≡ map (λ c. unwrap_or (get_or cs c None) 0) (range_with_len 0 i)
     → ArePastStages n ss → ArePastStages n ss'
@@ -393,7 +406,8 @@ past_after n ss ss' k i cs s v is classes room stages all actions past =
     )
 
 pub next_count : (n : ℕ) (ss : List PastStage) (k : ℕ) (cs : List (Option ℕ)) (v : OwnPart)
-    → record { observations = n; front = part_of n ss k cs } ≡ v → length v.front.chosen * v.observations < 2 ^ 32
+    → record { observations = n; front = part_of n ss k cs } ≡ v
+    → length v.front.chosen * v.observations < 2 ^ 32
     → k * n < 2 ^ 32
 next_count n ss k cs v is room =
     let count : k ≡ length (part_of n ss k cs).chosen = part_classes n ss k cs in

@@ -27,7 +27,8 @@ use Rattle.dp_cluster.proofs.RunsOfWeights.{map_alike}
 by_row : (x w : ℕ) → x / w * w + x % w ≡ x
 by_row x w = omega arith
 
-module _ (m : Model) (k : KeptFront) (is : IsFrontOf m k) (e : k.is_exact ≡ true) (lt : k.front.stage < k.horizon)
+module _ (m : Model) (k : KeptFront) (is : IsFrontOf m k) (e : k.is_exact ≡ true)
+    (lt : k.front.stage < k.horizon)
     (i : ℕ) (agent : i < length k.front.agents) where
   -- how many joint classes the agents before agent i have, how many weights a run has, and how many places there are
   abbrev pub rows : ℕ
@@ -56,7 +57,8 @@ module _ (m : Model) (k : KeptFront) (is : IsFrontOf m k) (e : k.is_exact ≡ tr
       regroup h l s = omega arith
 
   -- the weight of class c with joint class x of the others and state s
-  module _ (c x s : ℕ) (class_in : c < own_count k i) (x_in : x < product (without i counts)) (s_in : s < k.states)
+  module _ (c x s : ℕ) (class_in : c < own_count k i) (x_in : x < product (without i counts))
+      (s_in : s < k.states)
     where
       abbrev low : ℕ
       low = x % behind k i
@@ -79,7 +81,8 @@ module _ (m : Model) (k : KeptFront) (is : IsFrontOf m k) (e : k.is_exact ≡ tr
       -- its place in the row
       in_row : x * k.states + s ≡ high * width + (low * k.states + s)
       in_row =
-          ap (λ (z : ℕ). z * k.states + s) (sym (by_row x (behind k i))) ∙ regroup high (behind k i) low k.states s
+          ap (λ (z : ℕ). z * k.states + s) (sym (by_row x (behind k i)))
+          ∙ regroup high (behind k i) low k.states s
         where
           regroup : (h l r t s : ℕ) → (h * l + r) * t + s ≡ h * (l * t) + (r * t + s)
           regroup h l r t s = omega arith
@@ -116,7 +119,8 @@ module _ (m : Model) (k : KeptFront) (is : IsFrontOf m k) (e : k.is_exact ≡ tr
           sym (placed_at i counts c high low i_in high_in low_in)
           ∙ ap (placed_number i counts c) (by_row x (behind k i))
 
-      low_here : own_low k.weights (own_count k i) width c (x * k.states + s) ≡ pos (place_weight m k.front i c x s)
+      low_here : own_low k.weights (own_count k i) width c (x * k.states + s)
+          ≡ pos (place_weight m k.front i c x s)
       low_here =
           let kept = is.weights lt number s number_in (subst (λ (z : ℕ). s < z) is.states s_in) in
           let in_exact : kept_weight k number s ≡ class_weight_in (exact m.scales) m k.front number s =
@@ -125,7 +129,8 @@ module _ (m : Model) (k : KeptFront) (is : IsFrontOf m k) (e : k.is_exact ≡ tr
           let same = ap (λ (C : ℕ). class_weight_in (exact m.scales) m k.front C s) placed in
           kept_here ∙ ap (λ (w : Span). w.low) (in_exact ∙ same ∙ defined)
 
-      weight_here : own_weight k.weights (own_count k i) width c (x * k.states + s) ≡ place_weight m k.front i c x s
+      weight_here : own_weight k.weights (own_count k i) width c (x * k.states + s)
+          ≡ place_weight m k.front i c x s
       weight_here = ap unsigned_abs low_here
 
   -- place by place
@@ -186,7 +191,8 @@ module _ (m : Model) (k : KeptFront) (is : IsFrontOf m k) (e : k.is_exact ≡ tr
 
   pub total_at : (c : ℕ) → c < own_count k i → (h n w : ℕ) → h ≡ rows → n ≡ own_count k i → w ≡ width
       → own_total k.weights n w (h * w) c ≡ class_total m k.front i c
-  total_at c class_in h n w eh en ew = (λ j. own_total k.weights (en j) (ew j) (eh j * ew j) c) ∙ total_is c class_in
+  total_at c class_in h n w eh en ew = (λ j. own_total k.weights (en j) (ew j) (eh j * ew j) c)
+      ∙ total_is c class_in
 
   pub few_at : (c : ℕ) → c < own_count k i → (h n w : ℕ) → h ≡ rows → n ≡ own_count k i → w ≡ width
       → own_total k.weights n w (h * w) c < 2 ^ 127

@@ -46,7 +46,8 @@ pair_of (c ∷ cs) (n ∷ ns) x e h =
 
 -- ---- agent by agent
 
-pub product_pairs : (cs ns : List ℕ) → length ns ≡ length cs → product (pair_counts cs ns) ≡ product cs * product ns
+pub product_pairs : (cs ns : List ℕ) → length ns ≡ length cs
+    → product (pair_counts cs ns) ≡ product cs * product ns
 product_pairs [] [] e = omega arith
 product_pairs [] (n ∷ ns) e = absurd (omega arith)
 product_pairs (c ∷ cs) [] e = absurd (omega arith)
@@ -108,7 +109,8 @@ module _ (cs ns : List ℕ) (alike : length ns ≡ length cs) (i left rest class
       ≡ (class * c + rest / P / n) * product (drop (suc i) cs) + pair_class (drop (suc i) cs) (drop (suc i) ns)
       (rest % P)
   class_split =
-      (λ j. class * product (drop-cons cs i 0 lt j) + pair_class (drop-cons cs i 0 lt j) (drop-cons ns i 0 lt' j)
+      (λ j. class * product (drop-cons cs i 0 lt j) + pair_class (drop-cons cs i 0 lt j)
+      (drop-cons ns i 0 lt' j)
       rest)
       ∙ class_regroup class c (rest / P / n) (product (drop (suc i) cs)) _
 
@@ -116,7 +118,8 @@ module _ (cs ns : List ℕ) (alike : length ns ≡ length cs) (i left rest class
       ≡ (seen * n + rest / P % n) * product (drop (suc i) ns) + pair_seen (drop (suc i) cs) (drop (suc i) ns)
       (rest % P)
   seen_split =
-      (λ j. seen * product (drop-cons ns i 0 lt' j) + pair_seen (drop-cons cs i 0 lt j) (drop-cons ns i 0 lt' j) rest)
+      (λ j. seen * product (drop-cons ns i 0 lt' j) + pair_seen (drop-cons cs i 0 lt j)
+      (drop-cons ns i 0 lt' j) rest)
       ∙ class_regroup seen n (rest / P % n) (product (drop (suc i) ns)) _
 
   pub step_room : StepRoom cs ns c n left rest class seen P
@@ -146,7 +149,8 @@ module _ (cs ns : List ℕ) (alike : length ns ≡ length cs) (i left rest class
         seen_room = let x = pair.1 in omega arith;
       }
 
-  pub unpair_next : IsUnpairing cs ns (suc i) P (rest % P) (class * c + rest / P / n) (seen * n + rest / P % n) next
+  pub unpair_next : IsUnpairing cs ns (suc i) P (rest % P) (class * c + rest / P / n)
+      (seen * n + rest / P % n) next
   unpair_next =
       let r = step_room in
       record {
@@ -227,7 +231,8 @@ module _ (cs ns : List ℕ) (alike : length ns ≡ length cs) (i left rest class
       (class * k + rest / (left / (k * o)) / o) (seen * o + rest / (left / (k * o)) % o) next
   code_next =
       let P = product (pair_counts (drop (suc i) cs) (drop (suc i) ns)) in
-      subst (λ (Q : ℕ). IsUnpairing cs ns (i + 1) Q (rest % Q) (class * k + rest / Q / o) (seen * o + rest / Q % o)
+      subst (λ (Q : ℕ). IsUnpairing cs ns (i + 1) Q (rest % Q) (class * k + rest / Q / o)
+      (seen * o + rest / Q % o)
       next) (sym after_is)
       (subst (λ (z : ℕ). IsUnpairing cs ns (i + 1) P (rest % P) (class * z + rest / P / o)
       (seen * o + rest / P % o) next) (sym ek)

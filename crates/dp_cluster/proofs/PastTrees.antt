@@ -40,7 +40,8 @@ trees_listed zero a g = refl
 trees_listed (suc n) a g =
     let first : a ≡ a + 0 = omega arith in
     λ j. more_trees (g (first j))
-    ((trees_listed n (a + 1) g ∙ trees_alike n (λ o. g (a + 1 + o)) (λ o. g (a + suc o)) (λ o. ap g (later o))) j)
+    ((trees_listed n (a + 1) g ∙ trees_alike n (λ o. g (a + 1 + o)) (λ o. g (a + suc o))
+    (λ o. ap g (later o))) j)
   where
     later : (o : ℕ) → a + 1 + o ≡ a + suc o
     later o = omega arith
@@ -82,7 +83,8 @@ stage_actions n zero ss ss' s e =
     ap (λ l. get_or (actions_after n l) (length ss') []) e
     ∙ ap (λ k. get_or (actions_after n ss' ++ all ∷ []) k []) (sym (as_many n ss'))
     ∙ last_of (actions_after n ss') all []
-stage_actions n (suc r) [] ss' s e = absurd (let no : 0 ≡ suc (length ss') = ap (λ l. length l) e in omega arith)
+stage_actions n (suc r) [] ss' s e = absurd (let no : 0 ≡ suc (length ss') = ap (λ l. length l) e in
+    omega arith)
 stage_actions n (suc r) (q ∷ qs) ss' s e =
     let rest = length-drop r qs in
     let size : length (drop r qs) ≡ suc (length ss') = ap (λ l. length l) e in
@@ -92,7 +94,8 @@ stage_actions n (suc r) (q ∷ qs) ss' s e =
     ∙ stage_actions n r qs ss' s e
 
 -- a stage that is read of shared stages
-pub stage_read : (past : List (Rc PastStage Global)) (left : ℕ) → 0 < left → left ≤ length (map (λ s. s.value) past)
+pub stage_read : (past : List (Rc PastStage Global)) (left : ℕ) → 0 < left
+    → left ≤ length (map (λ s. s.value) past)
     → (r : Rc PastStage Global) (s : PastStage) → r ≡ get_or past (left - 1) r → s ≡ r.value
     → s ≡ get_or (map (λ s. s.value) past) (left - 1) s
 stage_read past left some within r s read is =
@@ -131,7 +134,8 @@ module _ (n : ℕ) (ss : List PastStage) (past : ArePastStages n ss) (left : ℕ
       → class_after n (drop (left - 1) ss) (x * n + o) ≡ class_led_to s (c * n + o)
   leads_next x o c lt leads =
       ap (λ l. class_after n l (x * n + o)) here
-      ∙ (λ j. class_led_to s (class_after n (drop left ss) (div-mul-add x n o lt j) * n + mod-mul-add x n o lt j))
+      ∙ (λ j. class_led_to s (class_after n (drop left ss) (div-mul-add x n o lt j) * n + mod-mul-add x n o
+      lt j))
       ∙ ap (λ k. class_led_to s (k * n + o)) leads
 
   pub below_next : (t x o : ℕ) → x < n ^ t → o < n → x * n + o < n ^ suc t
@@ -178,7 +182,8 @@ module _ (n : ℕ) (ss : List PastStage) (past : ArePastStages n ss) (left : ℕ
       ≡ tree_doing_after n act left t x
   last_is t x c a ks e lt leads last action none =
       let one : left ≡ 1 = omega arith in
-      (λ j. node ((action ∙ sym (action_is t x c e lt leads)) j) (policy_trees (none j))) ∙ sym (doing_last t x one)
+      (λ j. node ((action ∙ sym (action_is t x c e lt leads)) j) (policy_trees (none j)))
+      ∙ sym (doing_last t x one)
 
   pub more_is : (t x c a : ℕ) (ks : List PolicyTree) (seen : ℕ) → t + left ≡ length ss → x < n ^ t
       → class_after n (drop left ss) x ≡ c
@@ -209,7 +214,8 @@ module _ (n : ℕ) (ss : List PastStage) (k : ℕ) (cs : List (Option ℕ)) (v :
       (length p.front.fixed)) is
 
 -- no own history is before the first stage
-pub first_class : (n : ℕ) (ss : List PastStage) (left : ℕ) → left ≡ length ss → class_after n (drop left ss) 0 ≡ 0
+pub first_class : (n : ℕ) (ss : List PastStage) (left : ℕ) → left ≡ length ss
+    → class_after n (drop left ss) 0 ≡ 0
 first_class n ss left e = ap (λ l. class_after n (drop l ss) 0) e ∙ none ss
   where
     none : (ss : List PastStage) → class_after n (drop (length ss) ss) 0 ≡ 0
@@ -226,7 +232,8 @@ pub fixed_stages : {f : ℕ} {bs ns : List ℕ} {ds : List AgentFront} → AreAg
     → (i : ℕ) (d : AgentFront)
     → i < length ds → get_or ds i d ≡ d → length d.fixed ≡ f
 fixed_stages no_agents i d lt read = absurd (omega arith)
-fixed_stages (and_agent is more) zero d lt read = ap (λ (z : AgentFront). length z.fixed) (sym read) ∙ is.of_stage
+fixed_stages (and_agent is more) zero d lt read = ap (λ (z : AgentFront). length z.fixed) (sym read)
+    ∙ is.of_stage
 fixed_stages (and_agent is more) (suc i) d lt read = fixed_stages more i d (omega arith) read
 
 pub doing_step : (f : ℕ) (ns : List ℕ) (ds : List AgentFront) (i n : ℕ) (d : AgentFront) → i < length ns

@@ -16,7 +16,8 @@ pub whole_sum : (k n : ℕ) (f : ℕ → Span) (total : Span) → total ≡ span
 whole_sum k n f total is all = is ∙ ap (λ (z : ℕ). span_sum z f) all
 
 pub reward_is : (A : Arithmetic) (m : Model) (r : ℕ) (ws : ℕ → Span) (a k : ℕ) (total : Span)
-    → total ≡ span_sum k (λ s. reward_from A m r (ws s) a s) → k ≡ m.states → total ≡ weighted_reward_in A m r ws a
+    → total ≡ span_sum k (λ s. reward_from A m r (ws s) a s) → k ≡ m.states
+    → total ≡ weighted_reward_in A m r ws a
 unfolding weighted_reward_in
 reward_is A m r ws a k total is all = is ∙ ap (λ (z : ℕ). span_sum z (λ s. reward_from A m r (ws s) a s)) all
 

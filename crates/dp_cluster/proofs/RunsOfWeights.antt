@@ -25,7 +25,8 @@ map_plus f a (suc b) =
     ∙ map-range_with_len_more f 0 (a + b) (a + b) (omega arith)
     ∙ ap (λ l. l ++ f (a + b) ∷ []) (map_plus f a b)
     ∙ append_assoc (map f (range_with_len 0 a)) (map (λ j. f (a + j)) (range_with_len 0 b)) (f (a + b) ∷ [])
-    ∙ ap (λ l. map f (range_with_len 0 a) ++ l) (sym (map-range_with_len_more (λ j. f (a + j)) 0 b b (omega arith)))
+    ∙ ap (λ l. map f (range_with_len 0 a) ++ l) (sym (map-range_with_len_more (λ j. f (a + j)) 0 b b
+    (omega arith)))
     ∙ ap (λ k. map f (range_with_len 0 a) ++ map (λ j. f (a + j)) (range_with_len 0 k)) next
 
 pub map_alike : (f g : ℕ → ℤ) (n : ℕ) → ((j : ℕ) → j < n → f j ≡ g j)
@@ -158,12 +159,14 @@ module _ (ws : List Span) (rows n w row a b : ℕ) (one other : List Span) (t u 
   in_proportion : (j : ℕ) → j < w → low_at one j * u ≡ low_at other j * t
       → AreInProportion ws n w (rows * w) a b (row * w + j)
   in_proportion j lt same =
-      (λ i. sym (first_here j lt) i * sym are.second_total i) ∙ same ∙ (λ i. second_here j lt i * are.first_total i)
+      (λ i. sym (first_here j lt) i * sym are.second_total i) ∙ same
+      ∙ (λ i. second_here j lt i * are.first_total i)
 
   as_runs : (j : ℕ) → j < w → AreInProportion ws n w (rows * w) a b (row * w + j)
       → low_at one j * u ≡ low_at other j * t
   as_runs j lt same =
-      (λ i. first_here j lt i * are.second_total i) ∙ same ∙ (λ i. sym (second_here j lt) i * sym are.first_total i)
+      (λ i. first_here j lt i * are.second_total i) ∙ same ∙ (λ i. sym (second_here j lt)
+      i * sym are.first_total i)
 
   -- a place before the next row is before this one or in it
   by_row : (P : ℕ → Type 0) → ((p : ℕ) → p < row * w → P p) → ((j : ℕ) → j < w → P (row * w + j)) → (stop p : ℕ)
@@ -171,7 +174,8 @@ module _ (ws : List Span) (rows n w row a b : ℕ) (one other : List Span) (t u 
   by_row P before here stop p le lt =
       elim (le_or_lt (row * w) p) [
         | inl later ↦
-            let back : row * w + (p - row * w) ≡ p = omega arith in subst P back (here (p - row * w) (omega arith))
+            let back : row * w + (p - row * w) ≡ p = omega arith in
+            subst P back (here (p - row * w) (omega arith))
         | inr earlier ↦ before p earlier
       ]
 

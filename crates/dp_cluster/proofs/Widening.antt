@@ -62,7 +62,8 @@ widens_by_room m k is joint seen ej es r room lt =
     ap not (room ∙ ap (is_room m) (next_classes m k is joint seen ej es))
     ∙ ap (λ b. b && not (is_room m (product (next_class_counts m.observations k.front.agents)))) (sym early)
 
-pub widens_not : (m : Model) (k : KeptFront) → k.horizon ≤ suc k.front.stage → false ≡ widens m k.horizon k.front
+pub widens_not : (m : Model) (k : KeptFront) → k.horizon ≤ suc k.front.stage
+    → false ≡ widens m k.horizon k.front
 unfolding widens
 widens_not m k le =
     let late : nat_lt (suc k.front.stage) k.horizon ≡ false = grind (arith, nat_tests) in

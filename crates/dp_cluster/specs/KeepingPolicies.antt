@@ -21,4 +21,5 @@ KeepsToo m F G = (qs : List PolicyTree) → KeepsFront m F qs → KeepsFront m G
 abbrev pub LosesNothing : Model → ℕ → Front → Front → Type 0
 LosesNothing m h F G =
     (qs : List PolicyTree) → IsPolicyOf m h qs → KeepsFront m F qs →
-    (new : List PolicyTree) × IsPolicyOf m h new × KeepsFront m G new × (policy_value m h qs ≤ℤ policy_value m h new)
+    (new : List PolicyTree) × IsPolicyOf m h new × KeepsFront m G new
+    × (policy_value m h qs ≤ℤ policy_value m h new)

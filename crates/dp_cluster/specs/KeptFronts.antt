@@ -72,4 +72,5 @@ pub record IsFrontOf (m : Model) (k : KeptFront) : Type 0 where
   pub weights : k.front.stage < k.horizon → (C s : ℕ) → C < product (class_counts k.front.agents) → s < m.states
       → kept_weight k C s ≡ class_weight_in (arithmetic k.is_exact m.scales) m k.front C s
   pub earned : k.earned
-      ≡ earned_reward_in (arithmetic k.is_exact m.scales) m (fixed_joint_action m k.front) k.horizon k.front.stage
+      ≡ earned_reward_in (arithmetic k.is_exact m.scales) m (fixed_joint_action m k.front)
+      k.horizon k.front.stage

@@ -15,7 +15,8 @@ other_default (z ∷ xs) zero x y lt = refl
 other_default (z ∷ xs) (suc i) x y lt = other_default xs i x y (omega arith)
 
 -- a place for each agent in each joint action
-pub places_in : (bs : List ℕ) (count : ℕ) (all : List ℕ) (a j : ℕ) → AreActionParts bs count all → a < product bs →
+pub places_in : (bs : List ℕ) (count : ℕ) (all : List ℕ) (a j : ℕ) → AreActionParts bs count all
+    → a < product bs →
     j < length bs
     → a * length bs + j < length all
 places_in bs count all a j is ha hj =
@@ -25,7 +26,8 @@ places_in bs count all a j is ha hj =
     omega arith
 
 -- the part there
-pub part_is : (bs : List ℕ) (count : ℕ) (all : List ℕ) (a j : ℕ) → AreActionParts bs count all → a < product bs → j
+pub part_is : (bs : List ℕ) (count : ℕ) (all : List ℕ) (a j : ℕ) → AreActionParts bs count all
+    → a < product bs → j
     < length bs
     → get_or all (a * length bs + j) 0 ≡ get_or (parts_of bs a) j 0
 part_is bs count all a j is ha hj =
@@ -33,16 +35,19 @@ part_is bs count all a j is ha hj =
     ∙ rows_at (parts_of bs) (length bs) (product bs) a j 0 (λ C lt. length-parts_of bs C) ha hj
 
 -- as the code reads it
-pub part_read : (bs : List ℕ) (count : ℕ) (all items : List ℕ) (a j n x : ℕ) → AreActionParts bs count all → items ≡
+pub part_read : (bs : List ℕ) (count : ℕ) (all items : List ℕ) (a j n x : ℕ) → AreActionParts bs count all
+    → items ≡
     all → n ≡ length bs
     → a < product bs → j < length bs → get_or items (a * n + j) x ≡ get_or (parts_of bs a) j 0
 part_read bs count all items a j n x is same many ha hj =
     let inside : a * length bs + j < length all = places_in bs count all a j is ha hj in
-    (λ i. get_or (same i) (a * many i + j) x) ∙ other_default all (a * length bs + j) x 0 inside ∙ part_is bs count
+    (λ i. get_or (same i) (a * many i + j) x) ∙ other_default all (a * length bs + j) x 0 inside
+    ∙ part_is bs count
     all a j is ha hj
 
 -- and where
-pub action_room : (bs : List ℕ) (count : ℕ) (all : List ℕ) (a : ℕ) → AreActionParts bs count all → a < product bs
+pub action_room : (bs : List ℕ) (count : ℕ) (all : List ℕ) (a : ℕ) → AreActionParts bs count all
+    → a < product bs
     → a * length bs < 2 ^ 11
 action_room bs count all a is ha =
     let few = is.few in let agents = is.agents in

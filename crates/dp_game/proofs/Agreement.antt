@@ -32,7 +32,8 @@ none_left [] (suc j) le = refl
 none_left (x ∷ xs) zero le = absurd (omega arith)
 none_left (x ∷ xs) (suc j) le = none_left xs j (omega arith)
 
-pub agree_end : (os : List (Option ℕ)) (as' : List ℕ) (j : ℕ) → length os ≤ j → each_agrees (drop j os) (drop j as')
+pub agree_end : (os : List (Option ℕ)) (as' : List ℕ) (j : ℕ) → length os ≤ j
+    → each_agrees (drop j os) (drop j as')
     ≡ true
 agree_end os as' j le = ap (λ l. each_agrees l (drop j as')) (none_left os j le)
 
@@ -49,7 +50,8 @@ greatest_with f a [] = refl
 greatest_with f a (x ∷ xs) = refl
 
 -- after number k, which passes or not
-module _ (f : ℕ → ℤ) (p : ℕ → Bool) (k : ℕ) (some now : Bool) (best x new : ℤ) (is_now : now ≡ p k) (ex : x ≡ f k)
+module _ (f : ℕ → ℤ) (p : ℕ → Bool) (k : ℕ) (some now : Bool) (best x new : ℤ) (is_now : now ≡ p k)
+    (ex : x ≡ f k)
     (some_is : some ≡ has_some (filter p (numbers_below k)))
     (best_is : best ≡ greatest f (filter p (numbers_below k)))
     (is : new ≡ cond now (cond some (int_max x best) x) best) where
@@ -93,9 +95,11 @@ row_greatest bs table os C =
     get_or-take (product bs) (drop (C * product bs) table) a (pos 0) lt ∙ get_or-drop (C * product bs) table a
     (pos 0))
 
-pub greatest_read : (bs : List ℕ) (table row : List ℤ) (wanted os : List (Option ℕ)) (C count agents : ℕ) (x : ℤ) →
+pub greatest_read : (bs : List ℕ) (table row : List ℤ) (wanted os : List (Option ℕ)) (C count agents : ℕ)
+    (x : ℤ) →
     count ≡ product bs
-    → agents ≡ length bs → row ≡ take count (drop (C * count) table) → os ≡ take agents (drop (C * agents) wanted)
+    → agents ≡ length bs → row ≡ take count (drop (C * count) table)
+    → os ≡ take agents (drop (C * agents) wanted)
     → x ≡ greatest (λ a. get_or row a (pos 0)) (allowed_actions bs os) → x ≡ greatest_in bs table wanted C
 greatest_read bs table row wanted os C count agents x ec ea er eo is =
     is ∙ (λ j. greatest (λ a. get_or (row_is j) a (pos 0)) (allowed_actions bs (os_is j)))

@@ -35,7 +35,8 @@ module _ (m : Model) (h look : ℕ) (F : Front) (g : KeptGame) (is : IsGameOf m 
 
   -- what a joint class of the front can earn by its best joint action
   abbrev pub best_of : ℕ → ℤ
-  best_of C = greatest (λ a. action_look_ahead_in A m left (class_weight_in A m F C) a look) (agreeing_actions m F C)
+  best_of C = greatest (λ a. action_look_ahead_in A m left (class_weight_in A m F C) a look)
+      (agreeing_actions m F C)
 
   pub classes_are : joint_classes g ≡ product (class_counts F.agents)
   classes_are = ap (λ oss. product (own_counts oss)) is.choices ∙ ap product (counts_of F.agents)
@@ -44,7 +45,8 @@ module _ (m : Model) (h look : ℕ) (F : Front) (g : KeptGame) (is : IsGameOf m 
   best_is C lt =
       (λ j. greatest (entry g C) (allowed_actions (is.actions j) (choices_in (is.choices j) C)))
       ∙ ap (greatest (entry g C)) (sym (agreeing_are_allowed m F C))
-      ∙ greatest_ext (entry g C) _ (agreeing_actions m F C) (λ a i. is.entries C a lt (agreeing_below m F C a i))
+      ∙ greatest_ext (entry g C) _ (agreeing_actions m F C) (λ a i. is.entries C a lt
+      (agreeing_below m F C a i))
 
   steps : F.stage + suc left ≡ h
   steps = let early = is.early in omega arith
@@ -76,14 +78,16 @@ module _ (m : Model) (h look : ℕ) (F : Front) (g : KeptGame) (is : IsGameOf m 
       let sizes : nat_sum (joint_classes g) (λ C. unsigned_abs (best_entry g C)) ≡ nat_sum
       (product (class_counts F.agents)) (λ C. unsigned_abs (best_of C)) =
       ap (λ (n : ℕ). nat_sum n (λ C. unsigned_abs (best_entry g C))) classes_are
-      ∙ nat_sum_ext (product (class_counts F.agents)) _ _ (λ C lt. ap (λ (x : ℤ). unsigned_abs x) (best_is C lt)) in
+      ∙ nat_sum_ext (product (class_counts F.agents)) _ _ (λ C lt. ap (λ (x : ℤ). unsigned_abs x)
+      (best_is C lt)) in
       rw sizes (omega arith)
 
   pub bounds_keepers : BoundsKeepers m h F (game_bound g)
   bounds_keepers qs policy keeps =
       let law = keeper_under_computed_bound m is.model h look F qs (is_exact_mode m h) is.front policy keeps in
       let unit = mode_unit m h (is_exact_mode m h) refl in
-      subst (λ (x : ℤ). (policy_value m h qs *ℤ pos (unit_of m h)) ≤ℤ (x *ℤ pos (value_scale m h))) (sym bound_is)
+      subst (λ (x : ℤ). (policy_value m h qs *ℤ pos (unit_of m h)) ≤ℤ (x *ℤ pos (value_scale m h)))
+      (sym bound_is)
       (subst (λ (u : ℕ). (policy_value m h qs *ℤ pos u) ≤ℤ (front_bound A m h look F *ℤ pos (value_scale m h)))
       (sym unit) law)
 
@@ -108,7 +112,8 @@ module _ (m : Model) (h look : ℕ) (F : Front) (g : KeptGame) (is : IsGameOf m 
 
   pub agents_are : length g.actions ≡ length g.choices
   agents_are =
-      ap (λ (l : List ℕ). length l) is.actions ∙ sym (agents_of is.front.agents) ∙ sym (as_many_choices F.agents) ∙
+      ap (λ (l : List ℕ). length l) is.actions ∙ sym (agents_of is.front.agents)
+      ∙ sym (as_many_choices F.agents) ∙
       ap (λ oss. length oss) (sym is.choices)
 
 -- ---- of a game of some front
@@ -142,7 +147,8 @@ factor_most m i is inside =
     let few = is.sizes.joint_actions_limit in omega arith
 
 -- an action of an agent fits in a byte
-pub action_small : (g : KeptGame) (i a : ℕ) → IsOfSomeFront g → i < length g.choices → a < get_or g.actions i 0 → a
+pub action_small : (g : KeptGame) (i a : ℕ) → IsOfSomeFront g → i < length g.choices
+    → a < get_or g.actions i 0 → a
     < 256
 action_small g i a o hi ha =
     let m = o.0 in

@@ -38,11 +38,13 @@ assigned_has (d ∷ ds) (suc i) c a has = later d ds i c (Some a) (assigned_has 
 module _ (m : Model) (h look : ℕ) (F : Front) (g : KeptGame) (is : IsGameOf m h look F g) (i c : ℕ) where
   -- a class of the front without an action, for `choose`
   pub unassigned_in_game : IsUnassigned i c F.agents → HasChoice g.choices i c None
-  unassigned_in_game free = subst (λ oss. HasChoice oss i c None) (sym is.choices) (unassigned_has F.agents i c free)
+  unassigned_in_game free = subst (λ oss. HasChoice oss i c None) (sym is.choices)
+      (unassigned_has F.agents i c free)
 
   -- a class of the front with an action, for `unchoose`
   pub assigned_in_game : (a : ℕ) → HasAction i c a F.agents → HasChoice g.choices i c (Some a)
-  assigned_in_game a has = subst (λ oss. HasChoice oss i c (Some a)) (sym is.choices) (assigned_has F.agents i c a has)
+  assigned_in_game a has = subst (λ oss. HasChoice oss i c (Some a)) (sym is.choices)
+      (assigned_has F.agents i c a has)
 
   -- an action of the agent
   pub action_in_game : (a : ℕ) → a < get_or m.actions i 0 → a < get_or g.actions i 0

@@ -29,13 +29,15 @@ row_is oss wanted C room each =
     get_or-take n (drop (C * n) wanted) j None lt' ∙ get_or-drop (C * n) wanted j None ∙ each j lt')
 
 -- the first x joint classes that hold class c of agent i have choice o there, and the others are as before
-pub record IsChanging (g : KeptGame) (i c : ℕ) (o : Option ℕ) (x : ℕ) (wanted : List (Option ℕ)) (best : List ℤ) :
+pub record IsChanging (g : KeptGame) (i c : ℕ) (o : Option ℕ) (x : ℕ) (wanted : List (Option ℕ))
+    (best : List ℤ) :
     Type 0 where
   pub as_long : length wanted ≡ product (own_counts g.choices) * length g.choices
   pub one_each : length best ≡ product (own_counts g.choices)
   pub done : (y : ℕ) → y < x → y < product (without i (own_counts g.choices))
       → IsKeptAt (with_own_choice g i c o) wanted best (placed_number i (own_counts g.choices) c y)
-  pub rest : (b y : ℕ) → b < get_or (own_counts g.choices) i 0 → y < product (without i (own_counts g.choices)) →
+  pub rest : (b y : ℕ) → b < get_or (own_counts g.choices) i 0
+      → y < product (without i (own_counts g.choices)) →
       (b ≡ c → x ≤ y)
       → IsKeptAt g wanted best (placed_number i (own_counts g.choices) b y)
 
@@ -86,7 +88,8 @@ module _ (g : KeptGame) (i c : ℕ) (o : Option ℕ) (hi : i < length g.choices)
 
   there : (C : ℕ) → get_or (parts_of counts C) i 0 ≡ c → get_or (choices_in changed.choices C) i None ≡ o
   there C e =
-      new_choice C i hi ∙ (λ j. get_or (own_list j) (e j) None) ∙ get_or-set_same (get_or g.choices i []) c o None hc
+      new_choice C i hi ∙ (λ j. get_or (own_list j) (e j) None)
+      ∙ get_or-set_same (get_or g.choices i []) c o None hc
 
   of_others : (C j : ℕ) → j < n → j ≢ i → get_or (choices_in changed.choices C) j None ≡ get_or
       (choices_in g.choices C) j None
@@ -96,7 +99,8 @@ module _ (g : KeptGame) (i c : ℕ) (o : Option ℕ) (hi : i < length g.choices)
       (get_or-set_other g.choices i j (set (get_or g.choices i []) c o) [] ne)
       ∙ sym (old_choice C j lt)
 
-  not_there : (C : ℕ) → get_or (parts_of counts C) i 0 ≢ c → get_or (choices_in changed.choices C) i None ≡ get_or
+  not_there : (C : ℕ) → get_or (parts_of counts C) i 0 ≢ c → get_or (choices_in changed.choices C) i None
+      ≡ get_or
       (choices_in g.choices C) i None
   not_there C ne =
       new_choice C i hi ∙ ap (λ os. get_or os (get_or (parts_of counts C) i 0) None) own_list
@@ -112,7 +116,8 @@ module _ (g : KeptGame) (i c : ℕ) (o : Option ℕ) (hi : i < length g.choices)
         | inr other ↦ of_others C j lt other
       ]
 
-  elsewhere : (C : ℕ) → get_or (parts_of counts C) i 0 ≢ c → choices_in changed.choices C ≡ choices_in g.choices C
+  elsewhere : (C : ℕ) → get_or (parts_of counts C) i 0 ≢ c → choices_in changed.choices C
+      ≡ choices_in g.choices C
   elsewhere C ne =
       let old_long = length-choices_for g.choices (parts_of counts C) (parts_long C) in
       let new_long =
@@ -134,15 +139,18 @@ module _ (g : KeptGame) (i c : ℕ) (o : Option ℕ) (hi : i < length g.choices)
     best = is;
   }
 
-  changed_choice : (wanted : List (Option ℕ)) (best : List ℤ) (C : ℕ) → IsKeptAt changed wanted best C → (j : ℕ) → j
+  changed_choice : (wanted : List (Option ℕ)) (best : List ℤ) (C : ℕ) → IsKeptAt changed wanted best C
+      → (j : ℕ) → j
       < n
       → get_or wanted (C * n + j) None ≡ get_or (choices_in changed.choices C) j None
   changed_choice wanted best C kept j lt =
-      ap (λ (k : ℕ). get_or wanted (C * k + j) None) (sym as_many) ∙ kept.choices j (let e = as_many in omega arith)
+      ap (λ (k : ℕ). get_or wanted (C * k + j) None) (sym as_many)
+      ∙ kept.choices j (let e = as_many in omega arith)
 
   -- ---- joint class by joint class
 
-  pub changing_start : (wanted : List (Option ℕ)) (best : List ℤ) → length wanted ≡ product counts * n → length best
+  pub changing_start : (wanted : List (Option ℕ)) (best : List ℤ) → length wanted ≡ product counts * n
+      → length best
       ≡ product counts
       → ((C : ℕ) → C < product counts → IsKeptAt g wanted best C) → IsChanging g i c o 0 wanted best
   changing_start wanted best long one each = record {
@@ -152,7 +160,8 @@ module _ (g : KeptGame) (i c : ℕ) (o : Option ℕ) (hi : i < length g.choices)
     rest = λ b y hb hy le. each (place i counts hi' b y) (place_in i counts hi' b y hb hy);
   }
 
-  pub changing_end : (x : ℕ) (wanted : List (Option ℕ)) (best : List ℤ) → others i counts hi' ≤ x → IsChanging g i c
+  pub changing_end : (x : ℕ) (wanted : List (Option ℕ)) (best : List ℤ) → others i counts hi' ≤ x
+      → IsChanging g i c
       o x wanted best
       → (C : ℕ) → C < product counts → IsKeptAt changed wanted best C
   changing_end x wanted best le u C lt =
@@ -202,7 +211,8 @@ module _ (g : KeptGame) (i c : ℕ) (o : Option ℕ) (hi : i < length g.choices)
     new_at j hj =
         elim (cases_eq j i) [
           | inl e ↦
-              ap (λ (z : ℕ). get_or new_wanted (J * n + z) None) e ∙ get_or-set_same wanted (J * n + i) o None room
+              ap (λ (z : ℕ). get_or new_wanted (J * n + z) None) e
+              ∙ get_or-set_same wanted (J * n + i) o None room
               ∙ sym (there J here_part)
               ∙ ap (λ (z : ℕ). get_or (choices_in changed.choices J) z None) (sym e)
           | inr ne ↦
@@ -244,7 +254,8 @@ module _ (g : KeptGame) (i c : ℕ) (o : Option ℕ) (hi : i < length g.choices)
       aside_changed : (D : ℕ) → D ≢ J → IsKeptAt changed wanted best D → IsKeptAt changed new_wanted new_best D
       aside_changed D ne kept =
           kept_changed new_wanted new_best D
-          (λ j hj. get_or-set_other wanted (J * n + i) (D * n + j) o None (other_place D j hj ne) ∙ changed_choice
+          (λ j hj. get_or-set_other wanted (J * n + i) (D * n + j) o None (other_place D j hj ne)
+          ∙ changed_choice
           wanted best D kept j hj)
           (get_or-set_other best J D v (pos 0) ne ∙ kept.best)
 
@@ -260,11 +271,13 @@ module _ (g : KeptGame) (i c : ℕ) (o : Option ℕ) (hi : i < length g.choices)
               aside_changed (place i counts hi' c y) apart (u.done y early hy)
           | inr late ↦
               let now : y ≡ x = omega arith in
-              subst (λ (z : ℕ). IsKeptAt changed new_wanted new_best (place i counts hi' c z)) (sym now) kept_here
+              subst (λ (z : ℕ). IsKeptAt changed new_wanted new_best (place i counts hi' c z)) (sym now)
+              kept_here
         ];
         rest = λ b y hb hy le.
             let apart : place i counts hi' b y ≢ J =
-            λ e. let same = placed_injective i counts b y c x hi' hb hy class_in hx e in let more = le same.0 in let
+            λ e. let same = placed_injective i counts b y c x hi' hb hy class_in hx e in
+            let more = le same.0 in let
             at = same.1 in absurd (omega arith) in
             aside (place i counts hi' b y) apart (u.rest b y hb hy (λ e. let more = le e in omega arith));
       }
@@ -281,7 +294,8 @@ pub changing_on : (g : KeptGame) (i c : ℕ) (o : Option ℕ) (hi : i < length g
 changing_on g i c o hi hc x hx wanted wanted' best best' v J n u at many agents ew eb ev =
     let wanted_is : wanted' ≡ set wanted (placed_number i (own_counts g.choices) c x * length g.choices + i) o =
     ew ∙ (λ j. set wanted (at j * many j + i) o) in
-    let best_is : best' ≡ set best (placed_number i (own_counts g.choices) c x) v = eb ∙ (λ j. set best (at j) v) in
+    let best_is : best' ≡ set best (placed_number i (own_counts g.choices) c x) v = eb
+    ∙ (λ j. set best (at j) v) in
     let is : v ≡ greatest_in g.actions g.table (set wanted
     (placed_number i (own_counts g.choices) c x * length g.choices + i) o)
     (placed_number i (own_counts g.choices) c x) =

@@ -18,7 +18,8 @@ use Rattle.dp_game.proofs.OwnChoices.{as_many_choices, assigned_of, choices_made
 record AreAlike (A : Arithmetic) (m : Model) (h : ℕ) (F G : Front) : Type 0 where
   counts : class_counts G.agents ≡ class_counts F.agents
   weights : class_weight_in A m G ≡ class_weight_in A m F
-  earned : earned_reward_in A m (fixed_joint_action m G) h F.stage ≡ earned_reward_in A m (fixed_joint_action m F) h
+  earned : earned_reward_in A m (fixed_joint_action m G) h F.stage
+      ≡ earned_reward_in A m (fixed_joint_action m F) h
       F.stage
 
 module _ (A : Arithmetic) (m : Model) (h : ℕ) (F : Front) (i c a : ℕ) where
@@ -37,7 +38,8 @@ module _ (A : Arithmetic) (m : Model) (h : ℕ) (F : Front) (i c a : ℕ) where
   }
 
 -- a front before a choice is taken back, from the one after it
-unchosen_alike : (A : Arithmetic) (m : Model) (h : ℕ) (F : Front) (i c a : ℕ) → HasAction i c a F.agents → AreAlike
+unchosen_alike : (A : Arithmetic) (m : Model) (h : ℕ) (F : Front) (i c a : ℕ) → HasAction i c a F.agents
+    → AreAlike
     A m h F (unchosen_front F i c)
 unchosen_alike A m h F i c a has =
     let U = unchosen_front F i c in
@@ -45,7 +47,8 @@ unchosen_alike A m h F i c a has =
     let alike = chosen_alike A m h U i c a in record {
       counts = sym alike.counts ∙ ap (λ (G : Front). class_counts G.agents) back;
       weights = sym alike.weights ∙ ap (λ (G : Front). class_weight_in A m G) back;
-      earned = sym alike.earned ∙ ap (λ (G : Front). earned_reward_in A m (fixed_joint_action m G) h F.stage) back;
+      earned = sym alike.earned ∙ ap (λ (G : Front). earned_reward_in A m (fixed_joint_action m G) h F.stage)
+          back;
     }
 
 -- a game of one is a game of the other, with the other's choices
@@ -82,10 +85,12 @@ module _ (m : Model) (h look : ℕ) (F : Front) (g : KeptGame) (is : IsGameOf m 
   own : get_or (get_or g.choices i []) c None ≡ get_or (get_or (choices_of F.agents) i []) c None
   own = ap (λ oss. get_or (get_or oss i []) c None) is.choices
 
-  pub chosen_game : (a : ℕ) → c < length (get_or g.choices i []) → own_choice g i c ≡ None → a < get_or g.actions i 0
+  pub chosen_game : (a : ℕ) → c < length (get_or g.choices i []) → own_choice g i c ≡ None
+      → a < get_or g.actions i 0
       → IsGameOf m h look (chosen_front F i c a) (with_own_choice g i c (Some a))
   chosen_game a hc none ha =
-      let free = unassigned_of i c F.agents (rw (sym is.choices) hi) (rw (sym is.choices) hc) (sym own ∙ none) in
+      let free = unassigned_of i c F.agents (rw (sym is.choices) hi) (rw (sym is.choices) hc)
+      (sym own ∙ none) in
       let action : a < get_or m.actions i 0 = rw (sym is.actions) ha in
       let choices = ap (λ oss. set oss i (set (get_or oss i []) c (Some a))) is.choices ∙ sym
       (choices_made i c a F.agents agent_in) in

@@ -80,7 +80,8 @@ module _ (i : ℕ) (ns : List ℕ) (hi : i < length ns) where
   pub as_many_places : product ns ≡ others * count
   as_many_places =
       let split = product_split i ns hi in let whole = product_without i ns hi in
-      split ∙ regroup (product (take i ns)) count (product (drop (suc i) ns)) ∙ ap (λ (z : ℕ). z * count) (sym whole)
+      split ∙ regroup (product (take i ns)) count (product (drop (suc i) ns))
+      ∙ ap (λ (z : ℕ). z * count) (sym whole)
     where
       regroup : (h n l : ℕ) → h * n * l ≡ h * l * n
       regroup h n l = omega arith
@@ -138,7 +139,8 @@ module _ (i : ℕ) (ns : List ℕ) (hi : i < length ns) where
       (place c y))
       → other_sum f b ≡ other_sum g b
   other_sum_kept f g b same = int_sum_ext count _ _ (λ c p. elim (cases_eq c b) [
-    | inl e ↦ let here : eqb b c ≡ true = grind (arith, nat_tests) in (λ j. cond (here j) (pos 0) (class_sum f c)) ∙
+    | inl e ↦ let here : eqb b c ≡ true = grind (arith, nat_tests) in
+        (λ j. cond (here j) (pos 0) (class_sum f c)) ∙
         (λ j. cond (sym here j) (pos 0) (class_sum g c))
     | inr ne ↦ ap (λ x. cond (eqb b c) (pos 0) x) (int_sum_ext others _ _ (λ y q. same c y p q ne))
   ])

@@ -79,7 +79,8 @@ module _ (m : Model) (k : KeptFront) (b : KeptBounder) (is : IsFrontOf m k) (bo 
 
   weights_are : (s : ℕ) → s < m.states → weights_of ws s ≡ class_weight_in A m k.front C s
   weights_are s p =
-      ap (λ l. weights_of l s) are ∙ made_at n s (point (pos 0)) (kept_weight k C) (rw all p) ∙ is.weights lt C s hC p
+      ap (λ l. weights_of l s) are ∙ made_at n s (point (pos 0)) (kept_weight k C) (rw all p)
+      ∙ is.weights lt C s hC p
       ∙ ap (λ (e : Bool). class_weight_in (arithmetic e m.scales) m k.front C s) one_mode
 
   pub row_weights : AreWeights b.is_exact m k.front.stage (weights_of ws)
@@ -111,5 +112,6 @@ are_parts ns C ps lt is =
           ns (parts_of ns C) p below;
     })
 
-pub number_is : (ns : List ℕ) (C : ℕ) (ps : List ℕ) → C < product ns → ps ≡ parts_of ns C → joint_number ns ps ≡ C
+pub number_is : (ns : List ℕ) (C : ℕ) (ps : List ℕ) → C < product ns → ps ≡ parts_of ns C
+    → joint_number ns ps ≡ C
 number_is ns C ps lt is = ap (joint_number ns) is ∙ joint_number-parts_of ns C lt

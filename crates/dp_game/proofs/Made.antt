@@ -52,7 +52,8 @@ room_entries : (m : Model) (h : ℕ) (F : Front) → F.stage < h → has_room m 
     (class_counts F.agents) * joint_actions m ≤ 2 ^ 24
 unfolding has_room
 room_entries m h F lt e =
-    let room = ap (λ b. b || is_room m (product (class_counts F.agents))) (sym (other_stage F.stage h lt)) ∙ e in
+    let room = ap (λ b. b || is_room m (product (class_counts F.agents))) (sym (other_stage F.stage h lt))
+    ∙ e in
     let le = room_actions m (product (class_counts F.agents)) room in omega arith
 
 -- ---- actions that are chosen fit in a byte
@@ -76,7 +77,8 @@ choice_small (and_agent {b = b} {bs = bs} k ks) some few (suc i) c a e =
     let swapped : product bs * b ≤ 256 = omega arith in
     choice_small ks (positive_right b (product bs) 0 some) (count_most (product bs) b 256 one swapped) i c a e
 
-pub choices_small : (m : Model) (k : KeptFront) → IsFrontOf m k → (i c a : ℕ) → choice_at k.front.agents i c ≡ Some
+pub choices_small : (m : Model) (k : KeptFront) → IsFrontOf m k → (i c a : ℕ)
+    → choice_at k.front.agents i c ≡ Some
     a → a < 256
 unfolding joint_actions
 choices_small m k is i c a e = choice_small is.front.agents is.model.sizes.some_action
@@ -84,7 +86,8 @@ choices_small m k is i c a e = choice_small is.front.agents is.model.sizes.some_
 
 -- ---- how long the lists are
 
-pub table_rows : (A : Arithmetic) (m : Model) (r look count : ℕ) (F : Front) (actions : List ℕ) (table : List ℤ) →
+pub table_rows : (A : Arithmetic) (m : Model) (r look count : ℕ) (F : Front) (actions : List ℕ)
+    (table : List ℤ) →
     actions ≡ m.actions
     → table ≡ rows_of (look_ahead_row A m r F look) count → length table ≡ count * product actions
 unfolding joint_actions
@@ -111,7 +114,8 @@ wanted_rows m k is actions choices wanted count ea eo ew =
 -- ---- the game
 
 module _ (m : Model) (k : KeptFront) (b : KeptBounder) (is : IsFrontOf m k) (bo : IsBounderOf m b)
-    (same : k.horizon ≡ b.horizon) (lt : k.front.stage < k.horizon) (room : has_room m k.horizon k.front ≡ true) where
+    (same : k.horizon ≡ b.horizon) (lt : k.front.stage < k.horizon)
+    (room : has_room m k.horizon k.front ≡ true) where
   pub cells : k.is_exact ≡ false → m.states * joint_observations m ^ k.front.stage ≤ 2 ^ 22
   cells e = apart_within_cells m k.horizon k.front is.front lt (is.apart e) room
 
@@ -123,7 +127,8 @@ module _ (m : Model) (k : KeptFront) (b : KeptBounder) (is : IsFrontOf m k) (bo 
       (ea : actions ≡ m.actions) (eo : choices ≡ choices_of k.front.agents)
       (ec : count ≡ product (own_counts choices)) (et : table ≡ rows_of
       (look_ahead_row (arithmetic b.is_exact m.scales) m (b.horizon - k.front.stage - 1) k.front b.look) count)
-      (ee : earned ≡ earned_reward_in (arithmetic k.is_exact m.scales) m (fixed_joint_action m k.front) k.horizon
+      (ee : earned ≡ earned_reward_in (arithmetic k.is_exact m.scales) m (fixed_joint_action m k.front)
+      k.horizon
       k.front.stage) where
     abbrev pub g : KeptGame
     g = game_with actions choices table earned.high
@@ -146,7 +151,8 @@ module _ (m : Model) (k : KeptFront) (b : KeptBounder) (is : IsFrontOf m k) (bo 
         (class_weight_in (arithmetic b.is_exact m.scales) m k.front C) a b.look
     entry_is C a hC ha =
         ap (λ l. get_or l (C * joint_actions m + a) (pos 0)) et
-        ∙ rows_at (look_ahead_row (arithmetic b.is_exact m.scales) m (b.horizon - k.front.stage - 1) k.front b.look)
+        ∙ rows_at (look_ahead_row (arithmetic b.is_exact m.scales) m (b.horizon - k.front.stage - 1)
+        k.front b.look)
         (joint_actions m) count C a (pos 0) row_long hC ha
         ∙ made_at (joint_actions m) a (pos 0) _ ha
 
@@ -167,7 +173,8 @@ module _ (m : Model) (k : KeptFront) (b : KeptBounder) (is : IsFrontOf m k) (bo 
       choices = eo;
       long =
           ap (λ (l : List ℤ). length l) et
-          ∙ rows_length (look_ahead_row (arithmetic b.is_exact m.scales) m (b.horizon - k.front.stage - 1) k.front
+          ∙ rows_length (look_ahead_row (arithmetic b.is_exact m.scales) m (b.horizon - k.front.stage - 1)
+          k.front
           b.look) (joint_actions m) count row_long
           ∙ ap (λ (n : ℕ). n * joint_actions m) many;
       entries = λ C a hC ha.
@@ -175,7 +182,8 @@ module _ (m : Model) (k : KeptFront) (b : KeptBounder) (is : IsFrontOf m k) (bo 
           ∙ (λ j. action_look_ahead_in (arithmetic (modes j) m.scales) m (sym same j - k.front.stage - 1)
           (class_weight_in (arithmetic (modes j) m.scales) m k.front C) a b.look);
       earned = ap (λ (w : Span). w.high) ee ∙ ap (λ e.
-          (earned_reward_in (arithmetic e m.scales) m (fixed_joint_action m k.front) k.horizon k.front.stage).high)
+          (earned_reward_in (arithmetic e m.scales) m (fixed_joint_action m k.front)
+          k.horizon k.front.stage).high)
           is.mode;
     }
 
@@ -196,10 +204,12 @@ module _ (m : Model) (k : KeptFront) (b : KeptBounder) (is : IsFrontOf m k) (bo 
           (length-parts_of (own_counts choices) C ∙ as_many_own choices)
 
       pub wanted_long : length wanted ≡ count * length choices
-      wanted_long = ap (λ (l : List (Option ℕ)). length l) ew ∙ rows_length (choices_in choices) (length choices)
+      wanted_long = ap (λ (l : List (Option ℕ)). length l) ew
+          ∙ rows_length (choices_in choices) (length choices)
           count in_row
 
-      wanted_at : (C j : ℕ) → C < count → j < length choices → get_or wanted (C * length choices + j) None ≡ get_or
+      wanted_at : (C j : ℕ) → C < count → j < length choices
+          → get_or wanted (C * length choices + j) None ≡ get_or
           (choices_in choices C) j None
       wanted_at C j hC hj =
           ap (λ (l : List (Option ℕ)). get_or l (C * length choices + j) None) ew ∙ rows_at (choices_in choices)

@@ -85,7 +85,8 @@ length-choices_for [] cs e = refl
 length-choices_for (os ∷ oss) [] e = absurd (omega arith)
 length-choices_for (os ∷ oss) (c ∷ cs) e = let l = length-choices_for oss cs (omega arith) in omega arith
 
-pub choices_for_at : (oss : List (List (Option ℕ))) (cs : List ℕ) (j : ℕ) → j < length oss → length cs ≡ length oss
+pub choices_for_at : (oss : List (List (Option ℕ))) (cs : List ℕ) (j : ℕ) → j < length oss
+    → length cs ≡ length oss
     → get_or (choices_for oss cs) j None ≡ get_or (get_or oss j []) (get_or cs j 0) None
 choices_for_at [] cs j lt e = absurd (omega arith)
 choices_for_at (os ∷ oss) [] j lt e = absurd (omega arith)

@@ -18,7 +18,8 @@ rows_length f w (suc n) each =
     )
 
 -- place s of row C
-pub rows_at : {X : Type 0} (f : ℕ → List X) (w n C s : ℕ) (d : X) → ((C : ℕ) → C < n → length (f C) ≡ w) → C < n → s
+pub rows_at : {X : Type 0} (f : ℕ → List X) (w n C s : ℕ) (d : X) → ((C : ℕ) → C < n → length (f C) ≡ w)
+    → C < n → s
     < w
     → get_or (rows_of f n) (C * w + s) d ≡ get_or (f C) s d
 rows_at f w zero C s d each hC hs = absurd (omega arith)
@@ -37,13 +38,15 @@ rows_at f w (suc n) C s d each hC hs =
 
 -- ---- a row that is pushed, item by item
 
-pub pushed_more : {X : Type 0} (old items new row : List X) (j : ℕ) (d x : X) → j < length row → x ≡ get_or row j d
+pub pushed_more : {X : Type 0} (old items new row : List X) (j : ℕ) (d x : X) → j < length row
+    → x ≡ get_or row j d
     → items ≡ old ++ take j row → new ≡ items ++ x ∷ [] → new ≡ old ++ take (j + 1) row
 pushed_more old items new row j d x lt is so_far pushed =
     pushed ∙ (λ i. so_far i ++ is i ∷ []) ∙ append_assoc old (take j row) (get_or row j d ∷ [])
     ∙ ap (λ (l : List _). old ++ l) (sym (take_more row j d lt))
 
-pub pushed_all : {X : Type 0} (old items row : List X) (j : ℕ) → length row ≤ j → items ≡ old ++ take j row → items
+pub pushed_all : {X : Type 0} (old items row : List X) (j : ℕ) → length row ≤ j → items ≡ old ++ take j row
+    → items
     ≡ old ++ row
 pushed_all old items row j le so_far = so_far ∙ ap (λ (l : List _). old ++ l) (take_all j row le)
 
@@ -55,7 +58,8 @@ pushed_first items new row j d x lt is so_far pushed =
 
 -- ---- rows that are pushed, item by item of each
 
-pub gone_on : {X : Type 0} (all items new : List X) (x : X) (rest more left : List X) → new ++ left ≡ new ++ rest →
+pub gone_on : {X : Type 0} (all items new : List X) (x : X) (rest more left : List X)
+    → new ++ left ≡ new ++ rest →
     items ++ more ≡ all
     → more ≡ x ∷ rest → new ≡ items ++ x ∷ [] → new ++ left ≡ all
 gone_on all items new x rest more left same so_far split pushed =

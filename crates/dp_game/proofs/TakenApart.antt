@@ -15,7 +15,8 @@ pub record IsTakenApart (oss : List (List (Option ℕ))) (j left rest : ℕ) : T
   pub below : rest < left
   pub few : left ≤ 2 ^ 24
 
-pub apart_start : (oss : List (List (Option ℕ))) (count C : ℕ) → count ≡ product (own_counts oss) → count ≤ 2 ^ 24 →
+pub apart_start : (oss : List (List (Option ℕ))) (count C : ℕ) → count ≡ product (own_counts oss)
+    → count ≤ 2 ^ 24 →
     C < count
     → IsTakenApart oss 0 count C
 apart_start oss count C is few lt = record { counted = is; below = lt; few = few }
@@ -32,10 +33,12 @@ module _ (oss : List (List (Option ℕ))) (j left rest : ℕ) (lt : j < length o
   split = u.counted ∙ ap (λ l. product (own_counts l)) here ∙ ap (λ (z : ℕ). z * P) (sym count)
 
   pub some_own : 0 < n
-  some_own = let below = u.below in let e = split in let all : 0 < n * P = omega arith in positive_left n P 0 all
+  some_own = let below = u.below in let e = split in let all : 0 < n * P = omega arith in
+      positive_left n P 0 all
 
   some_left : 0 < P
-  some_left = let below = u.below in let e = split in let all : 0 < n * P = omega arith in positive_right n P 0 all
+  some_left = let below = u.below in let e = split in let all : 0 < n * P = omega arith in
+      positive_right n P 0 all
 
   after : left / n ≡ P
   after = divided n P left some_own split
@@ -84,7 +87,8 @@ pub no_parts : (oss : List (List (Option ℕ))) (j rest : ℕ) → length oss �
     rest ≡ []
 no_parts oss j rest le = ap (λ l. parts_of (own_counts l) rest) (no_more oss j le)
 
-pub no_choices : (oss : List (List (Option ℕ))) (j : ℕ) (cs : List ℕ) → length oss ≤ j → choices_for (drop j oss) cs
+pub no_choices : (oss : List (List (Option ℕ))) (j : ℕ) (cs : List ℕ) → length oss ≤ j
+    → choices_for (drop j oss) cs
     ≡ []
 no_choices oss j cs le = ap (λ l. choices_for l cs) (no_more oss j le)
 
@@ -93,12 +97,15 @@ no_choices oss j cs le = ap (λ l. choices_for l cs) (no_more oss j le)
 pub as_many_counts : (oss : List (List (Option ℕ))) → length (own_counts oss) ≡ length oss
 as_many_counts oss = length-map oss (λ (os : List (Option ℕ)). length os)
 
-pub count_at : (oss : List (List (Option ℕ))) (j : ℕ) (os : List (Option ℕ)) → j < length oss → os ≡ get_or oss j os
+pub count_at : (oss : List (List (Option ℕ))) (j : ℕ) (os : List (Option ℕ)) → j < length oss
+    → os ≡ get_or oss j os
     → length os ≡ get_or (own_counts oss) j 0
 count_at oss j os lt is =
-    ap (λ (l : List (Option ℕ)). length l) is ∙ sym (get_or-map (λ (l : List (Option ℕ)). length l) oss j os 0 lt)
+    ap (λ (l : List (Option ℕ)). length l) is ∙ sym (get_or-map (λ (l : List (Option ℕ)). length l)
+    oss j os 0 lt)
 
-module _ (ns : List ℕ) (first j width n : ℕ) (lt : j < length ns) (is : n ≡ get_or ns j 0) (some : 0 < product ns)
+module _ (ns : List ℕ) (first j width n : ℕ) (lt : j < length ns) (is : n ≡ get_or ns j 0)
+    (some : 0 < product ns)
     (few : product ns ≤ 2 ^ 24) (so_far : width * product (drop j ns) ≡ product (drop first ns)) where
   pub width_next : width * n * product (drop (j + 1) ns) ≡ product (drop first ns)
   width_next =

@@ -38,7 +38,8 @@ module _ (g : KeptGame) (i c : ℕ) (o : Option ℕ) (hi : i < length g.choices)
   pub few_classes : product (own_counts g.choices) ≤ 2 ^ 24
   few_classes = classes_few (earning g before.0) before.1
 
-  sum_small : (k : ℕ) → k ≤ product (without i ns) → unsigned_abs (int_sum k (λ y. best_entry g (J y))) < 2 ^ 127
+  sum_small : (k : ℕ) → k ≤ product (without i ns) → unsigned_abs (int_sum k (λ y. best_entry g (J y)))
+      < 2 ^ 127
   sum_small k hk =
       let part = part_small i ns (hi' g i c o hi hc) (best_entry g) c k (class_in g i c o hi hc) hk in
       let all = all_small (earning g before.0) before.1 in omega arith
@@ -116,7 +117,8 @@ module _ (g : KeptGame) (i c : ℕ) (o : Option ℕ) (hi : i < length g.choices)
               → unsigned_abs (total +ℤ gone) < 2 ^ 127
           gone_fits total gone et eg = rw (et, eg, gone_is) (sum_small (suc x) (omega arith))
 
-          pub gone_next : (total gone new : ℤ) → total ≡ int_sum x (λ y. best_entry g (J y)) → gone ≡ get_or best j
+          pub gone_next : (total gone new : ℤ) → total ≡ int_sum x (λ y. best_entry g (J y))
+              → gone ≡ get_or best j
               (pos 0)
               → new ≡ total +ℤ gone → new ≡ int_sum (x + 1) (λ y. best_entry g (J y))
           gone_next total gone new et eg en =
@@ -126,9 +128,11 @@ module _ (g : KeptGame) (i c : ℕ) (o : Option ℕ) (hi : i < length g.choices)
           module _ (wanted' : List (Option ℕ)) (best' : List ℤ) (come : ℤ)
               (ew' : wanted' ≡ set wanted (j * length g.actions + i) o) (eb' : best' ≡ set best j come)
               (is : come ≡ greatest_in g.actions g.table wanted' j) where
-            both : IsChanging g i c o (x + 1) wanted' best' × (come ≡ best_entry (with_own_choice g i c o) (J x))
+            both : IsChanging g i c o (x + 1) wanted' best' × (come
+                ≡ best_entry (with_own_choice g i c o) (J x))
             both = changing_on g i c o hi hc x hx wanted wanted' best best' come j (length g.actions) u at
-                (same_agents (earning g before.0) before.1) (same_agents (earning g before.0) before.1) ew' eb' is
+                (same_agents (earning g before.0) before.1) (same_agents (earning g before.0) before.1)
+                ew' eb' is
 
             pub walk_next : IsChanging g i c o (x + 1) wanted' best'
             walk_next = both.0
@@ -137,7 +141,8 @@ module _ (g : KeptGame) (i c : ℕ) (o : Option ℕ) (hi : i < length g.choices)
                 unsigned_abs (total +ℤ come) < 2 ^ 127
             come_fits total et = rw (et, both.1) (sum_small_after (suc x) (omega arith))
 
-            pub come_next : (total new : ℤ) → total ≡ int_sum x (λ y. best_entry (with_own_choice g i c o) (J y)) →
+            pub come_next : (total new : ℤ) → total ≡ int_sum x
+                (λ y. best_entry (with_own_choice g i c o) (J y)) →
                 new ≡ total +ℤ come
                 → new ≡ int_sum (x + 1) (λ y. best_entry (with_own_choice g i c o) (J y))
             come_next total new et en =
@@ -158,19 +163,22 @@ module _ (g : KeptGame) (i c : ℕ) (o : Option ℕ) (hi : i < length g.choices)
 
   split : sum ≡ g.earned +ℤ (other_sum i ms (hi' g i c o hi hc) (best_entry g) c +ℤ class_sum i ms
       (hi' g i c o hi hc) (best_entry g) c)
-  split = is ∙ ap (λ x. g.earned +ℤ x) (sum_splits i ms (hi' g i c o hi hc) (best_entry g) c (class_in g i c o hi hc))
+  split = is ∙ ap (λ x. g.earned +ℤ x) (sum_splits i ms (hi' g i c o hi hc) (best_entry g) c
+      (class_in g i c o hi hc))
 
   pub less_fits : unsigned_abs (sum -ℤ gone) < 2 ^ 127
   less_fits =
       let small = other_sum_small i ms (hi' g i c o hi hc) (best_entry g) c in
       let both = abs_add g.earned (other_sum i ms (hi' g i c o hi hc) (best_entry g) c) in
       let all = all_small g before in
-      rw (less_is g.earned (other_sum i ms (hi' g i c o hi hc) (best_entry g) c) _ sum gone split eg) (omega arith)
+      rw (less_is g.earned (other_sum i ms (hi' g i c o hi hc) (best_entry g) c) _ sum gone split eg)
+      (omega arith)
 
   kept : other_sum i ms (hi' g i c o hi hc) (best_entry g) c ≡ other_sum i ms (hi' g i c o hi hc)
       (best_entry (with_own_choice g i c o)) c
   kept =
-      other_sum_kept i ms (hi' g i c o hi hc) (best_entry g) (best_entry (with_own_choice g i c o)) c (λ b y hb hy ne.
+      other_sum_kept i ms (hi' g i c o hi hc) (best_entry g) (best_entry (with_own_choice g i c o)) c
+      (λ b y hb hy ne.
       sym (best_elsewhere g i c o hi hc (placed_number i ms b y)
       (λ e. ne (sym (part_there i ms (hi' g i c o hi hc) b y hb hy) ∙ e))))
 
@@ -190,7 +198,8 @@ module _ (g : KeptGame) (i c : ℕ) (o : Option ℕ) (hi : i < length g.choices)
 -- ---- what is kept, as the code hands it over
 
 -- a list that was written through a slice of it
-pub written : {X : Type 0} (n : ℕ) (new old : List X) → n ≡ length new → take n (new ++ drop (length new) old) ≡ new
+pub written : {X : Type 0} (n : ℕ) (new old : List X) → n ≡ length new
+    → take n (new ++ drop (length new) old) ≡ new
 written n new old e =
     ap (λ (k : ℕ). take k (new ++ drop (length new) old)) e ∙ take-append-le (length new) new
     (drop (length new) old) (omega arith) ∙ take_all (length new) new (omega arith)
@@ -212,18 +221,21 @@ kept_before g oss table best' wanted wanted' best eo et ew eb at C lt =
 
 pub kept_after : (g : KeptGame) (i c : ℕ) (o : Option ℕ) (oss oss' : List (List (Option ℕ))) (table : List ℤ)
     (wanted wanted' : List (Option ℕ))
-    (best best' : List ℤ) (bound : ℤ) → i < length g.choices → c < length (get_or g.choices i []) → IsOfSomeFront
+    (best best' : List ℤ) (bound : ℤ) → i < length g.choices → c < length (get_or g.choices i [])
+    → IsOfSomeFront
     (with_own_choice g i c o)
     → oss ≡ g.choices → table ≡ g.table → oss' ≡ set g.choices i (set (get_or g.choices i []) c o)
     → ((C : ℕ) → C < product (own_counts oss) → IsKeptAt
     (with_own_choice (game_with g.actions oss table (pos 0)) i c o) wanted best C)
-    → length wanted ≡ joint_classes g * length g.choices → length best ≡ joint_classes g → wanted' ≡ wanted → best'
+    → length wanted ≡ joint_classes g * length g.choices → length best ≡ joint_classes g → wanted' ≡ wanted
+    → best'
     ≡ best
     → bound ≡ game_bound (with_own_choice g i c o) → IsKept (game_with g.actions oss' g.table g.earned) wanted'
     best' bound
 kept_after g i c o oss oss' table wanted wanted' best best' bound hi hc after eo et eo' at long one ew eb is =
     let counts = ap product (same_counts g i c o hi hc) in
-    let many : length (set g.choices i (set (get_or g.choices i []) c o)) ≡ length g.choices = length-set g.choices
+    let many : length (set g.choices i (set (get_or g.choices i []) c o))
+    ≡ length g.choices = length-set g.choices
     i _ in
     let all : (C : ℕ) → C < joint_classes g → IsKeptAt
     (with_own_choice (game_with g.actions g.choices g.table (pos 0)) i c o) wanted best C =

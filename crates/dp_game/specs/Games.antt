@@ -1,5 +1,5 @@
--- The game of a front, as contracts see it: what each joint class can earn by each joint action, and the actions that are
--- chosen for the classes so far. (A collaborative Bayesian game: Oliehoek and Amato, chapter 5.)
+-- The game of a front, as contracts see it: what each joint class can earn by each joint action, and the actions
+-- that are chosen for the classes so far. (A collaborative Bayesian game: Oliehoek and Amato, chapter 5.)
 use Rattle.std.specs.Prelude.{ℕ, ◌+◌, ◌*◌, ◌-◌, ◌^◌, ◌<◌, ◌≤◌, ◌≡◌, Bool, true, false, ◌&&◌, ℤ, pos, ◌+ℤ◌, ◌*ℤ◌, ◌≤ℤ◌, List, [], ◌∷◌, filter, map, length, get_or, set, Option, None}
 use Rattle.dp_base.specs.Sums.{greatest, int_sum, numbers_below}
 use Rattle.dp_spec.specs.Arithmetic.{arithmetic}
@@ -14,8 +14,8 @@ use Rattle.dp_spec.specs.Quantities.{action_look_ahead_in, class_weight_in, earn
 use Rattle.dp_spec.specs.Value.{policy_value}
 use Rattle.dp_spec.specs.WellFormed.{IsFront}
 
--- how many actions each agent has, for each agent the action of each of its classes or none, what each joint class can
--- earn by each joint action (joint class by joint class), and what is earned before the stage
+-- how many actions each agent has, for each agent the action of each of its classes or none, what each joint class
+-- can earn by each joint action (joint class by joint class), and what is earned before the stage
 pub record KeptGame : Type 0 where
   pub actions : List ℕ
   pub choices : List (List (Option ℕ))
@@ -70,9 +70,9 @@ with_own_choice g i c o = record g { choices = set g.choices i (set (get_or g.ch
 abbrev pub own_choice : KeptGame → ℕ → ℕ → Option ℕ
 own_choice g i c = get_or (get_or g.choices i []) c None
 
--- It is the game of a front of a horizon of h steps: with the look-aheads, with this look, of its joint classes and with
--- what it has earned, in the arithmetic of the horizon's mode, and with its choices. The front's joint classes are within
--- the limit on game cells, and in outward mode its stage is within the limit on stage cells.
+-- It is the game of a front of a horizon of h steps: with the look-aheads, with this look, of its joint classes and
+-- with what it has earned, in the arithmetic of the horizon's mode, and with its choices. The front's joint classes
+-- are within the limit on game cells, and in outward mode its stage is within the limit on stage cells.
 pub record IsGameOf (m : Model) (h look : ℕ) (F : Front) (g : KeptGame) : Type 0 where
   pub model : IsModel m
   pub some_step : 0 < h

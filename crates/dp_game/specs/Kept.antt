@@ -34,7 +34,8 @@ IsWithinCells m k = k.is_exact ≡ false → m.states * joint_observations m ^ k
 
 -- the look-aheads of joint class C of a front, with the look and the mode of a bounder
 abbrev pub class_row : Model → KeptFront → KeptBounder → ℕ → List ℤ
-class_row m k b C = look_ahead_row (arithmetic b.is_exact m.scales) m (b.horizon - k.front.stage - 1) k.front b.look C
+class_row m k b C = look_ahead_row (arithmetic b.is_exact m.scales) m (b.horizon - k.front.stage - 1)
+    k.front b.look C
 
 -- it is the game of some front
 abbrev pub IsOfSomeFront : KeptGame → Type 0

@@ -59,7 +59,8 @@ agent_words_are agent small = (assumption, (item_clean (decimal agent) (decimal_
 -- ---- the loop
 
 -- one more agent is read
-pub agent_read : {L : Type 0} (h agent b n : ℕ) (bs ns : List ℕ) (line named to : ℕ) (bytes titled more : List ℕ)
+pub agent_read : {L : Type 0} (h agent b n : ℕ) (bs ns : List ℕ) (line named to : ℕ)
+    (bytes titled more : List ℕ)
     (rows : List (List ℕ))
     → front_of {L = L} (the_words (agent_words agent)) line bytes ≡ Ok (rest_at tt named titled)
     → front_of {L = L} (stage_rows b n 0 h) named titled ≡ Ok (rest_at rows to more)
@@ -108,11 +109,13 @@ agents_at L h bs ns agent front line bytes lt lt' =
     (get_or bs agent 0 ∷ drop (suc agent) bs) l) line bytes)) (drop-cons ns agent 0 lt')
 
 pub agents_further : (L : Type 0) (h : ℕ) (bs ns : List ℕ) (agent : ℕ) (front : List (List (List ℕ)))
-    (line named to : ℕ) (bytes titled more : List ℕ) (rows : List (List ℕ)) → agent < length bs → agent < length ns
+    (line named to : ℕ) (bytes titled more : List ℕ) (rows : List (List ℕ)) → agent < length bs
+    → agent < length ns
     → front_of {L = L} (the_words (agent_words agent)) line bytes ≡ Ok (rest_at tt named titled)
     → front_of {L = L} (stage_rows (get_or bs agent 0) (get_or ns agent 0) 0 h) named titled
     ≡ Ok (rest_at rows to more)
-    → agents_from L h bs ns agent front line bytes ≡ agents_from L h bs ns (agent + 1) (front ++ rows ∷ []) to more
+    → agents_from L h bs ns agent front line bytes ≡ agents_from L h bs ns (agent + 1) (front ++ rows ∷ [])
+    to more
 agents_further L h bs ns agent front line named to bytes titled more rows lt lt' e f =
     agents_at L h bs ns agent front line bytes lt lt'
     ∙ ap (onto front) (agent_read {L = L} h agent (get_or bs agent 0) (get_or ns agent 0) (drop (suc agent) bs)

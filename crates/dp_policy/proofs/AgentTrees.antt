@@ -32,7 +32,8 @@ rows_of_agent h [] (n ∷ ns) agents are i lt = absurd are
 rows_of_agent h (b ∷ bs) [] agents are i lt = absurd are
 rows_of_agent h (b ∷ bs) (n ∷ ns) [] are i lt = absurd are
 rows_of_agent h (b ∷ bs) (n ∷ ns) (rows ∷ agents) are zero lt = are.0
-rows_of_agent h (b ∷ bs) (n ∷ ns) (rows ∷ agents) are (suc i) lt = rows_of_agent h bs ns agents are.1 i (omega arith)
+rows_of_agent h (b ∷ bs) (n ∷ ns) (rows ∷ agents) are (suc i) lt = rows_of_agent h bs ns agents are.1 i
+    (omega arith)
 
 -- a tree made from the first stage on is the tree of the rows
 pub tree_made : (n h : ℕ) (rows : List (List ℕ)) (q : PolicyTree) → length rows ≡ h
@@ -42,7 +43,8 @@ tree_made n h rows q len is =
     is ∙ ap (λ r. tree_doing_after n (action_in rows) r 0 0) steps
 
 -- one tree more is made
-pub one_tree_more : (h i : ℕ) (ns : List ℕ) (agents : List (List (List ℕ))) (before after : List PTree) (t : PTree)
+pub one_tree_more : (h i : ℕ) (ns : List ℕ) (agents : List (List (List ℕ))) (before after : List PTree)
+    (t : PTree)
     (all : List PolicyTree)
     → i < length ns → i < length agents → after ≡ before ++ t ∷ []
     → policy_tree t ≡ tree_of_rows (get_or ns i 0) h (get_or agents i [])
@@ -77,7 +79,8 @@ pub record AreAgentStages (n h : ℕ) (stages : List (Vec ℕ Global)) : Type 0 
 pub agent_stages : (b n h : ℕ) (rows : List (List ℕ)) (stages : List (Vec ℕ Global)) → AreActionRows b n h rows
     → rows ≡ map (λ row. row.items) stages → AreAgentStages n h stages
 agent_stages b n h rows stages are is =
-    let len : length stages ≡ h = sym (length-map stages (λ row. row.items)) ∙ ap length (sym is) ∙ are.stages in
+    let len : length stages ≡ h = sym (length-map stages (λ row. row.items)) ∙ ap length (sym is)
+    ∙ are.stages in
     record {
       steps = len;
       histories = λ t lt. ap (λ l. length (get_or l t [])) (sym is) ∙ are.histories t (omega (arith, len));

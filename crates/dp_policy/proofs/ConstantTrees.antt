@@ -32,9 +32,11 @@ constant_leaf n (suc zero) a qs one none = ap (λ (l : List PolicyTree). node a 
 constant_leaf n (suc (suc r)) a qs one none = absurd (omega arith)
 
 -- the trees of one agent more
-pub constant_tree_step : (ns as' : List ℕ) (h i : ℕ) (done whole : List PolicyTree) (q : PolicyTree) → i < length ns
+pub constant_tree_step : (ns as' : List ℕ) (h i : ℕ) (done whole : List PolicyTree) (q : PolicyTree)
+    → i < length ns
     → i < length as'
-    → done ++ constant_trees (drop i ns) h (drop i as') ≡ whole → q ≡ constant_tree (get_or ns i 0) h (get_or as' i 0)
+    → done ++ constant_trees (drop i ns) h (drop i as') ≡ whole
+    → q ≡ constant_tree (get_or ns i 0) h (get_or as' i 0)
     → (done ++ q ∷ []) ++ constant_trees (drop (suc i) ns) h (drop (suc i) as') ≡ whole
 constant_tree_step ns as' h i done whole q ln la so_far here =
     append_assoc done (q ∷ []) _ ∙ ap
@@ -46,7 +48,8 @@ constant_tree_step ns as' h i done whole q ln la so_far here =
 pub constant_trees_end : (ns as' : List ℕ) (h i : ℕ) (done whole : List PolicyTree) → length ns ≤ i
     → done ++ constant_trees (drop i ns) h (drop i as') ≡ whole → done ≡ whole
 constant_trees_end ns as' h i done whole le so_far =
-    sym (append_none done) ∙ ap (λ (xs : List ℕ). done ++ constant_trees xs h (drop i as')) (sym (drop_all ns i le))
+    sym (append_none done) ∙ ap (λ (xs : List ℕ). done ++ constant_trees xs h (drop i as'))
+    (sym (drop_all ns i le))
     ∙ so_far
   where
     append_none : (p : List PolicyTree) → p ++ [] ≡ p

@@ -11,7 +11,8 @@ use Rattle.dp_policy.specs.Trees.{AreKeptTrees, tree_count, tree_of}
 use Rattle.dp_policy.proofs.JoinedRows.{size_most}
 use Rattle.dp_policy.proofs.Lists.{drop_all, iff_trans}
 
-pub trees_alike : {h : ℕ} {bs ns : List ℕ} {qs : List PolicyTree} → IsJointPolicy h bs ns qs → length qs ≡ length bs
+pub trees_alike : {h : ℕ} {bs ns : List ℕ} {qs : List PolicyTree} → IsJointPolicy h bs ns qs
+    → length qs ≡ length bs
 trees_alike no_agents = refl
 trees_alike (and_agent one others) = let e = trees_alike others in omega arith
 
@@ -28,23 +29,28 @@ tree_of_agent no_agents i lt = absurd (omega arith)
 tree_of_agent (and_agent one others) zero lt = one
 tree_of_agent (and_agent one others) (suc i) lt = tree_of_agent others i (omega arith)
 
-module _ (h : ℕ) (bs ns : List ℕ) (qs : List PolicyTree) (i : ℕ) (lb : i < length bs) (ln : i < length ns) (lq : i < length qs) (so_far : IsJointPolicy h bs ns qs ↔ IsJointPolicy h (drop i bs) (drop i ns) (drop i qs)) where
-  -- one agent more has a tree
-  pub tree_step : IsPolicyTree (get_or bs i 0) (get_or ns i 0) h (tree_of qs i)
-      → IsJointPolicy h bs ns qs ↔ IsJointPolicy h (drop (suc i) bs) (drop (suc i) ns) (drop (suc i) qs)
-  tree_step one =
-      let d : PolicyTree = node 0 no_trees in
-      let parts : IsJointPolicy h (drop i bs) (drop i ns) (drop i qs) ↔ IsJointPolicy h (drop (suc i) bs)
-      (drop (suc i) ns) (drop (suc i) qs) =
-      subst (λ (xs : List ℕ). IsJointPolicy h xs (drop i ns) (drop i qs) ↔ IsJointPolicy h (drop (suc i) bs)
-      (drop (suc i) ns) (drop (suc i) qs)) (sym (drop-cons bs i 0 lb))
-      (subst (λ (ys : List ℕ). IsJointPolicy h (get_or bs i 0 ∷ drop (suc i) bs) ys (drop i qs) ↔ IsJointPolicy h
-      (drop (suc i) bs) (drop (suc i) ns) (drop (suc i) qs)) (sym (drop-cons ns i 0 ln))
-      (subst (λ (ps : List PolicyTree). IsJointPolicy h (get_or bs i 0 ∷ drop (suc i) bs)
-      (get_or ns i 0 ∷ drop (suc i) ns) ps ↔ IsJointPolicy h (drop (suc i) bs) (drop (suc i) ns) (drop (suc i) qs))
-      (sym (drop-cons qs i d lq))
-      (λ all. (heads all).1, λ rest. and_agent one rest))) in
-      iff_trans so_far parts
+module _ (h : ℕ) (bs ns : List ℕ) (qs : List PolicyTree) (i : ℕ) (lb : i < length bs) (ln : i < length ns)
+    (lq : i < length qs) (so_far : IsJointPolicy h bs ns qs ↔ IsJointPolicy h (drop i bs) (drop i ns)
+    (drop i qs))
+  where
+    -- one agent more has a tree
+    pub tree_step : IsPolicyTree (get_or bs i 0) (get_or ns i 0) h (tree_of qs i)
+        → IsJointPolicy h bs ns qs ↔ IsJointPolicy h (drop (suc i) bs) (drop (suc i) ns) (drop (suc i) qs)
+    tree_step one =
+        let d : PolicyTree = node 0 no_trees in
+        let parts : IsJointPolicy h (drop i bs) (drop i ns) (drop i qs) ↔ IsJointPolicy h (drop (suc i) bs)
+        (drop (suc i) ns) (drop (suc i) qs) =
+        subst (λ (xs : List ℕ). IsJointPolicy h xs (drop i ns) (drop i qs) ↔ IsJointPolicy h (drop (suc i) bs)
+        (drop (suc i) ns) (drop (suc i) qs)) (sym (drop-cons bs i 0 lb))
+        (subst (λ (ys : List ℕ). IsJointPolicy h (get_or bs i 0 ∷ drop (suc i) bs) ys (drop i qs)
+        ↔ IsJointPolicy h
+        (drop (suc i) bs) (drop (suc i) ns) (drop (suc i) qs)) (sym (drop-cons ns i 0 ln))
+        (subst (λ (ps : List PolicyTree). IsJointPolicy h (get_or bs i 0 ∷ drop (suc i) bs)
+        (get_or ns i 0 ∷ drop (suc i) ns) ps ↔ IsJointPolicy h (drop (suc i) bs) (drop (suc i) ns)
+        (drop (suc i) qs))
+        (sym (drop-cons qs i d lq))
+        (λ all. (heads all).1, λ rest. and_agent one rest))) in
+        iff_trans so_far parts
 
 -- an agent has not
 pub tree_fails : (h : ℕ) (bs ns : List ℕ) (qs : List PolicyTree) (i : ℕ) → i < length qs
@@ -106,13 +112,15 @@ kept_trees m is h some limit qs policy = record {
       let few = few_actions m is i in
       let one = tree_of_agent policy i lt in
       as_root (2 ^ 32) (get_or m.observations i 0) h (tree_of qs i)
-      (more_actions (get_or m.actions i 0) (2 ^ 32) (get_or m.observations i 0) h (tree_of qs i) (omega arith) one);
+      (more_actions (get_or m.actions i 0) (2 ^ 32) (get_or m.observations i 0) h (tree_of qs i)
+      (omega arith) one);
 }
 
 -- ---- own observations that are followed
 
 -- a node before the last step has a tree for each observation
-pub observations_counted : (b n r : ℕ) (q : PolicyTree) → 1 < r → IsPolicyTree b n r q → tree_count (subtrees q) ≡ n
+pub observations_counted : (b n r : ℕ) (q : PolicyTree) → 1 < r → IsPolicyTree b n r q
+    → tree_count (subtrees q) ≡ n
 observations_counted b n zero q lt is = absurd (omega arith)
 observations_counted b n (suc zero) q lt is = absurd (omega arith)
 observations_counted b n (suc (suc r)) (node a ks) lt is = counted_trees b n (suc r) n ks is.1
@@ -132,5 +140,6 @@ followed_step H p q k t lt so_far next =
     ∙ ap (λ (x : PolicyTree). remaining_after x (drop (suc t) H)) (sym next)
 
 -- with all observations followed
-pub followed_end : (H : List ℕ) (p q : PolicyTree) (t : ℕ) → length H ≤ t → p ≡ remaining_after q (drop t H) → q ≡ p
+pub followed_end : (H : List ℕ) (p q : PolicyTree) (t : ℕ) → length H ≤ t → p ≡ remaining_after q (drop t H)
+    → q ≡ p
 followed_end H p q t le so_far = sym (so_far ∙ ap (remaining_after q) (drop_all H t le))

@@ -99,17 +99,20 @@ trees_alike_of g (x ∷ xs) (y ∷ ys) e each =
     (λ i. more_trees (here i) (rest i))
 
 -- rows with equal actions and trees that are equal after each observation have equal trees
-pub rows_trees_alike : (stages : AgentRows) (t r s : ℕ) → (row_at stages t r).action ≡ (row_at stages t s).action
+pub rows_trees_alike : (stages : AgentRows) (t r s : ℕ) → (row_at stages t r).action
+    ≡ (row_at stages t s).action
     → length (row_at stages t r).next ≡ length (row_at stages t s).next
     → ((o : ℕ) → o < length (row_at stages t r).next
     → rows_tree stages (suc t) (get_or (row_at stages t r).next o 0) ≡ rows_tree stages (suc t)
     (get_or (row_at stages t s).next o 0))
     → rows_tree stages t r ≡ rows_tree stages t s
 rows_trees_alike stages t r s act len each =
-    let subs = trees_alike_of (rows_tree stages (suc t)) (row_at stages t r).next (row_at stages t s).next len each in
+    let subs = trees_alike_of (rows_tree stages (suc t)) (row_at stages t r).next
+    (row_at stages t s).next len each in
     rows_tree_is stages t r ∙ (λ i. node (act i) (subs i)) ∙ sym (rows_tree_is stages t s)
 
-module _ (b n h : ℕ) (stages : AgentRows) (are : AreAgentRows b n h stages) (t : ℕ) (lt : t < h) (nexts : ℕ) (each : (r : ℕ) → r < row_count stages t → length (row_at stages t r).next ≡ nexts) where
+module _ (b n h : ℕ) (stages : AgentRows) (are : AreAgentRows b n h stages) (t : ℕ) (lt : t < h) (nexts : ℕ)
+    (each : (r : ℕ) → r < row_count stages t → length (row_at stages t r).next ≡ nexts) where
   -- with all observations passed
   pub kinds_end : (later kinds : List ℕ) (k : ℕ) → k ≡ nexts → (0 < nexts → suc t < h)
       → (suc t < h → AreKinds stages (suc t) later)
@@ -151,13 +154,15 @@ module _ (b n h : ℕ) (stages : AgentRows) (are : AreAgentRows b n h stages) (t
           next_row_below b n stages are.rows t r o (omega arith) lr (omega arith)
 
 -- how many next rows each row of a stage has
-module _ (b n h : ℕ) (stages : AgentRows) (are : AreAgentRows b n h stages) (t : ℕ) (lt : t < h) (nexts : ℕ) (is : nexts ≡ cond (nat_lt (suc t) h) n 0) where
+module _ (b n h : ℕ) (stages : AgentRows) (are : AreAgentRows b n h stages) (t : ℕ) (lt : t < h) (nexts : ℕ)
+    (is : nexts ≡ cond (nat_lt (suc t) h) n 0) where
   pub nexts_counted : (r : ℕ) → r < row_count stages t → length (row_at stages t r).next ≡ nexts
   nexts_counted r lr =
       let size = are.of_horizon in
       elim (cases_lt (suc t) h) [
         | inl more ↦ row_nexts b n stages are.rows t r (omega arith) lr ∙ sym (is ∙ more_nexts n h t more)
-        | inr le ↦ ap length (last_row_nexts b n stages are.rows t r (omega arith) lr) ∙ sym (is ∙ no_nexts n h t le)
+        | inr le ↦ ap length (last_row_nexts b n stages are.rows t r (omega arith) lr)
+            ∙ sym (is ∙ no_nexts n h t le)
       ]
 
   pub goes_on : 0 < nexts → suc t < h
@@ -176,7 +181,8 @@ module _ (b n h : ℕ) (stages : AgentRows) (are : AreAgentRows b n h stages) (t
 
 -- the kinds of one stage more
 pub kinds_push : (stages : AgentRows) (h n t : ℕ) (lists : List (List ℕ)) (kinds : List ℕ) → length lists ≡ n
-    → ((k : ℕ) → k < n → AreKinds stages (h - suc k) (get_or lists k [])) → t ≡ h - suc n → AreKinds stages t kinds
+    → ((k : ℕ) → k < n → AreKinds stages (h - suc k) (get_or lists k [])) → t ≡ h - suc n
+    → AreKinds stages t kinds
     → (k : ℕ) → k < n + 1 → AreKinds stages (h - suc k) (get_or (lists ++ kinds ∷ []) k [])
 kinds_push stages h n t lists kinds e before is here k lt = elim (cases_lt k n) [
   | inl early ↦ subst (AreKinds stages (h - suc k)) (sym (get_or-append lists (kinds ∷ []) [] k (omega arith)))

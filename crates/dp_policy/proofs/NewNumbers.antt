@@ -11,7 +11,8 @@ use Rattle.dp_policy.proofs.PairNumbers.{early_of, last_of, none_is, one_longer,
 
 -- ---- numbers below n that differ are at most n
 
-pub pigeon : (m n : ℕ) (f : ℕ → ℕ) → ((i : ℕ) → i < m → f i < n) → ((i j : ℕ) → i < m → j < m → f i ≡ f j → i ≡ j)
+pub pigeon : (m n : ℕ) (f : ℕ → ℕ) → ((i : ℕ) → i < m → f i < n)
+    → ((i j : ℕ) → i < m → j < m → f i ≡ f j → i ≡ j)
     → m ≤ n
 pigeon zero n f below apart = omega arith
 pigeon (suc m) zero f below apart = let lt = below 0 (omega arith) in absurd (omega arith)
@@ -30,7 +31,8 @@ pigeon (suc m) (suc n) f below apart =
     other i e = grind (arith, nat_tests)
 
     not_top : (i : ℕ) → i < m → f i ≡ n → f m ≡ n → ⊥
-    not_top i lt e q = let same : m ≡ i = apart m i (omega arith) (omega arith) (q ∙ sym e) in absurd (omega arith)
+    not_top i lt e q = let same : m ≡ i = apart m i (omega arith) (omega arith) (q ∙ sym e) in
+        absurd (omega arith)
 
     moved_below : (i : ℕ) → i < m → (f i ≡ n) ⊎ (f i ≡ n → ⊥) → moved f m n i < n
     moved_below i lt (inl e) =
@@ -51,7 +53,8 @@ pigeon (suc m) (suc n) f below apart =
     moved_apart i j li lj e (inr a) (inl b) =
         let same : i ≡ m = apart i m (omega arith) (omega arith) (sym (other i a) ∙ e ∙ top j b) in
         absurd (omega arith)
-    moved_apart i j li lj e (inr a) (inr b) = apart i j (omega arith) (omega arith) (sym (other i a) ∙ e ∙ other j b)
+    moved_apart i j li lj e (inr a) (inr b) = apart i j (omega arith) (omega arith)
+        (sym (other i a) ∙ e ∙ other j b)
 
 -- ---- one row
 
@@ -134,7 +137,8 @@ none_met kinds numbers e none = record {
 
 -- ---- rows in order
 
-order_append : (c : ℕ) (xs ys : List ℕ) → AreInOrder c xs → AreInOrder (read_after c xs) ys → AreInOrder c (xs ++ ys)
+order_append : (c : ℕ) (xs ys : List ℕ) → AreInOrder c xs → AreInOrder (read_after c xs) ys
+    → AreInOrder c (xs ++ ys)
 order_append c [] ys first second = second
 order_append c (x ∷ xs) ys first second = (first.0, order_append (max c (suc x)) xs ys first.1 second)
 
@@ -142,7 +146,8 @@ read_append : (c : ℕ) (xs ys : List ℕ) → read_after c (xs ++ ys) ≡ read_
 read_append c [] ys = refl
 read_append c (x ∷ xs) ys = read_append (max c (suc x)) xs ys
 
-nexts_append : (rows : List PolicyRow) (row : PolicyRow) → all_nexts (rows ++ row ∷ []) ≡ all_nexts rows ++ row.next
+nexts_append : (rows : List PolicyRow) (row : PolicyRow) → all_nexts (rows ++ row ∷ []) ≡ all_nexts rows
+    ++ row.next
 nexts_append [] row = none row.next
   where
     none : (xs : List ℕ) → xs ++ [] ≡ xs
@@ -167,7 +172,10 @@ numbered_first kinds nexts before = record {
 }
 
 -- one next row more
-module _ (kinds : List ℕ) (k : ℕ) (nexts before mid after news : List ℕ) (x row : ℕ) (so_far : AreNumberedAfter kinds k nexts before mid news) (number : ((x < length mid) × (after ≡ mid)) ⊎ ((x ≡ length mid) × (after ≡ mid ++ row ∷ []))) (here : row ≡ get_or nexts k 0) (same : get_or kinds (get_or after x 0) 0 ≡ get_or kinds row 0) where
+module _ (kinds : List ℕ) (k : ℕ) (nexts before mid after news : List ℕ) (x row : ℕ)
+    (so_far : AreNumberedAfter kinds k nexts before mid news)
+    (number : ((x < length mid) × (after ≡ mid)) ⊎ ((x ≡ length mid) × (after ≡ mid ++ row ∷ [])))
+    (here : row ≡ get_or nexts k 0) (same : get_or kinds (get_or after x 0) 0 ≡ get_or kinds row 0) where
   grew : length mid ≤ length after
   grew = elim number [
     | inl old ↦ let e = ap length old.1 in omega arith
@@ -251,7 +259,11 @@ rows_longer [] row = refl
 rows_longer (first ∷ rows) row = ap suc (rows_longer rows row)
 
 -- one row more
-module _ (stages : AgentRows) (t : ℕ) (kinds : List ℕ) (k : ℕ) (reached : List ℕ) (rows : List PolicyRow) (mid after : List ℕ) (row : PolicyRow) (so_far : AreRenumbered stages t kinds k reached rows mid) (action : row.action ≡ (row_at stages t (get_or reached k 0)).action) (news : AreNumberedAfter kinds (length (row_at stages t (get_or reached k 0)).next) (row_at stages t (get_or reached k 0)).next mid after row.next) where
+module _ (stages : AgentRows) (t : ℕ) (kinds : List ℕ) (k : ℕ) (reached : List ℕ) (rows : List PolicyRow)
+    (mid after : List ℕ) (row : PolicyRow) (so_far : AreRenumbered stages t kinds k reached rows mid)
+    (action : row.action ≡ (row_at stages t (get_or reached k 0)).action)
+    (news : AreNumberedAfter kinds (length (row_at stages t (get_or reached k 0)).next)
+    (row_at stages t (get_or reached k 0)).next mid after row.next) where
   pub renumbered_step : AreRenumbered stages t kinds (suc k) reached (rows ++ row ∷ []) after
   renumbered_step =
       let counted = so_far.counted in
@@ -260,7 +272,8 @@ module _ (stages : AgentRows) (t : ℕ) (kinds : List ℕ) (k : ℕ) (reached : 
       record {
         counted = rows_longer rows row ∙ ap suc so_far.counted;
         action = λ j lj. elim (cases_lt j k) [
-          | inl early ↦ ap (λ (p : PolicyRow). p.action) (early_row rows row j (omega arith)) ∙ so_far.action j early
+          | inl early ↦ ap (λ (p : PolicyRow). p.action) (early_row rows row j (omega arith))
+              ∙ so_far.action j early
           | inr late ↦ let e : k ≡ j = omega arith in
               subst (λ (z : ℕ). (get_or (rows ++ row ∷ []) z no_row).action ≡
               (row_at stages t (get_or reached z 0)).action) e
@@ -277,7 +290,8 @@ module _ (stages : AgentRows) (t : ℕ) (kinds : List ℕ) (k : ℕ) (reached : 
         below = λ j o lj lo. elim (cases_lt j k) [
           | inl early ↦
               let lt = so_far.below j o early lo in
-              subst (λ (p : PolicyRow). get_or p.next o 0 < length after) (sym (early_row rows row j (omega arith)))
+              subst (λ (p : PolicyRow). get_or p.next o 0 < length after)
+              (sym (early_row rows row j (omega arith)))
               (omega arith)
           | inr late ↦ let e : k ≡ j = omega arith in
               let here : o < length (row_at stages t (get_or reached k 0)).next =

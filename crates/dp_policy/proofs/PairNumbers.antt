@@ -32,7 +32,10 @@ some_is e = cc
 pub none_is : {a : ℕ} {A : Type 0} → None ≡ Some a → A
 none_is e = absurd (cc)
 
-module _ (key : ℕ → ℕ) (k : ℕ) (known next : ℕ → Option ℕ) (numbers : List ℕ) (z : ℕ) (so_far : AreNumbered key k known numbers) (old : (known (key k) ≡ Some z) ⊎ ((known (key k) ≡ None) × (z ≡ k))) (has : next (key k) ≡ Some z) (others : (q : ℕ) → q ≢ key k → next q ≡ known q) where
+module _ (key : ℕ → ℕ) (k : ℕ) (known next : ℕ → Option ℕ) (numbers : List ℕ) (z : ℕ)
+    (so_far : AreNumbered key k known numbers) (old : (known (key k) ≡ Some z) ⊎
+    ((known (key k) ≡ None) × (z ≡ k))) (has : next (key k) ≡ Some z)
+    (others : (q : ℕ) → q ≢ key k → next q ≡ known q) where
   -- where it comes from
   from : (z < suc k) × (key z ≡ key k)
   from = elim old [
@@ -81,7 +84,8 @@ module _ (key : ℕ → ℕ) (k : ℕ) (known next : ℕ → Option ℕ) (number
             | inr new ↦ none_is (sym new.0 ∙ was)
           ]
 
-pub numbered_none : (key : ℕ → ℕ) (known : ℕ → Option ℕ) → ((q : ℕ) → known q ≡ None) → AreNumbered key 0 known []
+pub numbered_none : (key : ℕ → ℕ) (known : ℕ → Option ℕ) → ((q : ℕ) → known q ≡ None)
+    → AreNumbered key 0 known []
 numbered_none key known none = record {
   counted = refl;
   most = λ i lt. absurd (omega arith);
@@ -101,9 +105,11 @@ numbered_all xs ys n known numbers all e small = record {
     λ same.
         let mine = (all.origin _ _ (all.has i (omega arith))).1 in
         let yours = (all.origin _ _ (all.has j (omega arith))).1 in
-        let keys : number_of_pair (get_or xs i 0) (get_or ys i 0) ≡ number_of_pair (get_or xs j 0) (get_or ys j 0) =
+        let keys : number_of_pair (get_or xs i 0) (get_or ys i 0)
+        ≡ number_of_pair (get_or xs j 0) (get_or ys j 0) =
         sym mine ∙ ap (λ (z : ℕ). number_of_pair (get_or xs z 0) (get_or ys z 0)) same ∙ yours in
-        same_parts (2 ^ 32) (get_or xs i 0) (get_or ys i 0) (get_or xs j 0) (get_or ys j 0) (small i) (small j) keys,
+        same_parts (2 ^ 32) (get_or xs i 0) (get_or ys i 0) (get_or xs j 0) (get_or ys j 0) (small i)
+        (small j) keys,
     λ both.
         some_is (sym (all.has i (omega arith)) ∙ ap known (λ k. number_of_pair (both.0 k) (both.1 k))
         ∙ all.has j (omega arith)),

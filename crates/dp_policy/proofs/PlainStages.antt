@@ -26,8 +26,10 @@ pub plain_agent_step : (h : ℕ) (ns : List ℕ) (P : SharedPolicy) (i : ℕ) �
     → ArePlain h ns P ↔ ArePlain h (drop (suc i) ns) (drop (suc i) P)
 plain_agent_step h ns P i ln lp so_far one =
     let parts : ArePlain h (drop i ns) (drop i P) ↔ ArePlain h (drop (suc i) ns) (drop (suc i) P) =
-    subst (λ (ys : List ℕ). ArePlain h ys (drop i P) ↔ ArePlain h (drop (suc i) ns) (drop (suc i) P)) (sym (drop-cons ns i 0 ln))
-    (subst (λ (p : SharedPolicy). ArePlain h (get_or ns i 0 ∷ drop (suc i) ns) p ↔ ArePlain h (drop (suc i) ns) (drop (suc i) P)) (sym (drop-cons P i [] lp))
+    subst (λ (ys : List ℕ). ArePlain h ys (drop i P) ↔ ArePlain h (drop (suc i) ns) (drop (suc i) P))
+    (sym (drop-cons ns i 0 ln))
+    (subst (λ (p : SharedPolicy). ArePlain h (get_or ns i 0 ∷ drop (suc i) ns) p ↔ ArePlain h (drop (suc i) ns)
+    (drop (suc i) P)) (sym (drop-cons P i [] lp))
     (λ all. (heads all).1, λ rest. and_agent one rest)) in
     iff_trans so_far parts
 
@@ -55,7 +57,8 @@ pub plain_stage_step : (n h t count : ℕ) (stages : AgentRows) → ArePlainBefo
 plain_stage_step n h t count stages before is here = record {
   each = λ u lt. elim (cases_lt u t) [
     | inl early ↦ before.each u early
-    | inr late ↦ let same : t ≡ u = omega arith in subst (λ (k : ℕ). IsPlainStage n h k (n ^ k) stages) same (subst (λ (k : ℕ). IsPlainStage n h t k stages) is here)
+    | inr late ↦ let same : t ≡ u = omega arith in subst (λ (k : ℕ). IsPlainStage n h k (n ^ k) stages) same
+        (subst (λ (k : ℕ). IsPlainStage n h t k stages) is here)
   ];
 }
 
@@ -69,7 +72,8 @@ plain_stage_of n h t count stages lt is all = record {
   nexts = λ step c o lc lo. all.nexts t c o step (omega arith) lo;
 }
 
-pub plain_stages_end : (n h t : ℕ) (stages : AgentRows) → h ≤ t → ArePlainBefore n h t stages → ArePlainRows n h stages
+pub plain_stages_end : (n h t : ℕ) (stages : AgentRows) → h ≤ t → ArePlainBefore n h t stages
+    → ArePlainRows n h stages
 plain_stages_end n h t stages le before = record {
   counts = λ u lt. (before.each u (omega arith)).rows;
   nexts = λ u c o step lc lo. (before.each u (omega arith)).nexts step c o lc lo;
@@ -79,17 +83,20 @@ plain_stages_end n h t stages le before = record {
 
 module _ (n k : ℕ) (f : ℕ → List ℕ) (xs : List ℕ) (is : xs ≡ f k) (all : length (f k) ≡ n) where
   -- the numbers of one row, as code reads them
-  pub counted_here : ((o : ℕ) → o < n → get_or (f k) o 0 ≡ k * n + o) → (o : ℕ) → o < length xs → get_or xs o 0 ≡ k * n + o
+  pub counted_here : ((o : ℕ) → o < n → get_or (f k) o 0 ≡ k * n + o) → (o : ℕ) → o < length xs
+      → get_or xs o 0 ≡ k * n + o
   counted_here each o lo = let e = ap length is in ap (λ (l : List ℕ). get_or l o 0) is ∙ each o (omega arith)
 
   -- one row more
   pub counted_rows : ((o : ℕ) → o < length xs → get_or xs o 0 ≡ k * n + o)
-      → ((r o : ℕ) → r < k → o < n → get_or (f r) o 0 ≡ r * n + o) → (r o : ℕ) → r < suc k → o < n → get_or (f r) o 0 ≡ r * n + o
+      → ((r o : ℕ) → r < k → o < n → get_or (f r) o 0 ≡ r * n + o) → (r o : ℕ) → r < suc k → o < n
+      → get_or (f r) o 0 ≡ r * n + o
   counted_rows here before r o lr lo = elim (cases_lt r k) [
     | inl early ↦ before r o early lo
     | inr late ↦ let same : k ≡ r = omega arith in
         let e = ap length is in
-        subst (λ (z : ℕ). get_or (f z) o 0 ≡ z * n + o) same (ap (λ (l : List ℕ). get_or l o 0) (sym is) ∙ here o (omega arith))
+        subst (λ (z : ℕ). get_or (f z) o 0 ≡ z * n + o) same
+        (ap (λ (l : List ℕ). get_or l o 0) (sym is) ∙ here o (omega arith))
   ]
 
 -- a row of a stage times a number of observations is small

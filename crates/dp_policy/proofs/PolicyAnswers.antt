@@ -40,7 +40,8 @@ pub agents_proper : (L : Type 0) (h agent : ℕ) (bs ns : List ℕ) → agent + 
 agents_proper L h agent [] ns few = tt
 agents_proper L h agent (b ∷ bs) [] few = tt
 agents_proper L h agent (b ∷ bs) (n ∷ ns) few =
-    IsProper-bind (the_words (agent_words agent)) (λ title. stage_rows b n 0 h >>= λ rows. agent_rows h (agent + 1)
+    IsProper-bind (the_words (agent_words agent)) (λ title. stage_rows b n 0 h >>= λ rows. agent_rows h
+    (agent + 1)
     bs ns >>= λ others. ends (rows ∷ others)) (words_proper L (agent_words agent)
     (agent_words_are agent (omega arith)))
     (λ title. IsProper-bind (stage_rows b n 0 h) (λ rows. agent_rows h (agent + 1) bs ns >>= λ others. ends
@@ -61,7 +62,8 @@ policy_proper m is =
     (λ title. IsProper-bind (the_numbers horizon_form) (behind_horizon m)
     (numbers_proper TooLarge horizon_form (assumption, tt))
     (λ zs. IsProper-bind (unless_passed (first_passed (horizon_limits m (first_plain zs))))
-    (λ kept. behind_limits m (first_plain zs)) (unless_proper (first_passed (horizon_limits m (first_plain zs))))
+    (λ kept. behind_limits m (first_plain zs)) (unless_proper
+    (first_passed (horizon_limits m (first_plain zs))))
     (λ kept. IsProper-bind (agent_rows (first_plain zs) 0 m.actions m.observations)
     (behind_agents (first_plain zs)) (agents_proper TooLarge (first_plain zs) 0 m.actions m.observations
     (omega (arith, few)))

@@ -155,7 +155,8 @@ fails_says m is bytes (faults.TooLarge passed) e = fault_says m is bytes (limit 
 fails_says m is bytes faults.Memory e = tt
 
 -- an answer is what is computed
-pub said_is_computed : (m : Model) → IsModel m → (bytes : List ℕ) (p : SaidPolicy) → IsPolicyAnswer m bytes (Ok p)
+pub said_is_computed : (m : Model) → IsModel m → (bytes : List ℕ) (p : SaidPolicy)
+    → IsPolicyAnswer m bytes (Ok p)
     → text_from (policy_grammar m) 1 bytes ≡ Ok (record {
       horizon = p.horizon;
       agents = policy_actions p.horizon m.observations p.trees;
@@ -193,7 +194,8 @@ no_other : (m : Model) → IsModel m → (bytes : List ℕ) (r : Result PolicyAc
     → text_from (policy_grammar m) 1 bytes ≡ r
     → (s : Result SaidPolicy (Fault TooLarge)) → IsPolicyAnswer m bytes s → as_answer m r ≡ s
 no_other m is bytes (Ok p) e (Ok q) answer =
-    let same = policy_text_injective m is bytes p.horizon q.horizon _ q.trees (read_says m is bytes p e).0 answer.0 in
+    let same = policy_text_injective m is bytes p.horizon q.horizon _ q.trees
+    (read_says m is bytes p e).0 answer.0 in
     λ i. Ok (record { horizon = same.0 i; trees = same.1 i })
 no_other m is bytes (Ok p) e (Err fault) answer =
     let other : Ok p ≡ Err fault = sym e ∙ fault_is_computed m is bytes fault answer in absurd cc

@@ -32,7 +32,8 @@ use Rattle.dp_policy.proofs.WrittenBytes.{joined}
 -- ---- parts
 
 -- the part in front and the part behind it
-pub record IsSplit {V W : Type 0} (g : Grammar TooLarge V) (f : V → Grammar TooLarge W) (line : ℕ) (bytes : List ℕ)
+pub record IsSplit {V W : Type 0} (g : Grammar TooLarge V) (f : V → Grammar TooLarge W) (line : ℕ)
+    (bytes : List ℕ)
     (rest : Rest W) : Type 0 where
   pub mid : Rest V
   pub front : front_of g line bytes ≡ Ok mid
@@ -40,7 +41,8 @@ pub record IsSplit {V W : Type 0} (g : Grammar TooLarge V) (f : V → Grammar To
 
 pub split : {V W : Type 0} (g : Grammar TooLarge V) (f : V → Grammar TooLarge W) (line : ℕ) (bytes : List ℕ)
     (rest : Rest W) → front_of (g >>= f) line bytes ≡ Ok rest → IsSplit g f line bytes rest
-split {V = V} g f line bytes rest e = by_front (front_of g line bytes) refl (sym (front_bind g f line bytes) ∙ e)
+split {V = V} g f line bytes rest e = by_front (front_of g line bytes) refl
+    (sym (front_bind g f line bytes) ∙ e)
   where
     by_front : (r : Result (Rest V) (Fault TooLarge)) → front_of g line bytes ≡ r → then_front r f ≡ Ok rest
         → IsSplit g f line bytes rest
@@ -62,7 +64,8 @@ pub record IsLine (form : List Item) (bytes : List ℕ) (zs : List ℤ) (more : 
 
 pub line_is : (form : List Item) (line : ℕ) (bytes : List ℕ) (rest : Rest (List ℤ)) → HasItems form
     → front_of {L = TooLarge} (the_numbers form) line bytes ≡ Ok rest → IsLine form bytes rest.value rest.bytes
-line_is form line bytes rest has e = by_line (lines_at (form ∷ []) bytes) (lines_answer (form ∷ []) bytes (has, tt)) e
+line_is form line bytes rest has e = by_line (lines_at (form ∷ []) bytes)
+    (lines_answer (form ∷ []) bytes (has, tt)) e
   where
     by_line : (r : Result Found FileWhy) → IsLineAnswer (form ∷ []) bytes r
         → (elim r as (λ x. Result (Rest (List ℤ)) (Fault TooLarge))
@@ -82,7 +85,8 @@ line_is form line bytes rest has e = by_line (lines_at (form ∷ []) bytes) (lin
     by_line (Err why) a e = absurd cc
 
 pub words_are : (ws : List (List ℕ)) (line : ℕ) (bytes : List ℕ) (rest : Rest (Unit {0})) → AreWords ws
-    → front_of {L = TooLarge} (the_words ws) line bytes ≡ Ok rest → bytes ≡ join_with_byte 32 ws ++ 10 ∷ rest.bytes
+    → front_of {L = TooLarge} (the_words ws) line bytes ≡ Ok rest
+    → bytes ≡ join_with_byte 32 ws ++ 10 ∷ rest.bytes
 words_are ws line bytes rest are e = by_line (lines_at (fixed_form ws ∷ []) bytes)
     (lines_answer (fixed_form ws ∷ []) bytes (words_have_items ws are, tt)) e
   where
@@ -126,7 +130,8 @@ stages_are b n t (suc left) line bytes rest e =
     let u = split (stage_rows b n (t + 1) left) (λ others. ends (map unsigned_abs s.mid.value ∷ others))
     s.mid.line s.mid.bytes rest s.behind in
     let others = stages_are b n (t + 1) left s.mid.line s.mid.bytes u.mid u.front in
-    let one : Rest (List (List ℕ)) = rest_at (map unsigned_abs s.mid.value ∷ u.mid.value) u.mid.line u.mid.bytes in
+    let one : Rest (List (List ℕ)) = rest_at (map unsigned_abs s.mid.value ∷ u.mid.value)
+    u.mid.line u.mid.bytes in
     let text : line_text (row_form b n t) s.mid.value ≡ row_tail true (map unsigned_abs s.mid.value) =
     ap (join_with_byte 32) (row_spelled (n ^ t) 0 (b - 1) s.mid.value row.allowed)
     ∙ joined (map unsigned_abs s.mid.value) in
@@ -149,10 +154,12 @@ agents_are h agent (b ∷ bs) [] line bytes rest few e =
     let one : Rest (List (List (List ℕ))) = rest_at [] line bytes in
     ap (λ (r : Rest (List (List (List ℕ)))). agents_bytes agent r.value ++ r.bytes) (same_rest one rest e)
 agents_are h agent (b ∷ bs) (n ∷ ns) line bytes rest few e =
-    let s = split (the_words (agent_words agent)) (λ title. stage_rows b n 0 h >>= λ rows. agent_rows h (agent + 1)
+    let s = split (the_words (agent_words agent)) (λ title. stage_rows b n 0 h >>= λ rows. agent_rows h
+    (agent + 1)
     bs ns >>= λ others. ends (rows ∷ others)) line bytes rest e in
     let title = words_are (agent_words agent) line bytes s.mid (agent_words_are agent (omega arith)) s.front in
-    let u = split (stage_rows b n 0 h) (λ rows. agent_rows h (agent + 1) bs ns >>= λ others. ends (rows ∷ others))
+    let u = split (stage_rows b n 0 h) (λ rows. agent_rows h (agent + 1) bs ns >>= λ others. ends
+    (rows ∷ others))
     s.mid.line s.mid.bytes rest s.behind in
     let rows = stages_are b n 0 h s.mid.line s.mid.bytes u.mid u.front in
     let v = split (agent_rows h (agent + 1) bs ns) (λ others. ends (u.mid.value ∷ others))
@@ -166,7 +173,8 @@ agents_are h agent (b ∷ bs) (n ∷ ns) line bytes rest few e =
     title ∙ ap (λ (l : List ℕ). (codes "agent " ++ decimal agent) ++ 10 ∷ l) behind
     ∙ append_assoc (codes "agent ") (decimal agent) (10 ∷ (lines ++ v.mid.bytes))
     ∙ ap (λ (l : List ℕ). codes "agent " ++ l) (sym (append_assoc (decimal agent) (10 ∷ lines) v.mid.bytes))
-    ∙ ap (λ (r : Rest (List (List (List ℕ)))). agents_bytes agent r.value ++ r.bytes) (same_rest one rest v.behind)
+    ∙ ap (λ (r : Rest (List (List (List ℕ)))). agents_bytes agent r.value ++ r.bytes)
+    (same_rest one rest v.behind)
 
 -- ---- the whole text
 
@@ -189,7 +197,8 @@ pub record IsWhole (g : Grammar TooLarge PolicyActions) (bytes : List ℕ) (p : 
   pub line : ℕ
   pub front : front_of g 1 bytes ≡ Ok (rest_at p line [])
 
-ends_at : (v p : PolicyActions) (line : ℕ) (b : List ℕ) → whole {L = TooLarge} (rest_at v line b) ≡ Ok p → (v ≡ p)
+ends_at : (v p : PolicyActions) (line : ℕ) (b : List ℕ) → whole {L = TooLarge} (rest_at v line b) ≡ Ok p
+    → (v ≡ p)
     × (b ≡ [])
 ends_at v p line [] e = (
   (let one : Result PolicyActions (Fault TooLarge) = Ok v in let equal : one ≡ Ok p = e in
@@ -203,7 +212,8 @@ pub whole_is : (g : Grammar TooLarge PolicyActions) (bytes : List ℕ) (p : Poli
 whole_is g bytes p e = by_front (front_of g 1 bytes) refl e
   where
     by_front : (r : Result (Rest PolicyActions) (Fault TooLarge)) → front_of g 1 bytes ≡ r
-        → (elim r as (λ x. Result PolicyActions (Fault TooLarge)) [ Ok rest ↦ whole rest | Err fault ↦ Err fault ])
+        → (elim r as (λ x. Result PolicyActions (Fault TooLarge))
+        [ Ok rest ↦ whole rest | Err fault ↦ Err fault ])
         ≡ Ok p → IsWhole g bytes p
     by_front (Ok rest) is e =
         let t = ends_at rest.value p rest.line rest.bytes e in
@@ -221,7 +231,8 @@ unfolding policy_grammar
 policy_is m is bytes rest e none =
     let few = is.sizes.agents_limit in
     let s = split (the_words (title_words (codes "policy"))) (λ title. behind_title m) 1 bytes rest e in
-    let title = words_are (title_words (codes "policy")) 1 bytes s.mid (assumption, (assumption, (assumption, tt)))
+    let title = words_are (title_words (codes "policy")) 1 bytes s.mid
+    (assumption, (assumption, (assumption, tt)))
     s.front in
     let t = split (the_numbers horizon_form) (behind_horizon m) s.mid.line s.mid.bytes rest s.behind in
     let horizon = line_is horizon_form s.mid.line s.mid.bytes t.mid (assumption, tt) t.front in
@@ -253,7 +264,8 @@ policy_is m is bytes rest e none =
     (10 ∷ (agents_bytes 0 v.mid.value ++ codes "end\n")))
     ∙ ap (λ (r : Rest PolicyActions). policy_bytes r.value.horizon r.value.agents) same
 
-pub read_bytes : (m : Model) → IsModel m → (bytes : List ℕ) (p : PolicyActions) → IsText (policy_grammar m) bytes p
+pub read_bytes : (m : Model) → IsModel m → (bytes : List ℕ) (p : PolicyActions)
+    → IsText (policy_grammar m) bytes p
     → bytes ≡ policy_bytes p.horizon p.agents
 read_bytes m is bytes p text =
     let g = policy_grammar m in

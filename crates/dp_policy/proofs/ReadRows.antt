@@ -15,7 +15,8 @@ use Rattle.dp_policy.proofs.ReadBytes.{line_is, same_rest, split}
 
 -- ---- a row
 
-row_length : (k high : ℕ) (zs : List ℤ) → Allows (replicate k (plain 0 high)) zs → length (map unsigned_abs zs) ≡ k
+row_length : (k high : ℕ) (zs : List ℤ) → Allows (replicate k (plain 0 high)) zs
+    → length (map unsigned_abs zs) ≡ k
 row_length zero high [] a = refl
 row_length zero high (z ∷ zs) a = absurd a
 row_length (suc k) high [] a = absurd a
@@ -53,7 +54,8 @@ one_more b n t left row rows len below others = record {
 
     action_at : (k x : ℕ) → k < suc left → x < n ^ (t + k) → get_or (get_or (row ∷ rows) k []) x 0 < b
     action_at zero x lt in_row = below x (subst (λ u. x < n ^ u) (omega arith) in_row)
-    action_at (suc k) x lt in_row = others.actions k x (omega arith) (subst (λ u. x < n ^ u) (omega arith) in_row)
+    action_at (suc k) x lt in_row = others.actions k x (omega arith)
+        (subst (λ u. x < n ^ u) (omega arith) in_row)
 
 stages_fit : (b n t left line : ℕ) (bytes : List ℕ) (rest : Rest (List (List ℕ))) → 0 < b
     → front_of {L = TooLarge} (stage_rows b n t left) line bytes ≡ Ok rest → AreRowsFrom b n t left rest.value
@@ -72,7 +74,8 @@ stages_fit b n t (suc left) line bytes rest some e =
     let u = split (stage_rows b n (t + 1) left) (λ others. ends (map unsigned_abs s.mid.value ∷ others))
     s.mid.line s.mid.bytes rest s.behind in
     let others = stages_fit b n (t + 1) left s.mid.line s.mid.bytes u.mid some u.front in
-    let one : Rest (List (List ℕ)) = rest_at (map unsigned_abs s.mid.value ∷ u.mid.value) u.mid.line u.mid.bytes in
+    let one : Rest (List (List ℕ)) = rest_at (map unsigned_abs s.mid.value ∷ u.mid.value)
+    u.mid.line u.mid.bytes in
     subst (λ (r : Rest (List (List ℕ))). AreRowsFrom b n t (suc left) r.value) (same_rest one rest u.behind)
     (one_more b n t left (map unsigned_abs s.mid.value) u.mid.value
     (row_length (n ^ t) (b - 1) s.mid.value row.allowed)
@@ -96,9 +99,11 @@ agents_fit h agent [] [] line bytes rest alike some e =
 agents_fit h agent [] (n ∷ ns) line bytes rest alike some e = absurd (omega arith)
 agents_fit h agent (b ∷ bs) [] line bytes rest alike some e = absurd (omega arith)
 agents_fit h agent (b ∷ bs) (n ∷ ns) line bytes rest alike some e =
-    let s = split (the_words (agent_words agent)) (λ title. stage_rows b n 0 h >>= λ rows. agent_rows h (agent + 1)
+    let s = split (the_words (agent_words agent)) (λ title. stage_rows b n 0 h >>= λ rows. agent_rows h
+    (agent + 1)
     bs ns >>= λ others. ends (rows ∷ others)) line bytes rest e in
-    let u = split (stage_rows b n 0 h) (λ rows. agent_rows h (agent + 1) bs ns >>= λ others. ends (rows ∷ others))
+    let u = split (stage_rows b n 0 h) (λ rows. agent_rows h (agent + 1) bs ns >>= λ others. ends
+    (rows ∷ others))
     s.mid.line s.mid.bytes rest s.behind in
     let rows = stages_fit b n 0 h s.mid.line s.mid.bytes u.mid (some 0 (omega arith)) u.front in
     let v = split (agent_rows h (agent + 1) bs ns) (λ others. ends (u.mid.value ∷ others))

@@ -21,15 +21,18 @@ use Rattle.dp_policy.proofs.Lists.{drop_all}
 use Rattle.dp_policy.proofs.KindsOfRows.{goes_on, nexts_counted, nexts_inside}
 
 -- the rows of stage t for the rows that were reached, and the rows of the next stage that they reach
-pub record IsReducedStage (stages : AgentRows) (h t : ℕ) (rows : List PolicyRow) (from to : List ℕ) : Type 0 where
+pub record IsReducedStage (stages : AgentRows) (h t : ℕ) (rows : List PolicyRow)
+    (from to : List ℕ) : Type 0 where
   pub counted : length rows ≡ length from
-  pub action : (j : ℕ) → j < length from → (get_or rows j no_row).action ≡ (row_at stages t (get_or from j 0)).action
+  pub action : (j : ℕ) → j < length from → (get_or rows j no_row).action
+      ≡ (row_at stages t (get_or from j 0)).action
   pub nexts : (j : ℕ) → j < length from
       → length (get_or rows j no_row).next ≡ length (row_at stages t (get_or from j 0)).next
   pub below : (j o : ℕ) → j < length from → o < length (row_at stages t (get_or from j 0)).next
       → get_or (get_or rows j no_row).next o 0 < length to
   pub same : (j o : ℕ) → j < length from → o < length (row_at stages t (get_or from j 0)).next
-      → rows_tree stages (suc t) (get_or to (get_or (get_or rows j no_row).next o 0) 0) ≡ rows_tree stages (suc t)
+      → rows_tree stages (suc t) (get_or to (get_or (get_or rows j no_row).next o 0) 0)
+      ≡ rows_tree stages (suc t)
       (get_or (row_at stages t (get_or from j 0)).next o 0)
   pub in_order : AreInOrder 0 (all_nexts rows)
   pub read : read_after 0 (all_nexts rows) ≡ length to
@@ -51,7 +54,8 @@ reduced_first stages h = record
 
 module _ (b n h : ℕ) (stages : AgentRows) (are : AreAgentRows b n h stages) where
   -- rows that were reached are rows
-  pub reached_inside : (t : ℕ) (made : AgentRows) (reached : List ℕ) → t < h → AreReducedUpTo stages h t made reached
+  pub reached_inside : (t : ℕ) (made : AgentRows) (reached : List ℕ) → t < h
+      → AreReducedUpTo stages h t made reached
       → (j : ℕ) → j < length reached → get_or reached j 0 < row_count stages t
   reached_inside zero made reached lt so_far j lj =
       let e = sym so_far.first ∙ so_far.now in
@@ -71,7 +75,8 @@ module _ (b n h : ℕ) (stages : AgentRows) (are : AreAgentRows b n h stages) wh
       → ((j : ℕ) → j < length from → get_or from j 0 < row_count stages t)
       → AreRenumbered stages t kinds (length from) from rows to
       → ((x : ℕ) → x < length to → get_or to x 0 < length kinds)
-      → ((x y : ℕ) → x < length to → y < length to → get_or kinds (get_or to x 0) 0 ≡ get_or kinds (get_or to y 0) 0
+      → ((x y : ℕ) → x < length to → y < length to → get_or kinds (get_or to x 0) 0
+      ≡ get_or kinds (get_or to y 0) 0
       → x ≡ y)
       → IsReducedStage stages h t rows from to
   stage_by_kinds t lt nexts is kinds from to rows next none inside made within apart = record {
@@ -123,10 +128,12 @@ module _ (b n h : ℕ) (stages : AgentRows) (are : AreAgentRows b n h stages) wh
           let row : get_or (made ++ rows ∷ []) t [] ≡ rows =
           ap (λ (z : ℕ). get_or (made ++ rows ∷ []) z []) (sym so_far.counted)
           ∙ get_or-append_seam made rows [] [] in
-          subst (λ (z : ℕ). IsReducedStage stages h z (get_or (made ++ rows ∷ []) z []) (then z) (then (suc z))) e
+          subst (λ (z : ℕ). IsReducedStage stages h z (get_or (made ++ rows ∷ []) z []) (then z)
+          (then (suc z))) e
           (subst (λ (l : List ℕ). IsReducedStage stages h t (get_or (made ++ rows ∷ []) t []) l (then (suc t)))
           (sym (before t (omega arith) ∙ so_far.now))
-          (subst (λ (l : List ℕ). IsReducedStage stages h t (get_or (made ++ rows ∷ []) t []) reached l) (sym last)
+          (subst (λ (l : List ℕ). IsReducedStage stages h t (get_or (made ++ rows ∷ []) t []) reached l)
+          (sym last)
           (subst (λ (r : List PolicyRow). IsReducedStage stages h t r reached later) (sym row) here)))
     ];
   }
@@ -157,7 +164,8 @@ trees_alike_in f g (x ∷ xs) (y ∷ ys) e each =
 
 -- ---- all stages
 
-module _ (b n h : ℕ) (stages : AgentRows) (are : AreAgentRows b n h stages) (some : 0 < n) (steps : 0 < h) (made : AgentRows) (reached : List ℕ) (all : AreReducedUpTo stages h h made reached) where
+module _ (b n h : ℕ) (stages : AgentRows) (are : AreAgentRows b n h stages) (some : 0 < n) (steps : 0 < h)
+    (made : AgentRows) (reached : List ℕ) (all : AreReducedUpTo stages h h made reached) where
   size : length stages ≡ h
   size = are.of_horizon
 
@@ -274,13 +282,17 @@ module _ (b n h : ℕ) (stages : AgentRows) (are : AreAgentRows b n h stages) (s
 
 -- ---- the kinds of the next stage, out of those of all stages
 
-module _ (stages : AgentRows) (h t : ℕ) (lists all : List (List ℕ)) (kinds : List ℕ) (same : lists ≡ all) (counted : length all ≡ h) (each : (k : ℕ) → k < h → AreKinds stages (h - suc k) (get_or all k [])) (is : t + 1 < length lists → kinds ≡ get_or lists (length lists - suc (t + 1)) []) (none : length lists ≤ t + 1 → kinds ≡ []) where
+module _ (stages : AgentRows) (h t : ℕ) (lists all : List (List ℕ)) (kinds : List ℕ) (same : lists ≡ all)
+    (counted : length all ≡ h) (each : (k : ℕ) → k < h → AreKinds stages (h - suc k) (get_or all k []))
+    (is : t + 1 < length lists → kinds ≡ get_or lists (length lists - suc (t + 1)) [])
+    (none : length lists ≤ t + 1 → kinds ≡ []) where
   pub next_kinds : suc t < h → AreKinds stages (suc t) kinds
   next_kinds step =
       let count = ap length same in
       let k = h - suc (suc t) in
       let place : length lists - suc (t + 1) ≡ h - suc (suc t) = omega arith in
-      let at : kinds ≡ get_or all (h - suc (suc t)) [] = is (omega arith) ∙ (λ i. get_or (same i) (place i) []) in
+      let at : kinds ≡ get_or all (h - suc (suc t)) [] = is (omega arith)
+      ∙ (λ i. get_or (same i) (place i) []) in
       let back : h - suc (h - suc (suc t)) ≡ suc t = omega arith in
       subst (λ (z : ℕ). AreKinds stages z kinds) back
       (subst (AreKinds stages (h - suc k)) (sym at) (each k (omega arith)))
@@ -318,7 +330,8 @@ module _ (stages : AgentRows) (h t : ℕ) (lists all : List (List ℕ)) (kinds :
 
 -- ---- all agents
 
-pub shared_agents_step : (ns : List ℕ) (p : SharedPolicy) (h i : ℕ) (done whole : SharedPolicy) (stages : AgentRows)
+pub shared_agents_step : (ns : List ℕ) (p : SharedPolicy) (h i : ℕ) (done whole : SharedPolicy)
+    (stages : AgentRows)
     → i < length ns → i < length p
     → done ++ shared_rows_of (drop i ns) h (drop i (unfolded p)) ≡ whole
     → stages ≡ shared_rows (get_or ns i 0) h (unfolded_tree (get_or p i []) 0)
@@ -338,7 +351,8 @@ shared_agents_step ns p h i done whole stages ln lp so_far here =
 pub shared_end : (ns : List ℕ) (qs : List PolicyTree) (h i : ℕ) (done whole : SharedPolicy) → length ns ≤ i
     → done ++ shared_rows_of (drop i ns) h (drop i qs) ≡ whole → done ≡ whole
 shared_end ns qs h i done whole le so_far =
-    sym (append_none done) ∙ ap (λ (xs : List ℕ). done ++ shared_rows_of xs h (drop i qs)) (sym (drop_all ns i le))
+    sym (append_none done) ∙ ap (λ (xs : List ℕ). done ++ shared_rows_of xs h (drop i qs))
+    (sym (drop_all ns i le))
     ∙ so_far
   where
     append_none : (p : SharedPolicy) → p ++ [] ≡ p

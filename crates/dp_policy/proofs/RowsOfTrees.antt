@@ -46,7 +46,8 @@ module _ (n h : ℕ) (q : PolicyTree) (t : ℕ) (trees : List (Bor PTree)) (at :
   stage_few few le = let e = at.counted in small_product (length trees) n (omega arith) few
 
   pub stage_nexts_few : (k : ℕ) → k ≤ n → n ≤ 256 → n ^ t ≤ 2 ^ 22 → length trees * k ≤ 2 ^ 30
-  stage_nexts_few k less few le = let e = at.counted in small_product (length trees) k (omega arith) (omega arith)
+  stage_nexts_few k less few le = let e = at.counted in small_product (length trees) k (omega arith)
+      (omega arith)
 
   module _ (nexts : ℕ) (is : nexts ≡ cond (nat_lt (suc t) h) n 0) where
     pub stage_goes_on : (b : ℕ) → t < h → IsPolicyTree b n h q → GoOn nexts trees
@@ -98,16 +99,19 @@ module _ (n h : ℕ) (q : PolicyTree) (t : ℕ) (trees : List (Bor PTree)) (at :
     -- one stage more
     pub plain_rows_step : (done : AgentRows) (rows : List PolicyRow) → AreRowsOfTrees n nexts trees rows
         → done ≡ map (λ t. map (plain_row n h q t) (range_with_len 0 (n ^ t))) (range_with_len 0 t)
-        → done ++ rows ∷ [] ≡ map (λ t. map (plain_row n h q t) (range_with_len 0 (n ^ t))) (range_with_len 0 (t + 1))
+        → done ++ rows ∷ [] ≡ map (λ t. map (plain_row n h q t) (range_with_len 0 (n ^ t)))
+        (range_with_len 0 (t + 1))
     plain_rows_step done rows made so_far =
         (λ i. so_far i ++ made_rows rows made i ∷ [])
-        ∙ sym (map-range_with_len_more (λ t. map (plain_row n h q t) (range_with_len 0 (n ^ t))) 0 t t (omega arith))
+        ∙ sym (map-range_with_len_more (λ t. map (plain_row n h q t) (range_with_len 0 (n ^ t))) 0 t t
+        (omega arith))
 
 -- ---- all agents
 
 pub plain_agents_step : (ns : List ℕ) (qs : List PolicyTree) (h i : ℕ) (done whole : SharedPolicy)
     (stages : AgentRows) → i < length ns → i < length qs
-    → done ++ plain_rows_of (drop i ns) h (drop i qs) ≡ whole → stages ≡ plain_rows (get_or ns i 0) h (tree_of qs i)
+    → done ++ plain_rows_of (drop i ns) h (drop i qs) ≡ whole
+    → stages ≡ plain_rows (get_or ns i 0) h (tree_of qs i)
     → (done ++ stages ∷ []) ++ plain_rows_of (drop (suc i) ns) h (drop (suc i) qs) ≡ whole
 plain_agents_step ns qs h i done whole stages ln lq so_far here =
     let d : PolicyTree = node 0 no_trees in
@@ -119,7 +123,8 @@ plain_agents_step ns qs h i done whole stages ln lq so_far here =
 pub plain_end : (ns : List ℕ) (qs : List PolicyTree) (h i : ℕ) (done whole : SharedPolicy) → length ns ≤ i
     → done ++ plain_rows_of (drop i ns) h (drop i qs) ≡ whole → done ≡ whole
 plain_end ns qs h i done whole le so_far =
-    sym (append_none done) ∙ ap (λ (xs : List ℕ). done ++ plain_rows_of xs h (drop i qs)) (sym (drop_all ns i le))
+    sym (append_none done) ∙ ap (λ (xs : List ℕ). done ++ plain_rows_of xs h (drop i qs))
+    (sym (drop_all ns i le))
     ∙ so_far
   where
     append_none : (p : SharedPolicy) → p ++ [] ≡ p
@@ -131,7 +136,8 @@ pub plain_form_made : (m : Model) (h : ℕ) (qs : List PolicyTree)
 unfolding plain_form
 plain_form_made m h qs = refl
 
-module _ (m : Model) (is : IsModel m) (h : ℕ) (within : IsWithinLimits m h) (qs : List PolicyTree) (policy : IsPolicyOf m h qs) where
+module _ (m : Model) (is : IsModel m) (h : ℕ) (within : IsWithinLimits m h) (qs : List PolicyTree)
+    (policy : IsPolicyOf m h qs) where
   -- what is kept of the plain form
   pub plain_form_kept : AreKept h (plain_form m h qs)
   plain_form_kept =
@@ -150,6 +156,7 @@ module _ (m : Model) (is : IsModel m) (h : ℕ) (within : IsWithinLimits m h) (q
       omega arith
 
 -- an agent has an observation
-pub some_observation : (m : Model) → IsModel m → (i : ℕ) → i < length m.observations → 0 < get_or m.observations i 0
+pub some_observation : (m : Model) → IsModel m → (i : ℕ) → i < length m.observations
+    → 0 < get_or m.observations i 0
 unfolding joint_observations
 some_observation m is i lt = size_above m.observations i (some_joint_observation m is) lt

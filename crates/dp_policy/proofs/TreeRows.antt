@@ -33,7 +33,8 @@ pub last_tree : (n : ℕ) (act : ℕ → ℕ → ℕ) (r t x a : ℕ) → r ≡ 
     → node a no_trees ≡ tree_doing_after n act r t x
 last_tree n act r t x a last is = rw (last, is) refl
 
-pub earlier_tree : (n : ℕ) (act : ℕ → ℕ → ℕ) (r s t x a : ℕ) (qs : List PolicyTree) → r ≡ suc (suc s) → a ≡ act t x
+pub earlier_tree : (n : ℕ) (act : ℕ → ℕ → ℕ) (r s t x a : ℕ) (qs : List PolicyTree) → r ≡ suc (suc s)
+    → a ≡ act t x
     → qs ≡ map (λ o. tree_doing_after n act (suc s) (t + 1) (x * n + o)) (range_with_len 0 n)
     → node a (policy_trees qs) ≡ tree_doing_after n act r t x
 earlier_tree n act r s t x a qs steps is kids =
@@ -117,7 +118,8 @@ mutual
 
   actions_are_rows : (b n h t : ℕ) (q : PolicyTree) (o c : ℕ) (ks : PolicyTrees) → t < suc h → o + c ≡ n
       → ArePolicyTrees b n (suc h) c ks → ((i : ℕ) → i < c → nth_tree ks i ≡ subtree q (o + i))
-      → actions_of_all t ks ≡ map (λ x. root_action (tree_at n q (suc t) x)) (range_with_len (o * n ^ t) (c * n ^ t))
+      → actions_of_all t ks ≡ map (λ x. root_action (tree_at n q (suc t) x))
+      (range_with_len (o * n ^ t) (c * n ^ t))
   actions_are_rows b n h t q o zero no_trees lt all are same =
       let none : 0 ≡ 0 * n ^ t = omega arith in
       ap (λ k. map (λ x. root_action (tree_at n q (suc t) x)) (range_with_len (o * n ^ t) k)) none
@@ -140,7 +142,8 @@ mutual
       let others : actions_of_all t ks ≡ map (λ x. root_action (tree_at n q (suc t) x))
       (range_with_len (o * n ^ t + n ^ t) (c * n ^ t)) =
       actions_are_rows b n h t q (o + 1) c ks lt (omega arith) are.1
-      (λ i below. let at : o + suc i ≡ o + 1 + i = omega arith in same (suc i) (omega arith) ∙ ap (subtree q) at)
+      (λ i below. let at : o + suc i ≡ o + 1 + i = omega arith in same (suc i) (omega arith)
+      ∙ ap (subtree q) at)
       ∙ ap (λ a. map f (range_with_len a (c * n ^ t))) next in
       (λ i. row i ++ others i)
       ∙ sym (ranges f (o * n ^ t) (n ^ t) (c * n ^ t))

@@ -37,7 +37,8 @@ pub kid_is : (t : PTree) (o : ℕ) (d : PTree) → o < tree_count (subtrees (pol
     → policy_tree (get_or (out-PTree t).kids.items o d) ≡ subtree (policy_tree t) o
 kid_is t o d h =
     let e = kids_counted t in
-    sym (ap (λ (q : PolicyTree). subtree q o) (policy_tree_is t) ∙ nth_of (out-PTree t).kids.items o d (omega arith))
+    sym (ap (λ (q : PolicyTree). subtree q o) (policy_tree_is t)
+    ∙ nth_of (out-PTree t).kids.items o d (omega arith))
 
 -- ---- trees of so many steps, by the fields
 
@@ -93,7 +94,8 @@ is_more b n r t =
           (h.0, trees_fit b n (suc r) n ks h.1 h.2),
     )
 
-pub action_below : (b n r : ℕ) (t : PTree) → 0 < r → IsPolicyTree b n r (policy_tree t) → (out-PTree t).action < b
+pub action_below : (b n r : ℕ) (t : PTree) → 0 < r → IsPolicyTree b n r (policy_tree t)
+    → (out-PTree t).action < b
 action_below b n zero t p h = absurd (omega arith)
 action_below b n (suc zero) t p h = ((is_one b n t).0 h).0
 action_below b n (suc (suc r)) t p h = ((is_more b n r t).0 h).0

@@ -20,7 +20,8 @@ listens : read (codes "decplan policy 1\nhorizon 2\nagent 0\n0\n0 0\nagent 1\n0\
 unfolding is_plain plain_of signed_of item_numbers items_behind numbers_at are_typed are_in_range line_at lines_at digits
 listens = refl
 
-out_of_range : read (codes "decplan policy 1\nhorizon 2\nagent 0\n0\n0 3\nagent 1\n0\n0 0\nend\n") ≡ Err (bad 5 Range)
+out_of_range : read (codes "decplan policy 1\nhorizon 2\nagent 0\n0\n0 3\nagent 1\n0\n0 0\nend\n")
+    ≡ Err (bad 5 Range)
 unfolding is_plain plain_of signed_of item_numbers items_behind numbers_at are_typed are_in_range line_at lines_at digits
 out_of_range = refl
 

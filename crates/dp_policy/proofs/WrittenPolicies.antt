@@ -31,10 +31,12 @@ use Rattle.dp_policy.proofs.PolicyAnswers.{policy_proper, replicate_items}
 -- ---- one line
 
 line_front : (line : Line) (lines : List Line) (more : List ℕ)
-    → text_of_lines (line ∷ lines) ++ more ≡ line_text line.form line.numbers ++ 10 ∷ (text_of_lines lines ++ more)
+    → text_of_lines (line ∷ lines) ++ more ≡ line_text line.form line.numbers
+    ++ 10 ∷ (text_of_lines lines ++ more)
 line_front line lines more = append_assoc (line_text line.form line.numbers) (10 ∷ text_of_lines lines) more
 
-pub lines_front : (lines more : List Line) → text_of_lines (lines ++ more) ≡ text_of_lines lines ++ text_of_lines more
+pub lines_front : (lines more : List Line) → text_of_lines (lines ++ more) ≡ text_of_lines lines
+    ++ text_of_lines more
 lines_front [] more = refl
 lines_front (line ∷ lines) more =
     ap (λ (l : List ℕ). line_text line.form line.numbers ++ 10 ∷ l) (lines_front lines more)
@@ -42,11 +44,13 @@ lines_front (line ∷ lines) more =
 
 numbers_written : {L : Type 0} (form : List Item) (zs : List ℤ) (at : ℕ) (lines : List Line) (more : List ℕ)
     → HasItems form → Allows form zs
-    → front_of {L = L} (the_numbers form) at (text_of_lines (record { form = form; numbers = zs } ∷ lines) ++ more)
+    → front_of {L = L} (the_numbers form) at (text_of_lines (record { form = form; numbers = zs } ∷ lines)
+    ++ more)
     ≡ Ok (rest_at zs (suc at) (text_of_lines lines ++ more))
 numbers_written {L = L} form zs at lines more has a =
     ap (front_of {L = L} (the_numbers form) at) (line_front (record { form = form; numbers = zs }) lines more)
-    ∙ numbers_ok form at (line_text form zs ++ 10 ∷ (text_of_lines lines ++ more)) zs (text_of_lines lines ++ more)
+    ∙ numbers_ok form at (line_text form zs ++ 10 ∷ (text_of_lines lines ++ more)) zs
+    (text_of_lines lines ++ more)
     (line_at-written form zs (text_of_lines lines ++ more) has a)
 
 -- ---- the rows of an agent
@@ -54,7 +58,8 @@ numbers_written {L = L} form zs at lines more has a =
 -- the lines of rows from stage t on
 abbrev stage_lines : ℕ → ℕ → ℕ → List (List ℕ) → List Line
 stage_lines b n t [] = []
-stage_lines b n t (row ∷ rows) = record { form = row_form b n t; numbers = map pos row } ∷ stage_lines b n (t + 1)
+stage_lines b n t (row ∷ rows) = record { form = row_form b n t; numbers = map pos row } ∷ stage_lines b n
+    (t + 1)
     rows
 
 stages_written : {L : Type 0} (b n t : ℕ) (rows : List (List ℕ)) (at : ℕ) (more : List ℕ)
@@ -63,7 +68,8 @@ stages_written : {L : Type 0} (b n t : ℕ) (rows : List (List ℕ)) (at : ℕ) 
     ≡ Ok (rest_at rows (at + length rows) more)
 stages_written b n t [] at more a = ap (λ k. Ok (rest_at [] k more)) (omega arith)
 stages_written {L = L} b n t (row ∷ rows) at more a =
-    stage_read {L = L} b n t (length rows) at (suc at) _ (text_of_lines (stage_lines b n (t + 1) rows) ++ more) row
+    stage_read {L = L} b n t (length rows) at (suc at) _ (text_of_lines (stage_lines b n (t + 1) rows)
+    ++ more) row
     (numbers_written {L = L} (row_form b n t) (map pos row) at (stage_lines b n (t + 1) rows) more
     (replicate_items (n ^ t) 0 (b - 1)) a.0)
     ∙ ap (onto (row ∷ [])) (stages_written {L = L} b n (t + 1) rows (suc at) more a.1)
@@ -80,7 +86,8 @@ tree_rows_length n q t (suc k) = ap suc (tree_rows_length n q (t + 1) k)
 
 tree_written : {L : Type 0} (b n h : ℕ) (q : PolicyTree) (at : ℕ) (more : List ℕ)
     → AllAllowed (map (row_line b n q) (range_with_len 0 h))
-    → front_of {L = L} (stage_rows b n 0 h) at (text_of_lines (map (row_line b n q) (range_with_len 0 h)) ++ more)
+    → front_of {L = L} (stage_rows b n 0 h) at (text_of_lines (map (row_line b n q) (range_with_len 0 h))
+    ++ more)
     ≡ Ok (rest_at (tree_rows n q 0 h) (at + h) more)
 tree_written {L = L} b n h q at more a =
     let lines = tree_lines_are b n q 0 h in
@@ -94,7 +101,8 @@ tree_written {L = L} b n h q at more a =
 -- ---- the agents
 
 agents_written : {L : Type 0} (h agent : ℕ) (bs ns : List ℕ) (qs : List PolicyTree) (at : ℕ) (more : List ℕ)
-    → agent + length bs < 10 ^ 64 → IsJointPolicy h bs ns qs → AllAllowed (agent_lines agent (policy_rows bs ns h qs))
+    → agent + length bs < 10 ^ 64 → IsJointPolicy h bs ns qs
+    → AllAllowed (agent_lines agent (policy_rows bs ns h qs))
     → (to : ℕ) × (front_of {L = L} (agent_rows h agent bs ns) at
     (text_of_lines (agent_lines agent (policy_rows bs ns h qs)) ++ more)
     ≡ Ok (rest_at (policy_actions h ns qs) to more))
@@ -149,7 +157,8 @@ policy_text_says m is bytes h qs text kept =
     ∙ words_ok {L = TooLarge} (title_words (codes "policy")) 1 _ _
     (line_at-written (title_form (codes "policy") 1) [] (text_of_lines (horizon_line h ∷ (agents ++ last))
     ++ []) (assumption, (assumption, (assumption, tt))) tt) in
-    let horizon = numbers_written {L = TooLarge} horizon_form (pos h ∷ []) 2 (agents ++ last) [] (assumption, tt)
+    let horizon = numbers_written {L = TooLarge} horizon_form (pos h ∷ []) 2 (agents ++ last) []
+    (assumption, tt)
     text.allowed.1.0 in
     let behind : text_of_lines (agents ++ last) ++ [] ≡ text_of_lines agents
     ++ text_of_lines last = append-nil (text_of_lines (agents ++ last)) ∙ lines_front agents last in
@@ -166,4 +175,5 @@ policy_text_says m is bytes h qs text kept =
     ∙ limits_kept m (pos h ∷ []) h 3 _ refl kept ∙ agents_read m h 3 written.0 _ (text_of_lines last)
     (policy_actions h m.observations qs) rows ∙ end_read h written.0 (suc written.0) (text_of_lines last) []
     (policy_actions h m.observations qs) end) refl in
-    subst (IsAnswer (policy_grammar m) 1 bytes) read (read_answer (policy_grammar m) (policy_proper m is) 1 bytes)
+    subst (IsAnswer (policy_grammar m) 1 bytes) read (read_answer (policy_grammar m) (policy_proper m is)
+    1 bytes)

@@ -45,7 +45,8 @@ rows_are h (b ∷ bs) (n ∷ ns) (q ∷ qs) (and_agent is iss) =
 pub trees_written : (h : ℕ) (qs : List PolicyTree) (bytes : List ℕ)
     → bytes ≡ policy_bytes h (map (λ q. map (λ t. actions_below t q) (range_with_len 0 h)) qs)
     → (bs ns : List ℕ) → IsJointPolicy h bs ns qs → bytes ≡ policy_text bs ns h qs
-trees_written h qs bytes e bs ns is = e ∙ ap (policy_bytes h) (rows_are h bs ns qs is) ∙ written_for bs ns h qs is
+trees_written h qs bytes e bs ns is = e ∙ ap (policy_bytes h) (rows_are h bs ns qs is)
+    ∙ written_for bs ns h qs is
 
 -- and says the policy
 pub text_says : (h : ℕ) (qs : List PolicyTree) (bytes : List ℕ) → 0 < h → h < 2 ^ 32

@@ -25,8 +25,8 @@ said_by p = record { horizon = p.horizon; trees = joint_policy p }
 abbrev pub PassesNone : Model → ℕ → Type 0
 PassesNone m h = first_passed (horizon_limits m h) ≡ None
 
--- The bytes are the text of this joint policy, whose horizon passes no limit; or this line is the first that is not as
--- required; or the lines up to the horizon are as required, and this limit is passed.
+-- The bytes are the text of this joint policy, whose horizon passes no limit; or this line is the first that is not
+-- as required; or the lines up to the horizon are as required, and this limit is passed.
 abbrev pub IsPolicyAnswer : Model → List ℕ → Result SaidPolicy (Fault TooLarge) → Type 0
 IsPolicyAnswer m bytes (Ok p) = IsPolicyText m bytes p.horizon p.trees × PassesNone m p.horizon
 IsPolicyAnswer m bytes (Err (bad line why)) = IsFirstBad (policy_grammar m) 1 bytes line why
@@ -38,8 +38,8 @@ HasPolicyFault m bytes (faults.At line why) = IsPolicyAnswer m bytes (Err (bad l
 HasPolicyFault m bytes (faults.TooLarge passed) = IsPolicyAnswer m bytes (Err (limit passed))
 HasPolicyFault m bytes faults.Memory = Unit {0}
 
--- For each model: bytes are the text of one joint policy, or have one first bad line, or pass one limit, and no two of
--- these.
+-- For each model: bytes are the text of one joint policy, or have one first bad line, or pass one limit, and no two
+-- of these.
 abbrev pub EachPolicyTextHasOneAnswer : Type 0
 EachPolicyTextHasOneAnswer =
     (m : Model) → IsModel m → (bytes : List ℕ)

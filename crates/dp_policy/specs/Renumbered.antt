@@ -6,7 +6,8 @@ use Rattle.dp_spec.specs.SharedPolicy.{AgentRows, PolicyRow, no_row, row_at}
 -- the new number of each kind that was met, and for each new number a row of its kind
 pub record IsNumbering (kinds : List ℕ) (numbers : List (Option ℕ)) (met : List ℕ) : Type 0 where
   pub counted : length numbers ≡ length kinds
-  pub known : (k x : ℕ) → get_or numbers k None ≡ Some x → (x < length met) × (get_or kinds (get_or met x 0) 0 ≡ k)
+  pub known : (k x : ℕ) → get_or numbers k None ≡ Some x → (x < length met)
+      × (get_or kinds (get_or met x 0) 0 ≡ k)
   pub numbered : (x : ℕ) → x < length met → get_or numbers (get_or kinds (get_or met x 0) 0) None ≡ Some x
   pub inside : (x : ℕ) → x < length met → get_or met x 0 < length kinds
 
@@ -18,7 +19,8 @@ pub record AreNumberedAfter (kinds : List ℕ) (k : ℕ) (nexts before after new
   pub in_order : AreInOrder (length before) news
   pub read : read_after (length before) news ≡ length after
   pub below : (o : ℕ) → o < k → get_or news o 0 < length after
-  pub same : (o : ℕ) → o < k → get_or kinds (get_or after (get_or news o 0) 0) 0 ≡ get_or kinds (get_or nexts o 0) 0
+  pub same : (o : ℕ) → o < k → get_or kinds (get_or after (get_or news o 0) 0) 0
+      ≡ get_or kinds (get_or nexts o 0) 0
 
 -- the first k of the rows of stage t that were reached, with next rows by their new numbers, and the rows of the next
 -- stage that these reach

@@ -8,8 +8,9 @@ pub record HorizonRows : Type 0 where
   pub horizon : ℕ
   pub rows : SharedPolicy
 
--- At most 6 agents and 24 stages, and no list longer than a number of its kind may be. An agent has one first row, its
--- rows before the last stage go on after as many observations as the first row, and next rows are rows of the next stage.
+-- At most 6 agents and 24 stages, and no list longer than a number of its kind may be. An agent has one first row,
+-- its rows before the last stage go on after as many observations as the first row, and next rows are rows of the
+-- next stage.
 pub record AreKept (h : ℕ) (p : SharedPolicy) : Type 0 where
   pub horizon : h ≤ 24
   pub agents : length p ≤ 6

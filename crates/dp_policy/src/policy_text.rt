@@ -82,7 +82,8 @@ fn agents<'a>(
 ) -> Result<(Vec<Vec<Vec<u32>>>, Lines<'a>), PolicyFault>
     requires { IsWithinLimits model.now.model horizon }
     ensures { Gives (λ x. rest_at (agents_of x.0) x.1.line x.1.rest.now) result
-        (front_of (agent_rows horizon 0 model.now.model.actions model.now.model.observations) from.entry.line from.entry.rest.now) }
+        (front_of (agent_rows horizon 0 model.now.model.actions model.now.model.observations)
+        from.entry.line from.entry.rest.now) }
 {
     model.invariant();
     let mut agents = Vec::new(alloc);

@@ -13,9 +13,10 @@ use Rattle.dp_laws.proofs.Zeros.{mode_keeps_zero}
 use Rattle.dp_mdp.specs.TableRows.{IsTable}
 use Rattle.dp_pomdp.specs.Looking.{IsLooking, weights_of}
 
--- The arithmetic of the mode of a true fit, made of the scales c, in the branch of a test of x where it is e: weights of
--- time t can be looked ahead from over the r steps that are left.
-pub mode_looking : (e x : Bool) (c : Scales) (m : Model) → IsModel m → c ≡ m.scales → x ≡ e → (h t r : ℕ) (u : ℤ)
+-- The arithmetic of the mode of a true fit, made of the scales c, in the branch of a test of x where it is e:
+-- weights of time t can be looked ahead from over the r steps that are left.
+pub mode_looking : (e x : Bool) (c : Scales) (m : Model) → IsModel m → c ≡ m.scales → x ≡ e
+    → (h t r : ℕ) (u : ℤ)
     → IsTrueFit m h x u → t ≤ h → r ≡ h - t → (ws : List Span) → length ws ≡ m.states
     → AreWeights x m t (weights_of ws) → IsLooking (arithmetic e c) (calls_in e c) m r ws
 mode_looking e x c m is same branch h t r u fit early left ws one_each are =
@@ -25,13 +26,17 @@ mode_looking e x c m is same branch h t r u fit early left ws one_each are =
     record {
       zero = mode_keeps_zero e c;
       horizon = h;
-      push = subst (λ (c : Scales). CanUpdateWeights (arithmetic e c) (calls_in e c) m h) (sym same) (mode_can_update_weights m is h some most e mode);
-      reward = subst (λ (c : Scales). CanReward (arithmetic e c) (calls_in e c) m h) (sym same) (mode_can_reward m is h some most e mode);
-      look = subst (λ (c : Scales). CanLookAhead (arithmetic e c) (calls_in e c) m h) (sym same) (mode_can_look_ahead m is h some most e mode);
+      push = subst (λ (c : Scales). CanUpdateWeights (arithmetic e c) (calls_in e c) m h) (sym same)
+          (mode_can_update_weights m is h some most e mode);
+      reward = subst (λ (c : Scales). CanReward (arithmetic e c) (calls_in e c) m h) (sym same)
+          (mode_can_reward m is h some most e mode);
+      look = subst (λ (c : Scales). CanLookAhead (arithmetic e c) (calls_in e c) m h) (sym same)
+          (mode_can_look_ahead m is h some most e mode);
       time = t;
       left = omega arith;
       one_each = one_each;
-      weights = subst (λ (b : Bool). AreWeights b m t (weights_of ws)) (branch ∙ sym (arithmetic_is_exact e c)) are;
+      weights = subst (λ (b : Bool). AreWeights b m t (weights_of ws))
+          (branch ∙ sym (arithmetic_is_exact e c)) are;
     }
 
 -- the table of at most the horizon's steps

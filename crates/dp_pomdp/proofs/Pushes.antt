@@ -24,7 +24,8 @@ pub no_weight : (A : Arithmetic) (C : Calls) (m : Model) (r : ℕ) (ws : List Sp
 no_weight A C m r ws is s state e =
     weight_is_none (weights_of ws s) (is.weights.from s state) (is.weights.order s state) e
 
-part_of_none : (A : Arithmetic) → KeepsZero A → (w : Span) (p z : ℕ) → w ≡ nothing → A.later (A.chance w p z) ≡ nothing
+part_of_none : (A : Arithmetic) → KeepsZero A → (w : Span) (p z : ℕ) → w ≡ nothing
+    → A.later (A.chance w p z) ≡ nothing
 part_of_none A keeps w p z e = rw (e, keeps.no_weight p z) keeps.later
 
 pub unlikely_next : (A : Arithmetic) → KeepsZero A → (w : Span) (p z : ℕ) → p ≡ 0
@@ -64,7 +65,8 @@ module _ (A : Arithmetic) (m : Model) (ws : List Span) (a o : ℕ) where
 -- ---- for one state k, next state by next state
 
 -- the sums of the next states below `to` have the part of state k too
-pub record IsPushing (A : Arithmetic) (m : Model) (ws : List Span) (a o k to : ℕ) (next : List Span) : Type 0 where
+pub record IsPushing (A : Arithmetic) (m : Model) (ws : List Span) (a o k to : ℕ)
+    (next : List Span) : Type 0 where
   pub one_each : length next ≡ m.states
   pub done : (t : ℕ) → t < to → weights_of next t ≡ span_sum (suc k) (updated_part A m ws a o t)
   pub rest : (t : ℕ) → to ≤ t → t < m.states → weights_of next t ≡ span_sum k (updated_part A m ws a o t)
@@ -87,7 +89,8 @@ module _ (A : Arithmetic) (m : Model) (ws : List Span) (a o k : ℕ) where
       | inr late ↦
           let here : t ≡ to = omega arith in
           let room : to < length next = let len = so_far.one_each in omega arith in
-          rw here (rw get_or-set_same (is ∙ ap (λ (w : Span). span_add w (updated_part A m ws a o to k)) (so_far.rest to (omega arith) inside)))
+          rw here (rw get_or-set_same (is ∙ ap (λ (w : Span). span_add w (updated_part A m ws a o to k))
+          (so_far.rest to (omega arith) inside)))
     ];
     rest = λ t le lt.
         let other : t ≢ to = λ e. absurd (omega arith) in
@@ -106,7 +109,8 @@ module _ (A : Arithmetic) (m : Model) (ws : List Span) (a o k : ℕ) where
 
 -- ---- what is allowed
 
-module _ (A : Arithmetic) (C : Calls) (m : Model) (ws : List Span) (is : IsBeforeHorizon A C m ws) (a o : ℕ) (pa : a < joint_actions m) (po : o < joint_observations m) (t : ℕ) (pt : t < m.states) where
+module _ (A : Arithmetic) (C : Calls) (m : Model) (ws : List Span) (is : IsBeforeHorizon A C m ws) (a o : ℕ)
+    (pa : a < joint_actions m) (po : o < joint_observations m) (t : ℕ) (pt : t < m.states) where
   early : is.1.time < is.1.horizon
   early = let left = is.1.left in omega arith
 
@@ -115,7 +119,8 @@ module _ (A : Arithmetic) (C : Calls) (m : Model) (ws : List Span) (is : IsBefor
       is.1.push.chance is.1.time (weights_of ws) a s t o early is.1.weights
       (record { action = pa; state = ps; next = pt; seen = po })
 
-  pub may_later : (s : ℕ) → s < m.states → C.Later (A.chance (weights_of ws s) (trans_at m a s t) (obs_at m a t o))
+  pub may_later : (s : ℕ) → s < m.states → C.Later (A.chance (weights_of ws s) (trans_at m a s t)
+      (obs_at m a t o))
   may_later s ps =
       is.1.push.later is.1.time (weights_of ws) a s t o early is.1.weights
       (record { action = pa; state = ps; next = pt; seen = po })

@@ -35,7 +35,8 @@ none_earned A keeps m r w a s none =
 -- the magnitudes of its parts
 abbrev parts_from : Arithmetic → Model → ℕ → List Span → ℕ → ℕ → ℕ
 parts_from A m r ws a s =
-    nat_sum m.states (λ t. nat_sum (joint_observations m) (λ o. size (reward_part A m r (weights_of ws s) a s t o)))
+    nat_sum m.states (λ t. nat_sum (joint_observations m) (λ o. size
+    (reward_part A m r (weights_of ws s) a s t o)))
 
 from_state : (A : Arithmetic) (m : Model) (r : ℕ) (ws : List Span) (a s : ℕ)
     → size (reward_from A m r ws a s) ≤ parts_from A m r ws a s
@@ -55,7 +56,8 @@ pub one_more_reward : (A : Arithmetic) (m : Model) (r : ℕ) (ws : List Span) (a
     → span_add total part ≡ span_sum (suc k) (reward_from A m r ws a)
 one_more_reward A m r ws a k total part sum is_part = rw (sum, is_part) refl
 
-module _ (A : Arithmetic) (C : Calls) (m : Model) (r : ℕ) (ws : List Span) (is : IsLooking A C m (suc r) ws) (a : ℕ) (pa : a < joint_actions m) where
+module _ (A : Arithmetic) (C : Calls) (m : Model) (r : ℕ) (ws : List Span) (is : IsLooking A C m (suc r) ws)
+    (a : ℕ) (pa : a < joint_actions m) where
   -- a state without weight may be left out
   pub skip_reward : (k : ℕ) (total : Span) → k < m.states → (weights_of ws k).high ≡ pos 0
       → total ≡ span_sum k (reward_from A m r ws a) → total ≡ span_sum (suc k) (reward_from A m r ws a)
@@ -71,7 +73,8 @@ module _ (A : Arithmetic) (C : Calls) (m : Model) (r : ℕ) (ws : List Span) (is
   pub reward_allowed : (s : ℕ) → s < m.states → AllowsReward A C m r (weights_of ws s) a s
   unfolding reward_size
   reward_allowed s ps = record {
-    chance = λ t o step. is.push.chance is.time (weights_of ws) a s t o (let left = is.left in omega arith) is.weights step;
+    chance = λ t o step. is.push.chance is.time (weights_of ws) a s t o (let left = is.left in omega arith)
+        is.weights step;
     gain = λ t o step. is.reward.gain is.time r (weights_of ws) a s t o is.left is.weights step;
     add =
         let one = nat_sum_at m.states (parts_from A m r ws a) s ps in

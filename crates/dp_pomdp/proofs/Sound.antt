@@ -24,7 +24,8 @@ scales_meet : (m : Model) (h t r : ℕ) → t + r ≡ h
 unfolding value_scale
 scales_meet m h t r left =
     regroup m.scales.start (step_scale m ^ t) m.scales.reward (step_scale m ^ r)
-    ∙ ap (λ (k : ℕ). m.scales.start * (m.scales.reward * k)) (sym (pow-add (step_scale m) t r) ∙ ap (λ (n : ℕ). step_scale m ^ n) left)
+    ∙ ap (λ (k : ℕ). m.scales.start * (m.scales.reward * k))
+    (sym (pow-add (step_scale m) t r) ∙ ap (λ (n : ℕ). step_scale m ^ n) left)
   where
     regroup : (s k d l : ℕ) → s * k * (d * l) ≡ s * (d * (k * l))
     regroup s k d l = omega arith
@@ -52,7 +53,8 @@ look_ahead_bounds e m is h t look u fit early ws w qs held policy =
     (zle_trans _ _ _ true_look ((model_arithmetic_sound m is e).reads F (look_ahead m r w look) _ above))
 
 -- with a step that is left after the joint action
-action_bounds : (e : Bool) (m : Model) → IsModel m → (h t r a look : ℕ) (u : ℤ) → IsTrueFit m h e u → t + suc r ≡ h
+action_bounds : (e : Bool) (m : Model) → IsModel m → (h t r a look : ℕ) (u : ℤ) → IsTrueFit m h e u
+    → t + suc r ≡ h
     → (ws : ℕ → Span) (w : ℕ → ℕ) (qs : List PolicyTree) → AreHeld e m t ws w → IsPolicyOf m (suc r) qs
     → joint_root_action m qs ≡ a →
     (earned_from m (suc r) w qs *ℤ u)
@@ -60,11 +62,15 @@ action_bounds : (e : Bool) (m : Model) → IsModel m → (h t r a look : ℕ) (u
 action_bounds e m is h t r a look u fit left ws w qs held policy root =
     let T = m.scales.start * step_scale m ^ t in
     let F = T * (m.scales.reward * step_scale m ^ suc r) in
-    let true_look = mul_le_right ((enclosure e).unit F) _ _ (value_under_action m is r look w a qs policy root) in
+    let true_look = mul_le_right ((enclosure e).unit F) _ _ (value_under_action m is r look w a qs policy
+    root) in
     let above = (mode_quantities m is e).action_look_aheads T r look w ws a held in
-    above_in_unit e m h u (earned_from m (suc r) w qs) (action_look_ahead_in (arithmetic e m.scales) m r ws a look) F fit
+    above_in_unit e m h u (earned_from m (suc r) w qs) (action_look_ahead_in (arithmetic e m.scales)
+    m r ws a look)
+    F fit
     (scales_meet m h t (suc r) left)
-    (zle_trans _ _ _ true_look ((model_arithmetic_sound m is e).reads F (action_look_ahead m r w a look) _ above))
+    (zle_trans _ _ _ true_look ((model_arithmetic_sound m is e).reads F (action_look_ahead m r w a look)
+    _ above))
 
 pub action_look_ahead_bounds : (e : Bool) (m : Model) → IsModel m → (h t a look : ℕ) (u : ℤ) → IsTrueFit m h e u
     → t < h → (ws : ℕ → Span)
@@ -74,5 +80,6 @@ action_look_ahead_bounds e m is h t a look u fit early ws w qs held policy root 
     let left : t + suc (h - t - 1) ≡ h = omega arith in
     let of_steps = subst (λ (n : ℕ). IsPolicyOf m n qs) steps policy in
     subst
-    (λ (n : ℕ). (earned_from m n w qs *ℤ u) ≤ℤ (action_look_ahead_in (arithmetic e m.scales) m (h - t - 1) ws a look *ℤ pos (value_scale m h)))
+    (λ (n : ℕ). (earned_from m n w qs *ℤ u) ≤ℤ (action_look_ahead_in (arithmetic e m.scales) m (h - t - 1)
+    ws a look *ℤ pos (value_scale m h)))
     (sym steps) (action_bounds e m is h t (h - t - 1) a look u fit left ws w qs held of_steps root)

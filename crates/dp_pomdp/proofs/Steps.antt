@@ -22,14 +22,16 @@ use Rattle.dp_pomdp.proofs.Pushes.{no_weight}
 
 -- the first parts of weights against the table
 pub against_part_fits : (A : Arithmetic) (C : Calls) (m : Model) (r : ℕ) (ws : List Span) → IsLooking A C m r ws
-    → (k : ℕ) → k ≤ m.states → unsigned_abs (int_sum k (λ s. A.tail (weights_of ws s) (mdp_table_in A m r s))) < 2 ^ 127
+    → (k : ℕ) → k ≤ m.states → unsigned_abs (int_sum k (λ s. A.tail (weights_of ws s) (mdp_table_in A m r s)))
+    < 2 ^ 127
 unfolding weighted_table_size
 against_part_fits A C m r ws is k le =
     let part = int_sum_part k m.states (λ s. A.tail (weights_of ws s) (mdp_table_in A m r s)) le in
     let all = is.look.tails is.time r (weights_of ws) is.left is.weights in omega arith
 
 pub sum_is_against : (A : Arithmetic) (m : Model) (r : ℕ) (ws : ℕ → Span) (k : ℕ) (total : ℤ)
-    → total ≡ int_sum k (λ s. A.tail (ws s) (mdp_table_in A m r s)) → k ≡ m.states → total ≡ weighted_table_in A m r ws
+    → total ≡ int_sum k (λ s. A.tail (ws s) (mdp_table_in A m r s)) → k ≡ m.states
+    → total ≡ weighted_table_in A m r ws
 unfolding weighted_table_in
 sum_is_against A m r ws k total is all = rw (is, all) refl
 
@@ -37,7 +39,8 @@ pub tail_is : (A : Arithmetic) (x : ℤ) (w : Span) (v v2 : ℤ) → x ≡ A.tai
 tail_is A x w v v2 e f = rw (sym f) e
 
 -- nothing is earned where no state has a weight
-pub zero_look : (A : Arithmetic) (C : Calls) (m : Model) (r : ℕ) (ws : List Span) → IsLooking A C m r ws → AreZero ws
+pub zero_look : (A : Arithmetic) (C : Calls) (m : Model) (r : ℕ) (ws : List Span) → IsLooking A C m r ws
+    → AreZero ws
     → (k : ℕ) → pos 0 ≡ look_ahead_in A m r (weights_of ws) k
 zero_look A C m r ws is none_held k =
     let each : (s : ℕ) → s < m.states → weights_of ws s ≡ nothing =
@@ -73,7 +76,8 @@ deeper_room (suc k) states room deeper mid some le split here =
 -- the weights after a joint action and a joint observation are weights to look ahead from too
 pub looking_next : (A : Arithmetic) (C : Calls) (m : Model) (r : ℕ) (ws next : List Span) (a o : ℕ)
     → IsLooking A C m (suc r) ws → a < joint_actions m → o < joint_observations m → length next ≡ m.states
-    → ((t : ℕ) → t < m.states → weights_of next t ≡ weights_after_in A m (weights_of ws) a o t) → IsLooking A C m r next
+    → ((t : ℕ) → t < m.states → weights_of next t ≡ weights_after_in A m (weights_of ws) a o t)
+    → IsLooking A C m r next
 looking_next A C m r ws next a o is pa po len same = record {
   zero = is.zero;
   horizon = is.horizon;
@@ -83,13 +87,17 @@ looking_next A C m r ws next a o is pa po len same = record {
   time = suc is.time;
   left = let all = is.left in omega arith;
   one_each = len;
-  weights = weights_same A.is_exact m (suc is.time) (weights_after_in A m (weights_of ws) a o) (weights_of next) (λ t p. sym (same t p)) (is.push.updated is.time (weights_of ws) a o (let all = is.left in omega arith) is.weights pa po);
+  weights = weights_same A.is_exact m (suc is.time) (weights_after_in A m (weights_of ws) a o) (weights_of next)
+      (λ t p. sym (same t p)) (is.push.updated is.time (weights_of ws) a o (let all = is.left in omega arith)
+      is.weights pa po);
 }
 
 -- the reward now and the first look-aheads after it
-pub looks_part_fits : (A : Arithmetic) (C : Calls) (m : Model) (r : ℕ) (ws : List Span) → IsLooking A C m (suc r) ws
+pub looks_part_fits : (A : Arithmetic) (C : Calls) (m : Model) (r : ℕ) (ws : List Span)
+    → IsLooking A C m (suc r) ws
     → (a j k : ℕ) → a < joint_actions m → k ≤ joint_observations m →
-    unsigned_abs ((weighted_reward_in A m r (weights_of ws) a).high +ℤ int_sum k (λ o. look_ahead_in A m r (weights_after_in A m (weights_of ws) a o) j)) < 2 ^ 127
+    unsigned_abs ((weighted_reward_in A m r (weights_of ws) a).high +ℤ int_sum k
+    (λ o. look_ahead_in A m r (weights_after_in A m (weights_of ws) a o) j)) < 2 ^ 127
 unfolding next_look_size
 looks_part_fits A C m r ws is a j k pa le =
     let V = λ (o : ℕ). look_ahead_in A m r (weights_after_in A m (weights_of ws) a o) j in
@@ -99,8 +107,10 @@ looks_part_fits A C m r ws is a j k pa le =
     let all = is.look.looks is.time r j (weights_of ws) a is.left is.weights pa in omega arith
 
 -- all of them together are the look-ahead of the joint action
-pub looks_are_action : (A : Arithmetic) (m : Model) (r look : ℕ) (ws : ℕ → Span) (a k : ℕ) (total : ℤ) → k ≡ joint_observations m
-    → total ≡ (weighted_reward_in A m r ws a).high +ℤ int_sum k (λ o. look_ahead_in A m r (weights_after_in A m ws a o) (look - 1))
+pub looks_are_action : (A : Arithmetic) (m : Model) (r look : ℕ) (ws : ℕ → Span) (a k : ℕ) (total : ℤ)
+    → k ≡ joint_observations m
+    → total ≡ (weighted_reward_in A m r ws a).high +ℤ int_sum k
+    (λ o. look_ahead_in A m r (weights_after_in A m ws a o) (look - 1))
     → total ≡ action_look_ahead_in A m r ws a look
 unfolding action_look_ahead_in
 looks_are_action A m r look ws a k total all is = rw (is, all) refl

@@ -26,5 +26,6 @@ BoundsEarnings e m h unit t ws x =
 -- the same of joint policies whose roots do joint action a
 abbrev pub BoundsEarningsOf : Bool → Model → ℕ → ℤ → ℕ → (ℕ → Span) → ℕ → ℤ → Type 0
 BoundsEarningsOf e m h unit t ws a x =
-    (w : ℕ → ℕ) (qs : List PolicyTree) → AreHeld e m t ws w → IsPolicyOf m (h - t) qs → joint_root_action m qs ≡ a →
+    (w : ℕ → ℕ) (qs : List PolicyTree) → AreHeld e m t ws w → IsPolicyOf m (h - t) qs
+    → joint_root_action m qs ≡ a →
     (earned_from m (h - t) w qs *ℤ unit) ≤ℤ (x *ℤ pos (value_scale m h))

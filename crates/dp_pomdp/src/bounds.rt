@@ -183,7 +183,8 @@ pub fn tail_bound(
     requires weights { AreWeights fit.exact model.now.model t (weights_of weights.now) }
     ensures is { IfOk result (λ bound. bound ≡ look_ahead_in (arithmetic fit.exact model.now.model.scales)
         model.now.model (fit.horizon - t) (weights_of weights.now) look) }
-    ensures sound { IfOk result (BoundsEarnings fit.exact model.now.model fit.horizon fit.unit t (weights_of weights.now)) }
+    ensures sound { IfOk result
+        (BoundsEarnings fit.exact model.now.model fit.horizon fit.unit t (weights_of weights.now)) }
 {
     let mut room = LookRoom::new(alloc, model, look)?;
     Ok(room.tail_bound(model, fit, table, weights, t, look))
@@ -210,7 +211,8 @@ pub fn action_bound(
     requires weights { AreWeights fit.exact model.now.model t (weights_of weights.now) }
     ensures is { IfOk result (λ bound. bound ≡ action_look_ahead_in (arithmetic fit.exact model.now.model.scales)
         model.now.model (fit.horizon - t - 1) (weights_of weights.now) a look) }
-    ensures sound { IfOk result (BoundsEarningsOf fit.exact model.now.model fit.horizon fit.unit t (weights_of weights.now) a) }
+    ensures sound { IfOk result
+        (BoundsEarningsOf fit.exact model.now.model fit.horizon fit.unit t (weights_of weights.now) a) }
 {
     let mut room = LookRoom::new(alloc, model, look)?;
     Ok(room.action_bound(model, fit, table, weights, t, a, look))

@@ -65,7 +65,8 @@ pub fn action_look_ahead<A: Arith>(
     requires action { action < joint_actions model.now.model }
     requires look { 0 < look }
     requires room { look * model.now.model.states ≤ length room.old }
-    ensures is { result ≡ action_look_ahead_in (A.operations arith.now) model.now.model rest (weights_of weights.now) action look }
+    ensures is { result ≡ action_look_ahead_in (A.operations arith.now) model.now.model rest
+        (weights_of weights.now) action look }
     ensures room { length room.new ≡ length room.old }
 {
     let mut total = reward_now(arith, model, rest, weights, action);

@@ -106,7 +106,8 @@ pub fn reward_now<A: Arith>(
 ) -> i128
     requires sizes { IsLooking (A.operations arith.now) (A.calls arith.now) model.now.model (suc rest) weights.now }
     requires action { action < joint_actions model.now.model }
-    ensures { result ≡ (weighted_reward_in (A.operations arith.now) model.now.model rest (weights_of weights.now) action).high }
+    ensures { result
+        ≡ (weighted_reward_in (A.operations arith.now) model.now.model rest (weights_of weights.now) action).high }
 {
     let mut total = Span { low: 0, high: 0 };
     for state in 0..model.states() {
@@ -152,7 +153,8 @@ fn table_part<A: Arith>(
     requires sizes { IsLooking (A.operations arith.now) (A.calls arith.now) model.now.model rest weights.now }
     requires row { IsRow (A.operations arith.now) model.now.model rest row.now }
     requires state { state < model.now.model.states }
-    ensures { result ≡ (A.operations arith.now).tail (weights_of weights.now state) (mdp_table_in (A.operations arith.now) model.now.model rest state) }
+    ensures { result ≡ (A.operations arith.now).tail (weights_of weights.now state)
+        (mdp_table_in (A.operations arith.now) model.now.model rest state) }
 {
     arith.tail(weights[state as usize], row[state as usize])
 }

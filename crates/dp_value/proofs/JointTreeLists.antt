@@ -1,4 +1,5 @@
--- The trees of a joint policy in an array: by agent, with the joint action at their roots, and after a joint observation.
+-- The trees of a joint policy in an array: by agent, with the joint action at their roots, and after a joint
+-- observation.
 use Rattle.std.proofs.Common.{◌≡◌, ℕ, zero, suc, ◌<◌, ◌≤◌, List, [], ◌∷◌, length, get_or, map, take, refl, sym, ap, ◌∙◌, subst, arith, Bor}
 use Rattle.std.proofs.lemmas.List.{length-map}
 use Rattle.dp_spec.specs.JointNumbers.{joint_number, parts_of}
@@ -26,7 +27,8 @@ tree_in (suc n) (t ∷ ts) (suc i) d ln lt = tree_in n ts i d (omega arith) (ome
 
 -- an array holds trees where it does by agent
 pub are_trees : (n : ℕ) (ts : List (Bor PTree)) (qs : List PolicyTree) → length qs ≡ n → n ≤ length ts
-    → ((i : ℕ) → i < n → (d : Bor PTree) → policy_tree (get_or ts i d).now ≡ tree_of qs i) → first_trees n ts ≡ qs
+    → ((i : ℕ) → i < n → (d : Bor PTree) → policy_tree (get_or ts i d).now ≡ tree_of qs i)
+    → first_trees n ts ≡ qs
 are_trees zero ts [] e le each = refl
 are_trees zero ts (q ∷ qs) e le each = absurd (omega arith)
 are_trees (suc n) ts [] e le each = absurd (omega arith)
@@ -58,7 +60,9 @@ roots_below no_agents i lt = absurd (omega arith)
 roots_below (and_agent one others) zero lt = root_action_below _ _ _ _ one
 roots_below (and_agent one others) (suc i) lt = roots_below others i (omega arith)
 
-module _ (m : Model) (r : ℕ) (qs : List PolicyTree) (policy : IsPolicyOf m (suc r) qs) (xs : List ℕ) (le : length m.actions ≤ length xs) (each : (i : ℕ) → i < length m.actions → get_or xs i 0 ≡ root_action (tree_of qs i)) where
+module _ (m : Model) (r : ℕ) (qs : List PolicyTree) (policy : IsPolicyOf m (suc r) qs) (xs : List ℕ)
+    (le : length m.actions ≤ length xs) (each : (i : ℕ) → i < length m.actions
+    → get_or xs i 0 ≡ root_action (tree_of qs i)) where
   actions : take (length m.actions) xs ≡ map root_action qs
   actions = actions_are (length m.actions) xs qs (trees_alike policy) le each
 
@@ -97,7 +101,8 @@ subtree_at (q ∷ qs) [] i e lt = absurd (omega arith)
 subtree_at (q ∷ qs) (o ∷ os) zero e lt = refl
 subtree_at (q ∷ qs) (o ∷ os) (suc i) e lt = subtree_at qs os i (omega arith) (omega arith)
 
-module _ (m : Model) (r : ℕ) (qs : List PolicyTree) (policy : IsPolicyOf m (suc r) qs) (alike : length m.actions ≡ length m.observations) (o : ℕ) where
+module _ (m : Model) (r : ℕ) (qs : List PolicyTree) (policy : IsPolicyOf m (suc r) qs)
+    (alike : length m.actions ≡ length m.observations) (o : ℕ) where
   parts : length (parts_of m.observations o) ≡ length qs
   parts = let n = length-parts_of m.observations o in let e = trees_alike policy in omega arith
 

@@ -44,7 +44,8 @@ recursion_alike A m (suc r) v w qs alike =
     let after = span_sum_ext (joint_observations m)
     (λ o. recursive_worth_in A m r (weights_after_in A m v a o) (trees_after m qs o))
     (λ o. recursive_worth_in A m r (weights_after_in A m w a o) (trees_after m qs o))
-    (λ o lo. recursion_alike A m r (weights_after_in A m v a o) (weights_after_in A m w a o) (trees_after m qs o)
+    (λ o lo. recursion_alike A m r (weights_after_in A m v a o) (weights_after_in A m w a o)
+    (trees_after m qs o)
     (λ s ls. updated_alike A m v w a o s alike)) in
     (λ i. span_add (reward i) (after i))
 
@@ -55,7 +56,8 @@ unfolding weighted_reward_in
 none_rewarded A z m r w a none =
     span_sum_none m.states _ (λ s ls. span_sum_none m.states _
     (λ t lt. span_sum_none (joint_observations m) _ (λ o lo.
-    ap (λ (x : Span). A.gain (A.chance x (trans_at m a s t) (obs_at m a t o)) (reward_at m a s t o) r) (none s ls)
+    ap (λ (x : Span). A.gain (A.chance x (trans_at m a s t) (obs_at m a t o)) (reward_at m a s t o) r)
+    (none s ls)
     ∙ ap (λ (x : Span). A.gain x (reward_at m a s t o) r) (z.no_weight (trans_at m a s t) (obs_at m a t o))
     ∙ z.gain (reward_at m a s t o) r)))
 
@@ -99,14 +101,17 @@ module _ (A : Arithmetic) (m : Model) (r : ℕ) (ws : ℕ → Span) (qs : List P
   earned_first = span_add_none _
 
   -- one joint observation more
-  pub earned_step : (k : ℕ) (total part : Span) → total ≡ earned_after A m r ws qs k → part ≡ after_part A m r ws qs k
+  pub earned_step : (k : ℕ) (total part : Span) → total ≡ earned_after A m r ws qs k
+      → part ≡ after_part A m r ws qs k
       → span_add total part ≡ earned_after A m r ws qs (suc k)
   earned_step k total part so_far here =
       (λ i. span_add (so_far i) (here i))
-      ∙ span_add_assoc (weighted_reward_in A m r ws (joint_root_action m qs)) (span_sum k (after_part A m r ws qs))
+      ∙ span_add_assoc (weighted_reward_in A m r ws (joint_root_action m qs))
+      (span_sum k (after_part A m r ws qs))
       (after_part A m r ws qs k)
 
-  pub skipped_step : (k : ℕ) (total : Span) → total ≡ earned_after A m r ws qs k → after_part A m r ws qs k ≡ nothing
+  pub skipped_step : (k : ℕ) (total : Span) → total ≡ earned_after A m r ws qs k
+      → after_part A m r ws qs k ≡ nothing
       → total ≡ earned_after A m r ws qs (suc k)
   skipped_step k total so_far none = sym (span_add_none total) ∙ earned_step k total nothing so_far (sym none)
 
@@ -117,7 +122,8 @@ module _ (A : Arithmetic) (m : Model) (r : ℕ) (ws : ℕ → Span) (qs : List P
       let none = span_sum_none (joint_observations m) (after_part A m r ws qs)
       (λ o lo. ap (λ (k : ℕ). recursive_worth_in A m k (weights_after_in A m ws (joint_root_action m qs) o)
       (trees_after m qs o)) e) in
-      is ∙ sym (span_add_none _) ∙ ap (span_add (weighted_reward_in A m r ws (joint_root_action m qs))) (sym none)
+      is ∙ sym (span_add_none _) ∙ ap (span_add (weighted_reward_in A m r ws (joint_root_action m qs)))
+      (sym none)
 
   pub earned_all : (k : ℕ) (total : Span) → total ≡ earned_after A m r ws qs k → k ≡ joint_observations m
       → total ≡ recursive_worth_in A m (suc r) ws qs
@@ -125,7 +131,8 @@ module _ (A : Arithmetic) (m : Model) (r : ℕ) (ws : ℕ → Span) (qs : List P
 
 -- ---- what the recursion asks
 
-module _ (A : Arithmetic) (C : Calls) (m : Model) (r : ℕ) (ws : ℕ → Span) (qs : List PolicyTree) (is : IsEvaluable A C m (suc r) ws qs) where
+module _ (A : Arithmetic) (C : Calls) (m : Model) (r : ℕ) (ws : ℕ → Span) (qs : List PolicyTree)
+    (is : IsEvaluable A C m (suc r) ws qs) where
   module _ (v : ℕ → Span) (alike : (s : ℕ) → s < m.states → v s ≡ ws s) where
     pub now_rewardable : IsRewardable A C m r v
     now_rewardable = record {
@@ -187,7 +194,8 @@ module _ (A : Arithmetic) (C : Calls) (m : Model) (r : ℕ) (ws : ℕ → Span) 
 -- ---- from the start
 
 -- the same with weights that are alike, of trees and steps that are the same
-pub same_evaluable : (A : Arithmetic) (C : Calls) (m : Model) (h k : ℕ) (ws v : ℕ → Span) (qs ps : List PolicyTree)
+pub same_evaluable : (A : Arithmetic) (C : Calls) (m : Model) (h k : ℕ) (ws v : ℕ → Span)
+    (qs ps : List PolicyTree)
     → IsEvaluable A C m h ws qs
     → ((s : ℕ) → s < m.states → v s ≡ ws s) → h ≡ k → qs ≡ ps → IsEvaluable A C m k v ps
 same_evaluable A C m h k ws v qs ps is alike steps trees = record {
@@ -204,8 +212,10 @@ same_evaluable A C m h k ws v qs ps is alike steps trees = record {
 }
 
 -- what the recursion gives from there
-pub worth_from_start : (A : Arithmetic) (m : Model) (h k : ℕ) (v : ℕ → Span) (qs ps : List PolicyTree) (w : Span)
-    → w ≡ recursive_worth_in A m k v ps → ((s : ℕ) → s < m.states → v s ≡ A.start (start_at m s)) → k ≡ h → ps ≡ qs
+pub worth_from_start : (A : Arithmetic) (m : Model) (h k : ℕ) (v : ℕ → Span) (qs ps : List PolicyTree)
+    (w : Span)
+    → w ≡ recursive_worth_in A m k v ps → ((s : ℕ) → s < m.states → v s ≡ A.start (start_at m s)) → k ≡ h
+    → ps ≡ qs
     → w ≡ forward_worth_in A m h qs
 worth_from_start A m h k v qs ps w is alike steps trees =
     is ∙ recursion_alike A m k v (λ s. A.start (start_at m s)) ps alike
@@ -213,10 +223,12 @@ worth_from_start A m h k v qs ps w is alike steps trees =
     ∙ recursive_worth_is_forward A m h qs
 
 -- the trees of a joint policy, as many as the model has agents
-pub trees_held : (m : Model) (h : ℕ) (p : HorizonTrees) (ts : List (Bor PTree)) → IsPolicyOf m h (joint_policy p)
+pub trees_held : (m : Model) (h : ℕ) (p : HorizonTrees) (ts : List (Bor PTree))
+    → IsPolicyOf m h (joint_policy p)
     → first_trees (length p.trees) ts ≡ joint_policy p → first_trees (length m.actions) ts ≡ joint_policy p
 trees_held m h p ts policy is =
-    let same : length m.actions ≡ length p.trees = sym (sym (length-map p.trees policy_tree) ∙ trees_alike policy) in
+    let same : length m.actions ≡ length p.trees = sym (sym (length-map p.trees policy_tree)
+    ∙ trees_alike policy) in
     ap (λ (n : ℕ). first_trees n ts) same ∙ is
 
 pub some_trees : (m : Model) → IsModel m → (h : ℕ) (p : HorizonTrees) → IsPolicyOf m h (joint_policy p)

@@ -9,12 +9,14 @@ use Rattle.dp_cert.proofs.lines.numbers.Goals as goal
 
 pub after-requires : goal.after-requires
 after-requires c =
-    line_shorter (fixed c.args.word.now ∷ plain_form c.args.ranges.now) c.args.from.rest.now ((map pos c.in-Ok.numbers.items), c.in-Ok.rest.now)
+    line_shorter (fixed c.args.word.now ∷ plain_form c.args.ranges.now) c.args.from.rest.now
+    ((map pos c.in-Ok.numbers.items), c.in-Ok.rest.now)
     c.in-Ok.ensures
 
 pub returns-in-Ok-clause-gives : goal.returns-in-Ok-clause-gives
 returns-in-Ok-clause-gives c =
-    numbers_to (fixed c.args.word.now ∷ plain_form c.args.ranges.now) c.args.from.line c.after.result.line c.args.from.rest.now
+    numbers_to (fixed c.args.word.now ∷ plain_form c.args.ranges.now)
+    c.args.from.line c.after.result.line c.args.from.rest.now
     (map pos c.in-Ok.numbers.items) c.in-Ok.rest.now c.after.result.rest.now
     c.in-Ok.ensures c.after.ensures.line c.after.ensures.rest
 
@@ -25,8 +27,10 @@ returns-in-Err-Bad-clause-gives c =
 
 pub returns-in-Ok-clause-inside : goal.returns-in-Ok-clause-inside
 returns-in-Ok-clause-inside c =
-    line_inside (fixed c.args.word.now ∷ plain_form c.args.ranges.now) c.args.from.rest.now (map pos c.in-Ok.numbers.items) c.in-Ok.rest.now c.in-Ok.ensures
+    line_inside (fixed c.args.word.now ∷ plain_form c.args.ranges.now) c.args.from.rest.now
+    (map pos c.in-Ok.numbers.items) c.in-Ok.rest.now c.in-Ok.ensures
 
 pub returns-in-Ok-clause-count : goal.returns-in-Ok-clause-count
 returns-in-Ok-clause-count c =
-    numbers_count c.args.word.now c.args.ranges.now c.args.from.rest.now c.in-Ok.numbers.items c.in-Ok.rest.now c.in-Ok.ensures
+    numbers_count c.args.word.now c.args.ranges.now c.args.from.rest.now c.in-Ok.numbers.items c.in-Ok.rest.now
+    c.in-Ok.ensures

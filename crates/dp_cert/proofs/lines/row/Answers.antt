@@ -9,7 +9,8 @@ use Rattle.dp_cert.proofs.lines.row.Goals as goal
 
 pub after-requires : goal.after-requires
 after-requires c =
-    line_shorter (plain_form c.args.ranges.now) c.args.from.rest.now ((map pos c.in-Ok.numbers.items), c.in-Ok.rest.now)
+    line_shorter (plain_form c.args.ranges.now) c.args.from.rest.now
+    ((map pos c.in-Ok.numbers.items), c.in-Ok.rest.now)
     c.in-Ok.ensures
 
 pub returns-in-Ok-clause-gives : goal.returns-in-Ok-clause-gives

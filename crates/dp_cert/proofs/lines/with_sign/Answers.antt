@@ -9,13 +9,15 @@ use Rattle.dp_cert.proofs.lines.with_sign.Goals as goal
 
 pub after-requires : goal.after-requires
 after-requires c =
-    line_shorter (fixed c.args.word.now ∷ signed ∷ []) c.args.from.rest.now ((c.in-Ok.number ∷ []), c.in-Ok.rest.now)
+    line_shorter (fixed c.args.word.now ∷ signed ∷ []) c.args.from.rest.now
+    ((c.in-Ok.number ∷ []), c.in-Ok.rest.now)
     c.in-Ok.ensures
 
 pub returns-in-Ok : goal.returns-in-Ok
 returns-in-Ok c =
     numbers_to (fixed c.args.word.now ∷ signed ∷ []) c.args.from.line c.after.result.line c.args.from.rest.now
-    (c.in-Ok.number ∷ []) c.in-Ok.rest.now c.after.result.rest.now c.in-Ok.ensures c.after.ensures.line c.after.ensures.rest
+    (c.in-Ok.number ∷ []) c.in-Ok.rest.now c.after.result.rest.now c.in-Ok.ensures c.after.ensures.line
+    c.after.ensures.rest
     ∙ ap (λ z. Ok (rest_at (z ∷ []) c.after.result.line c.after.result.rest.now))
     (sym (to_z-of_z w128 c.in-Ok.number (search (rules, c.signed_line.type_inv))))
 

@@ -9,4 +9,5 @@ abbrev pub invariant-loop-stage : goal.invariant-loop-stage
 invariant-loop-stage l =
     front_of (plain_stages l.actions l.observations l.horizon 0 l.horizon) l.from.line l.from.rest.now
     ≡ onto (map (λ r. r.items) l.stages.items)
-    (front_of (plain_stages l.actions l.observations l.horizon l.stage (l.horizon - l.stage)) l.at.line l.at.rest.now)
+    (front_of (plain_stages l.actions l.observations l.horizon l.stage (l.horizon - l.stage))
+    l.at.line l.at.rest.now)

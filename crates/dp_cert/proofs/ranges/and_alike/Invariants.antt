@@ -6,6 +6,7 @@ use Rattle.dp_cert.proofs.ranges.and_alike.Given as goal
 
 abbrev pub invariant-loop-place : goal.invariant-loop-place
 invariant-loop-place l = record {
-  ranges : plain_form l.ranges.items ≡ plain_form l.fn.first.items ++ replicate l._place (plain l.range.low l.range.high);
+  ranges : plain_form l.ranges.items ≡ plain_form l.fn.first.items
+      ++ replicate l._place (plain l.range.low l.range.high);
   count : length l.ranges.items ≡ length l.fn.first.items + l._place;
 }

@@ -8,4 +8,5 @@ pub returns : goal.returns
 returns c =
     let m = c.args.model.now.model in
     let few = c.invariant.ensures.model.sizes.agents_limit in
-    computed_answers certificate_of c.read.result (certificate_grammar m) c.args.bytes.now (certificate_proper m (omega (arith, few))) c.read.ensures
+    computed_answers certificate_of c.read.result (certificate_grammar m) c.args.bytes.now
+    (certificate_proper m (omega (arith, few))) c.read.ensures

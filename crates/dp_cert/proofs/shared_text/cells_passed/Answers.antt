@@ -11,8 +11,10 @@ returns-then-cell-gt-MOST_CELLS c =
 pub loop-cell-preserved : goal.loop-cell-preserved
 loop-cell-preserved c =
     ap (λ k. cells_passed (drop k c.args.cells.now)) (add-one c.loop-cell.cell-index)
-    ∙ sym (cells_within c.args.cells.now c.loop-cell.cell-index _ c.loop-cell-test.true refl c.if-cell-gt-MOST_CELLS.false)
+    ∙ sym (cells_within c.args.cells.now c.loop-cell.cell-index _ c.loop-cell-test.true refl
+    c.if-cell-gt-MOST_CELLS.false)
     ∙ c.loop-cell.invariant
 
 pub returns : goal.returns
-returns c = sym (cells_end c.args.cells.now c.loop-cell.cell-index (omega (arith, c.loop-cell-test.false))) ∙ c.loop-cell.invariant
+returns c = sym (cells_end c.args.cells.now c.loop-cell.cell-index (omega (arith, c.loop-cell-test.false)))
+    ∙ c.loop-cell.invariant

@@ -14,7 +14,8 @@ use Rattle.dp_cert.proofs.shared_text.shared_agents.Goals as goal
 
 pub shared_stages-requires-clause-actions : goal.shared_stages-requires-clause-actions
 shared_stages-requires-clause-actions c =
-    rw c.actions.ensures (action_some c.args.model.now.model c.loop-agent.agent c.invariant.ensures.model (omega arith))
+    rw c.actions.ensures (action_some c.args.model.now.model c.loop-agent.agent c.invariant.ensures.model
+    (omega arith))
 
 pub returns-in_err-counted : goal.returns-in_err-counted
 returns-in_err-counted c =
@@ -26,12 +27,15 @@ returns-in_err-counted c =
     let b = get_or m.actions l.agent 0 in
     let n = get_or m.observations l.agent 0 in
     let slice = c.as_slice-in-loop-agent.ensures.value in
-    let at = shared_agents_at h l.agent cells m.actions m.observations _ front l.at.line l.at.rest.now (omega arith)
+    let at = shared_agents_at h l.agent cells m.actions m.observations _ front l.at.line l.at.rest.now
+    (omega arith)
     (omega (arith, c.invariant.ensures.model.sizes.alike)) l.invariant.same in
-    let p = err_from_is_err_and c.from_residual-in_err-counted.result c.from_residual-in_err-counted.ensures.1 in
+    let p = err_from_is_err_and c.from_residual-in_err-counted.result
+    c.from_residual-in_err-counted.ensures.1 in
     rw (p.1, p.2) (part_fails _ _ front (counts_grammar h l.agent cells)
     (λ counts. and_then (shared_stages b n counts)
-    (shared_agents h (l.agent + 1) (products cells counts) (drop (l.agent + 1) m.actions) (drop (l.agent + 1) m.observations))) l.at.line l.at.rest.now at
+    (shared_agents h (l.agent + 1) (products cells counts) (drop (l.agent + 1) m.actions)
+    (drop (l.agent + 1) m.observations))) l.at.line l.at.rest.now at
     (rw slice at c.in_err-counted.ensures.gives))
 
 pub returns-in_err-stages : goal.returns-in_err-stages
@@ -44,19 +48,25 @@ returns-in_err-stages c =
     let b = get_or m.actions l.agent 0 in
     let n = get_or m.observations l.agent 0 in
     let slice = c.as_slice-in-loop-agent.ensures.value in
-    let at = shared_agents_at h l.agent cells m.actions m.observations _ front l.at.line l.at.rest.now (omega arith)
+    let at = shared_agents_at h l.agent cells m.actions m.observations _ front l.at.line l.at.rest.now
+    (omega arith)
     (omega (arith, c.invariant.ensures.model.sizes.alike)) l.invariant.same in
     let xs = c.in_ok-counted.counted.counts.items in
     let counted = part_read _ front (counts_grammar h l.agent cells)
     (λ counts. and_then (shared_stages b n counts)
-    (shared_agents h (l.agent + 1) (products cells counts) (drop (l.agent + 1) m.actions) (drop (l.agent + 1) m.observations))) l.at.line c.in_ok-counted.counts_end.line
+    (shared_agents h (l.agent + 1) (products cells counts) (drop (l.agent + 1) m.actions)
+    (drop (l.agent + 1) m.observations))) l.at.line c.in_ok-counted.counts_end.line
     l.at.rest.now c.in_ok-counted.counts_end.rest.now xs at
-    (ap (λ cs. front_of (counts_grammar h l.agent cs) l.at.line l.at.rest.now) (sym slice) ∙ c.in_ok-counted.ensures.gives) in
+    (ap (λ cs. front_of (counts_grammar h l.agent cs) l.at.line l.at.rest.now) (sym slice)
+    ∙ c.in_ok-counted.ensures.gives) in
     let given = c.as_slice-in-loop-agent-2.ensures.value in
-    let stages = ap (λ ks. front_of (shared_stages b n ks) c.in_ok-counted.counts_end.line c.in_ok-counted.counts_end.rest.now) (sym given) in
-    let later = shared_agents h (l.agent + 1) (products cells xs) (drop (l.agent + 1) m.actions) (drop (l.agent + 1) m.observations) in
+    let stages = ap (λ ks. front_of (shared_stages b n ks) c.in_ok-counted.counts_end.line
+    c.in_ok-counted.counts_end.rest.now) (sym given) in
+    let later = shared_agents h (l.agent + 1) (products cells xs) (drop (l.agent + 1) m.actions)
+    (drop (l.agent + 1) m.observations) in
     let p = err_from_is_err_and c.from_residual-in_err-stages.result c.from_residual-in_err-stages.ensures.1 in
-    rw (p.1, p.2) (more_fails _ _ front (shared_stages b n xs) later c.in_ok-counted.counts_end.line c.in_ok-counted.counts_end.rest.now
+    rw (p.1, p.2) (more_fails _ _ front (shared_stages b n xs)
+    later c.in_ok-counted.counts_end.line c.in_ok-counted.counts_end.rest.now
     counted (rw (c.actions.ensures, c.observations.ensures, given) at c.in_err-stages.ensures))
 
 pub loop-agent-preserved : goal.loop-agent-preserved
@@ -69,22 +79,29 @@ loop-agent-preserved c =
     let b = get_or m.actions l.agent 0 in
     let n = get_or m.observations l.agent 0 in
     let slice = c.as_slice-in-loop-agent.ensures.value in
-    let at = shared_agents_at h l.agent cells m.actions m.observations _ front l.at.line l.at.rest.now (omega arith)
+    let at = shared_agents_at h l.agent cells m.actions m.observations _ front l.at.line l.at.rest.now
+    (omega arith)
     (omega (arith, c.invariant.ensures.model.sizes.alike)) l.invariant.same in
     let xs = c.in_ok-counted.counted.counts.items in
     let counted = part_read _ front (counts_grammar h l.agent cells)
     (λ counts. and_then (shared_stages b n counts)
-    (shared_agents h (l.agent + 1) (products cells counts) (drop (l.agent + 1) m.actions) (drop (l.agent + 1) m.observations))) l.at.line c.in_ok-counted.counts_end.line
+    (shared_agents h (l.agent + 1) (products cells counts) (drop (l.agent + 1) m.actions)
+    (drop (l.agent + 1) m.observations))) l.at.line c.in_ok-counted.counts_end.line
     l.at.rest.now c.in_ok-counted.counts_end.rest.now xs at
-    (ap (λ cs. front_of (counts_grammar h l.agent cs) l.at.line l.at.rest.now) (sym slice) ∙ c.in_ok-counted.ensures.gives) in
+    (ap (λ cs. front_of (counts_grammar h l.agent cs) l.at.line l.at.rest.now) (sym slice)
+    ∙ c.in_ok-counted.ensures.gives) in
     let given = c.as_slice-in-loop-agent-2.ensures.value in
-    let stages = ap (λ ks. front_of (shared_stages b n ks) c.in_ok-counted.counts_end.line c.in_ok-counted.counts_end.rest.now) (sym given) in
-    let later = shared_agents h (l.agent + 1) (products cells xs) (drop (l.agent + 1) m.actions) (drop (l.agent + 1) m.observations) in
+    let stages = ap (λ ks. front_of (shared_stages b n ks) c.in_ok-counted.counts_end.line
+    c.in_ok-counted.counts_end.rest.now) (sym given) in
+    let later = shared_agents h (l.agent + 1) (products cells xs) (drop (l.agent + 1) m.actions)
+    (drop (l.agent + 1) m.observations) in
     let grown = ap (map (λ s. map (λ r. r.items) s.items)) c.in_ok-push.ensures.items
     ∙ map-append (λ s. map (λ r. r.items) s.items) l.agents.items (c.in_ok-stages.stages ∷ []) in
     let made = c.in_ok-counted.ensures.cells ∙ ap (λ cs. products cs xs) slice in
-    let same = more_read _ front (shared_stages b n xs) later c.in_ok-counted.counts_end.line c.in_ok-stages.behind.line
-    c.in_ok-counted.counts_end.rest.now c.in_ok-stages.behind.rest.now (map (λ r. r.items) c.in_ok-stages.stages.items) counted
+    let same = more_read _ front (shared_stages b n xs) later c.in_ok-counted.counts_end.line
+    c.in_ok-stages.behind.line
+    c.in_ok-counted.counts_end.rest.now c.in_ok-stages.behind.rest.now
+    (map (λ r. r.items) c.in_ok-stages.stages.items) counted
     (rw (c.actions.ensures, c.observations.ensures, given) at c.in_ok-stages.ensures) in
     record {
       same = rw (grown, made) same;

@@ -9,4 +9,5 @@ use Rattle.dp_cert.proofs.shared_text.shared_rows.Given as goal
 abbrev pub invariant-loop-row : goal.invariant-loop-row
 invariant-loop-row l =
     front_of (rows_of_form (plain_form l.ranges) l.count) l.from.line l.from.rest.now
-    ≡ onto l.rows.items (front_of (rows_of_form (plain_form l.ranges) (l.count - l._row)) l.at.line l.at.rest.now)
+    ≡ onto l.rows.items (front_of (rows_of_form (plain_form l.ranges) (l.count - l._row))
+    l.at.line l.at.rest.now)

@@ -21,11 +21,15 @@ returns-in_err-rows c =
     let front = map (λ r. r.items) l.stages.items in
     let later = shared_stages a.actions a.observations (drop (l.stage + 1) a.counts.now) in
     let form = ap plain_form c.as_slice.ensures.value ∙ c.in_ok-ranges.ensures.ok
-    ∙ ap (λ (l : List ℕ). shared_row_form a.actions (nexts_before a.observations l) (first_of_counts l)) c.following.ensures in
+    ∙ ap (λ (l : List ℕ). shared_row_form a.actions (nexts_before a.observations l) (first_of_counts l))
+    c.following.ensures in
     let p = err_from_is_err_and c.from_residual-in_err-rows.result c.from_residual-in_err-rows.ensures.1 in
-    rw (p.1, p.2) (more_fails _ _ front (rows_of_form (plain_form c.as_slice.result.now) k) later l.at.line l.at.rest.now
-    (shared_stages_at a.actions a.observations a.counts.now l.stage _ front l.at.line l.at.rest.now c.loop-stage-test.true l.invariant
-    ∙ ap (λ (f : List Item). onto front (front_of (and_then (rows_of_form f k) later) l.at.line l.at.rest.now)) (sym form))
+    rw (p.1, p.2) (more_fails _ _ front (rows_of_form (plain_form c.as_slice.result.now) k)
+    later l.at.line l.at.rest.now
+    (shared_stages_at a.actions a.observations a.counts.now l.stage _ front l.at.line l.at.rest.now
+    c.loop-stage-test.true l.invariant
+    ∙ ap (λ (f : List Item). onto front (front_of (and_then (rows_of_form f k) later) l.at.line l.at.rest.now))
+    (sym form))
     c.in_err-rows.ensures)
 
 pub loop-stage-preserved : goal.loop-stage-preserved
@@ -36,13 +40,19 @@ loop-stage-preserved c =
     let front = map (λ r. r.items) l.stages.items in
     let later = shared_stages a.actions a.observations (drop (l.stage + 1) a.counts.now) in
     let form = ap plain_form c.as_slice.ensures.value ∙ c.in_ok-ranges.ensures.ok
-    ∙ ap (λ (l : List ℕ). shared_row_form a.actions (nexts_before a.observations l) (first_of_counts l)) c.following.ensures in
-    let grown = ap (map (λ r. r.items)) c.in_ok-push.ensures.items ∙ map-append (λ r. r.items) l.stages.items (c.in_ok-rows.rows ∷ []) in
-    rw grown (more_read _ front (rows_of_form (plain_form c.as_slice.result.now) k) later l.at.line c.in_ok-rows.behind.line
+    ∙ ap (λ (l : List ℕ). shared_row_form a.actions (nexts_before a.observations l) (first_of_counts l))
+    c.following.ensures in
+    let grown = ap (map (λ r. r.items)) c.in_ok-push.ensures.items
+    ∙ map-append (λ r. r.items) l.stages.items (c.in_ok-rows.rows ∷ []) in
+    rw grown (more_read _ front (rows_of_form (plain_form c.as_slice.result.now) k)
+    later l.at.line c.in_ok-rows.behind.line
     l.at.rest.now c.in_ok-rows.behind.rest.now c.in_ok-rows.rows.items
-    (shared_stages_at a.actions a.observations a.counts.now l.stage _ front l.at.line l.at.rest.now c.loop-stage-test.true l.invariant
-    ∙ ap (λ (f : List Item). onto front (front_of (and_then (rows_of_form f k) later) l.at.line l.at.rest.now)) (sym form))
+    (shared_stages_at a.actions a.observations a.counts.now l.stage _ front l.at.line l.at.rest.now
+    c.loop-stage-test.true l.invariant
+    ∙ ap (λ (f : List Item). onto front (front_of (and_then (rows_of_form f k) later) l.at.line l.at.rest.now))
+    (sym form))
     c.in_ok-rows.ensures)
 
 pub row_ranges-requires-clause-following : goal.row_ranges-requires-clause-following
-row_ranges-requires-clause-following c = rw c.following.ensures (some_dropped c.args.counts.now (c.loop-stage.stage + 1) c.requires.counts)
+row_ranges-requires-clause-following c = rw c.following.ensures
+    (some_dropped c.args.counts.now (c.loop-stage.stage + 1) c.requires.counts)

@@ -7,8 +7,10 @@ use Rattle.dp_cert.proofs.tree_text.close.Given as goal
 abbrev pub invariant-loop-above : goal.invariant-loop-above
 invariant-loop-above l = record {
   same : (line : ℕ) (bytes : List ℕ) →
-      closed (left_below (frames_of l.fn.waiting.items)) (frames_of l.fn.waiting.items) (bound_tree l.fn.tree) line bytes
-      ≡ closed (left_below (frames_of l.waiting.items)) (frames_of l.waiting.items) (bound_tree l.done) line bytes;
+      closed (left_below (frames_of l.fn.waiting.items)) (frames_of l.fn.waiting.items) (bound_tree l.fn.tree)
+      line bytes
+      ≡ closed (left_below (frames_of l.waiting.items)) (frames_of l.waiting.items) (bound_tree l.done)
+      line bytes;
   few : length l.waiting.items ≤ 2048;
 }
 

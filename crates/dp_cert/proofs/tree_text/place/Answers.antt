@@ -16,7 +16,8 @@ returns-in_ok-push_open-in-Branch-clause-places c = λ line bytes.
     let some = subst HasChild c.in-Branch.is c.requires.children in
     let all = c.in_ok-push_open-in-Branch.ensures.ok in
     let size = frames_length c.args.waiting.now.items in
-    let none = ap (λ ts. branch_frame i c.in-Branch.class (map bound_tree ts) (k - 1) ∷ F) c.new.ensures.items in
+    let none = ap (λ ts. branch_frame i c.in-Branch.class (map bound_tree ts) (k - 1) ∷ F)
+    c.new.ensures.items in
     ap (λ (n : Node). behind_node n F line bytes) c.in-Branch.is
     ∙ place_branch i c.in-Branch.class k (k - 1) F (frames_of c.push_open.new.waiting.items) some refl
     (omega (arith, size, all.0)) (all.1 ∙ none) line bytes
@@ -28,5 +29,6 @@ returns-in_ok-push_open-in-Merge-clause-places c = λ line bytes.
     let all = c.in_ok-push_open-in-Merge.ensures.ok in
     let size = frames_length c.args.waiting.now.items in
     ap (λ (n : Node). behind_node n F line bytes) c.in-Merge.is
-    ∙ place_merge c.in-Merge.agent c.in-Merge.first c.in-Merge.second F (frames_of c.push_open-in-Merge.new.waiting.items)
+    ∙ place_merge c.in-Merge.agent c.in-Merge.first c.in-Merge.second F
+    (frames_of c.push_open-in-Merge.new.waiting.items)
     (omega (arith, size, all.0)) all.1 line bytes

@@ -18,4 +18,5 @@ returns c =
     behind x0 x1 x4 (manner_bytes k) (interval_bytes k ++ (inner ++ last)) c.in_ok-push_manner.ensures
     (behind x1 x2 x4 (interval_bytes k) (inner ++ last) c.in_ok-push_interval.ensures
     (behind x2 x3 x4 inner last
-    (c.in_ok-push_plain.ensures ∙ ap (λ n. x2 ++ plain_bytes (codes "inner ") n) c.from.ensures) c.in_ok-extend_from_slice.ensures.items))
+    (c.in_ok-push_plain.ensures ∙ ap (λ n. x2 ++ plain_bytes (codes "inner ") n) c.from.ensures)
+    c.in_ok-extend_from_slice.ensures.items))

@@ -28,8 +28,10 @@ overflow_add-total c =
     offset_fits _ c.loop-class.class _ _ _ c.loop-class.invariant
     (to_z-of_z w128 _ fits ∙ c.class_bound-total.ensures ∙ added m b c.requires.bounds c.args.front.now
     c.requires.front c.requires.stage c.args.looks.now c.requires.looks c.loop-class.class
-    c.joint_actions-width.result c.row_of.result.now c.joint_actions-width.ensures.is inside c.row_of.ensures.are)
-    (bound_small m b c.requires.bounds c.args.front.now c.requires.front c.requires.stage (suc c.loop-class.class)
+    c.joint_actions-width.result c.row_of.result.now c.joint_actions-width.ensures.is inside
+    c.row_of.ensures.are)
+    (bound_small m b c.requires.bounds c.args.front.now c.requires.front c.requires.stage
+    (suc c.loop-class.class)
     inside)
 
 pub loop-class-init : goal.loop-class-init
@@ -49,8 +51,10 @@ loop-class-preserved c =
     offset_next _ c.loop-class.class _ _ _ c.loop-class.invariant
     (to_z-of_z w128 _ fits ∙ c.class_bound-total.ensures ∙ added m b c.requires.bounds c.args.front.now
     c.requires.front c.requires.stage c.args.looks.now c.requires.looks c.loop-class.class
-    c.joint_actions-width.result c.row_of.result.now c.joint_actions-width.ensures.is inside c.row_of.ensures.are)
-    (bound_small m b c.requires.bounds c.args.front.now c.requires.front c.requires.stage (suc c.loop-class.class)
+    c.joint_actions-width.result c.row_of.result.now c.joint_actions-width.ensures.is inside
+    c.row_of.ensures.are)
+    (bound_small m b c.requires.bounds c.args.front.now c.requires.front c.requires.stage
+    (suc c.loop-class.class)
     inside)
 
 pub returns : goal.returns

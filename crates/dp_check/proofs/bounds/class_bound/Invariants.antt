@@ -9,4 +9,5 @@ use Rattle.dp_check.proofs.bounds.class_bound.Given as goal
 abbrev pub invariant-loop-action : goal.invariant-loop-action
 invariant-loop-action l =
     l.best ≡ best_in (λ a. get_or l.row a (pos 0)) (filter (λ a. all_agree l.front.front.agents
-    (parts_of (class_counts l.front.front.agents) l.class) (parts_of l.m.model.actions a)) (numbers_below l.action))
+    (parts_of (class_counts l.front.front.agents) l.class) (parts_of l.m.model.actions a))
+    (numbers_below l.action))

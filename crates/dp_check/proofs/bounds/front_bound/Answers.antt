@@ -12,4 +12,5 @@ returns-then-stage-bounds c =
     let at_end : c.args.front.now.front.stage ≡ c.args.bounds.now.fit.horizon = omega
     (arith, c.stage.ensures, c.if-stage-bounds.true) in
     to_z-of_z w128 _ fits ∙ ap (λ (w : Span). w.high) c.earned.ensures.kept
-    ∙ earned_bound c.args.m.now.model c.args.bounds.now c.requires.bounds c.args.front.now c.requires.front at_end
+    ∙ earned_bound c.args.m.now.model c.args.bounds.now c.requires.bounds c.args.front.now c.requires.front
+    at_end

@@ -14,7 +14,8 @@ pub new-requires-clause-policy : goal.new-requires-clause-policy
 new-requires-clause-policy c =
     let m = c.args.m.now.model in
     let p = c.args.c.now.policy in
-    let same = one_horizon m c.args.c.now.horizon p.horizon p.rows c.invariant.ensures.model c.invariant-2.ensures
+    let same = one_horizon m c.args.c.now.horizon p.horizon p.rows c.invariant.ensures.model
+    c.invariant-2.ensures
     c.requires.fits.policy.shared in
     subst (λ (h : ℕ). IsSharedOf m h p.rows) (sym same) c.requires.fits.policy.shared
 
@@ -22,7 +23,8 @@ pub new-requires-clause-fit : goal.new-requires-clause-fit
 new-requires-clause-fit c =
     let m = c.args.m.now.model in
     let p = c.args.c.now.policy in
-    let same = one_horizon m c.args.c.now.horizon p.horizon p.rows c.invariant.ensures.model c.invariant-2.ensures
+    let same = one_horizon m c.args.c.now.horizon p.horizon p.rows c.invariant.ensures.model
+    c.invariant-2.ensures
     c.requires.fits.policy.shared in
     c.requires.fit ∙ ap (fit_of m) (sym same)
 
@@ -30,7 +32,8 @@ pub worth_shared-worth-requires-clause-policy : goal.worth_shared-worth-requires
 worth_shared-worth-requires-clause-policy c =
     let m = c.args.m.now.model in
     let p = c.args.c.now.policy in
-    let same = one_horizon m c.args.c.now.horizon p.horizon p.rows c.invariant.ensures.model c.invariant-2.ensures
+    let same = one_horizon m c.args.c.now.horizon p.horizon p.rows c.invariant.ensures.model
+    c.invariant-2.ensures
     c.requires.fits.policy.shared in
     subst (λ (h : ℕ). IsSharedOf m h p.rows) (sym same) c.requires.fits.policy.shared
 
@@ -38,7 +41,8 @@ pub returns : goal.returns
 returns c =
     let m = c.args.m.now.model in
     let p = c.args.c.now.policy in
-    let same = one_horizon m c.args.c.now.horizon p.horizon p.rows c.invariant.ensures.model c.invariant-2.ensures
+    let same = one_horizon m c.args.c.now.horizon p.horizon p.rows c.invariant.ensures.model
+    c.invariant-2.ensures
     c.requires.fits.policy.shared in
     let fits : SFits w128 c.worth_shared-worth.result.low = search (rules, c.worth_shared-worth.type_inv) in
     let exact = ap (λ f. f.exact) c.in_ok-room.ensures.fit ∙ ap (λ f. f.exact) (ap (fit_of m) same)

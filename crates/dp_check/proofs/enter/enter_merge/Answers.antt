@@ -22,31 +22,37 @@ returns-then-not-may_merge c = λ k.
 
 pub merge-requires-clause-stage : goal.merge-requires-clause-stage
 merge-requires-clause-stage c =
-    let is = mergeable c.args.m.now.model c.args.bounds.now c.args.node.now c.args.agent c.args.first c.args.second
+    let is = mergeable c.args.m.now.model c.args.bounds.now c.args.node.now c.args.agent c.args.first
+    c.args.second
     (leaf (pos 0)) (sym (c.may_merge.ensures (leaf (pos 0))) ∙ search (rules, c.if-not-may_merge.false)) in
-    early c.args.m.now.model c.args.bounds.now c.requires.bounds c.args.node.now.front c.requires.node.front is.stage
+    early c.args.m.now.model c.args.bounds.now c.requires.bounds c.args.node.now.front c.requires.node.front
+    is.stage
 
 pub merge-requires-clause-agent : goal.merge-requires-clause-agent
 merge-requires-clause-agent c =
-    let is = mergeable c.args.m.now.model c.args.bounds.now c.args.node.now c.args.agent c.args.first c.args.second
+    let is = mergeable c.args.m.now.model c.args.bounds.now c.args.node.now c.args.agent c.args.first
+    c.args.second
     (leaf (pos 0)) (sym (c.may_merge.ensures (leaf (pos 0))) ∙ search (rules, c.if-not-may_merge.false)) in
     (unassigned_in c.args.node.now.front.front.agents c.args.agent c.args.second is.second).0
 
 pub merge-requires-clause-order : goal.merge-requires-clause-order
 merge-requires-clause-order c =
-    let is = mergeable c.args.m.now.model c.args.bounds.now c.args.node.now c.args.agent c.args.first c.args.second
+    let is = mergeable c.args.m.now.model c.args.bounds.now c.args.node.now c.args.agent c.args.first
+    c.args.second
     (leaf (pos 0)) (sym (c.may_merge.ensures (leaf (pos 0))) ∙ search (rules, c.if-not-may_merge.false)) in
     let lt = is.order in omega arith
 
 pub merge-requires-clause-class : goal.merge-requires-clause-class
 merge-requires-clause-class c =
-    let is = mergeable c.args.m.now.model c.args.bounds.now c.args.node.now c.args.agent c.args.first c.args.second
+    let is = mergeable c.args.m.now.model c.args.bounds.now c.args.node.now c.args.agent c.args.first
+    c.args.second
     (leaf (pos 0)) (sym (c.may_merge.ensures (leaf (pos 0))) ∙ search (rules, c.if-not-may_merge.false)) in
     (unassigned_in c.args.node.now.front.front.agents c.args.agent c.args.second is.second).1
 
 pub look_aheads-requires-clause-front : goal.look_aheads-requires-clause-front
 look_aheads-requires-clause-front c =
-    let is = mergeable c.args.m.now.model c.args.bounds.now c.args.node.now c.args.agent c.args.first c.args.second
+    let is = mergeable c.args.m.now.model c.args.bounds.now c.args.node.now c.args.agent c.args.first
+    c.args.second
     (leaf (pos 0)) (sym (c.may_merge.ensures (leaf (pos 0))) ∙ search (rules, c.if-not-may_merge.false)) in
     merged_with_room c.args.m.now.model c.args.bounds.now c.args.node.now.front c.args.agent c.args.first
     c.args.second c.in-Ok.front c.requires.node.front is.second c.in-Ok.ensures.front c.in-Ok.ensures.horizon
@@ -54,7 +60,8 @@ look_aheads-requires-clause-front c =
 
 pub below-requires-clause-front : goal.below-requires-clause-front
 below-requires-clause-front c =
-    let is = mergeable c.args.m.now.model c.args.bounds.now c.args.node.now c.args.agent c.args.first c.args.second
+    let is = mergeable c.args.m.now.model c.args.bounds.now c.args.node.now c.args.agent c.args.first
+    c.args.second
     (leaf (pos 0)) (sym (c.may_merge.ensures (leaf (pos 0))) ∙ search (rules, c.if-not-may_merge.false)) in
     merged_with_room c.args.m.now.model c.args.bounds.now c.args.node.now.front c.args.agent c.args.first
     c.args.second c.in-Ok.front c.requires.node.front is.second c.in-Ok.ensures.front c.in-Ok.ensures.horizon
@@ -62,7 +69,8 @@ below-requires-clause-front c =
 
 pub below-requires-clause-above : goal.below-requires-clause-above
 below-requires-clause-above c =
-    let is = mergeable c.args.m.now.model c.args.bounds.now c.args.node.now c.args.agent c.args.first c.args.second
+    let is = mergeable c.args.m.now.model c.args.bounds.now c.args.node.now c.args.agent c.args.first
+    c.args.second
     (leaf (pos 0)) (sym (c.may_merge.ensures (leaf (pos 0))) ∙ search (rules, c.if-not-may_merge.false)) in
     is.deeper
 

@@ -22,7 +22,8 @@ returns-in-Leaf t c =
 pub returns-in-Some : goal.returns-in-Some
 returns-in-Some t c =
     let Ts = map bound_tree c.in-Branch.kids.items in
-    let is = ap bound_tree c.in-Branch.is ∙ bound_tree_branch c.in-Branch.agent c.in-Branch.class c.in-Branch.kids in
+    let is = ap bound_tree c.in-Branch.is ∙ bound_tree_branch c.in-Branch.agent c.in-Branch.class
+    c.in-Branch.kids in
     let many : child_count (bound_trees Ts) ≡ c.len.result = omega (
       arith,
       child_count_is Ts,
@@ -46,7 +47,8 @@ actions-action-end-requires t c =
 pub loop-action-init : goal.loop-action-init
 loop-action-init t c =
     let Ts = map bound_tree c.in-Branch.kids.items in
-    let is = ap bound_tree c.in-Branch.is ∙ bound_tree_branch c.in-Branch.agent c.in-Branch.class c.in-Branch.kids in
+    let is = ap bound_tree c.in-Branch.is ∙ bound_tree_branch c.in-Branch.agent c.in-Branch.class
+    c.in-Branch.kids in
     let many : child_count (bound_trees Ts) ≡ c.len.result = omega (
       arith,
       child_count_is Ts,
@@ -55,7 +57,8 @@ loop-action-init t c =
       c.in-Branch.kids.ok.0,
     ) in
     let passes = rw c.in_default.is at c.in_ok-reason-in-Branch.ensures.is in
-    let room = branch_room c.args.m.now.model c.args.bounds.now c.args.node.now c.in-Branch.agent c.in-Branch.class
+    let room = branch_room c.args.m.now.model c.args.bounds.now c.args.node.now c.in-Branch.agent
+    c.in-Branch.class
     Ts (bound_tree c.args.tree.now) is c.args.tally.now c.enter_branch.new.tally
     (passes (bound_trees Ts) many) c.requires.inner c.requires.nodes in (
       branch_starts c.args.m.now.model c.args.bounds.now c.args.node.now c.in-Branch.agent c.in-Branch.class Ts
@@ -84,7 +87,8 @@ walk-requires t c =
     child_room m b c.args.node.now c.in-Branch.agent c.in-Branch.class c.loop-action.action
     (bound_tree c.index.result.now) (map bound_tree (drop (suc c.loop-action.action) items))
     (map bound_tree (drop c.loop-action.action items)) is
-    c.in_ok-child-in-Branch.child c.in_ok-child-in-Branch.ensures c.loop-action.tally _ c.loop-action.invariant.0
+    c.in_ok-child-in-Branch.child c.in_ok-child-in-Branch.ensures c.loop-action.tally _
+    c.loop-action.invariant.0
     c.loop-action.invariant.1 in
     let whole = ap bound_tree c.in-Branch.is ∙ bound_tree_branch c.in-Branch.agent c.in-Branch.class
     c.in-Branch.kids in
@@ -119,7 +123,8 @@ returns-in-Some-2 t c =
     child_stops m b c.args.node.now c.in-Branch.agent c.in-Branch.class c.loop-action.action
     (bound_tree c.index.result.now) (map bound_tree (drop (suc c.loop-action.action) items))
     (map bound_tree (drop c.loop-action.action items)) is
-    c.in_ok-child-in-Branch.child c.in_ok-child-in-Branch.ensures c.loop-action.tally _ c.loop-action.invariant.0 _
+    c.in_ok-child-in-Branch.child c.in_ok-child-in-Branch.ensures c.loop-action.tally _
+    c.loop-action.invariant.0 _
     found
 
 pub loop-action-preserved : goal.loop-action-preserved
@@ -142,13 +147,15 @@ loop-action-preserved t c =
     child_passes m b c.args.node.now c.in-Branch.agent c.in-Branch.class c.loop-action.action
     (bound_tree c.index.result.now) (map bound_tree (drop (suc c.loop-action.action) items))
     (map bound_tree (drop c.loop-action.action items)) is
-    c.in_ok-child-in-Branch.child c.in_ok-child-in-Branch.ensures c.loop-action.tally _ c.loop-action.invariant.0
+    c.in_ok-child-in-Branch.child c.in_ok-child-in-Branch.ensures c.loop-action.tally _
+    c.loop-action.invariant.0
     c.walk.new.tally passes in
     let room =
     room_left m b c.args.node.now c.in-Branch.agent c.in-Branch.class c.loop-action.action
     (bound_tree c.index.result.now) (map bound_tree (drop (suc c.loop-action.action) items))
     (map bound_tree (drop c.loop-action.action items)) is
-    c.in_ok-child-in-Branch.child c.in_ok-child-in-Branch.ensures c.loop-action.tally _ c.loop-action.invariant.0
+    c.in_ok-child-in-Branch.child c.in_ok-child-in-Branch.ensures c.loop-action.tally _
+    c.loop-action.invariant.0
     c.walk.new.tally passes c.loop-action.invariant.2 c.loop-action.invariant.1 in
     rw add-one (next, room.0, room.1)
 
@@ -184,8 +191,13 @@ walk-requires-in-Below t c =
     (enters.0 (bound_tree c.in-Merge.kid.value)) c.requires.inner c.requires.nodes in
     let less = merged_smaller (bound_tree c.args.tree.now) c.in-Merge.agent c.in-Merge.first c.in-Merge.second
     (bound_tree c.in-Merge.kid.value) is in
-    let value = c.deref.ensures in
-    (rw value (omega (arith, less, c.decreases)), (c.requires.bounds, (enters.1.of_model, (rw value room.0, room.1))))
+    let value = c.deref.ensures in (
+      rw value (omega (arith, less, c.decreases)),
+      (
+        c.requires.bounds,
+        (enters.1.of_model, (rw value room.0, room.1)),
+      ),
+    )
 
 pub returns-in-Wrong : goal.returns-in-Wrong
 returns-in-Wrong t c =

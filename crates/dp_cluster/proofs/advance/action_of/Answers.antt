@@ -24,9 +24,14 @@ nonzero_div-left c =
     (chosen_below c.args.m.now.model c.args.front.now.horizon F c.invariant.ensures.model c.requires.front
     c.args.class c.requires.class) in
     let some_actions : 0 < product bs = omega arith in
-    let lt : c.loop-agent.agent < length ds = omega (arith, c.agents-agent-end.ensures, c.loop-agent-test.true) in
+    let lt : c.loop-agent.agent < length ds = omega (
+      arith,
+      c.agents-agent-end.ensures,
+      c.loop-agent-test.true,
+    ) in
     let lt' : c.loop-agent.agent < length bs = omega arith in
-    some bs ds c.loop-agent.agent c.loop-agent.left c.loop-agent.rest c.loop-agent.action J c.classes.result _ lt
+    some bs ds c.loop-agent.agent c.loop-agent.left c.loop-agent.rest c.loop-agent.action J c.classes.result
+    _ lt
     lt' c.classes.ensures refl some_actions J_in c.loop-agent.invariant
 
 pub nonzero_div-own : goal.nonzero_div-own
@@ -41,9 +46,14 @@ nonzero_div-own c =
     (chosen_below c.args.m.now.model c.args.front.now.horizon F c.invariant.ensures.model c.requires.front
     c.args.class c.requires.class) in
     let some_actions : 0 < product bs = omega arith in
-    let lt : c.loop-agent.agent < length ds = omega (arith, c.agents-agent-end.ensures, c.loop-agent-test.true) in
+    let lt : c.loop-agent.agent < length ds = omega (
+      arith,
+      c.agents-agent-end.ensures,
+      c.loop-agent-test.true,
+    ) in
     let lt' : c.loop-agent.agent < length bs = omega arith in
-    some_after bs ds c.loop-agent.agent c.loop-agent.left c.loop-agent.rest c.loop-agent.action J c.classes.result
+    some_after bs ds c.loop-agent.agent c.loop-agent.left c.loop-agent.rest c.loop-agent.action J
+    c.classes.result
     _ lt lt' c.classes.ensures refl some_actions J_in c.loop-agent.invariant
 
 pub nonzero_rem-rest : goal.nonzero_rem-rest
@@ -58,9 +68,14 @@ nonzero_rem-rest c =
     (chosen_below c.args.m.now.model c.args.front.now.horizon F c.invariant.ensures.model c.requires.front
     c.args.class c.requires.class) in
     let some_actions : 0 < product bs = omega arith in
-    let lt : c.loop-agent.agent < length ds = omega (arith, c.agents-agent-end.ensures, c.loop-agent-test.true) in
+    let lt : c.loop-agent.agent < length ds = omega (
+      arith,
+      c.agents-agent-end.ensures,
+      c.loop-agent-test.true,
+    ) in
     let lt' : c.loop-agent.agent < length bs = omega arith in
-    some_after bs ds c.loop-agent.agent c.loop-agent.left c.loop-agent.rest c.loop-agent.action J c.classes.result
+    some_after bs ds c.loop-agent.agent c.loop-agent.left c.loop-agent.rest c.loop-agent.action J
+    c.classes.result
     _ lt lt' c.classes.ensures refl some_actions J_in c.loop-agent.invariant
 
 pub actions-requires : goal.actions-requires
@@ -75,7 +90,11 @@ actions-requires c =
     (chosen_below c.args.m.now.model c.args.front.now.horizon F c.invariant.ensures.model c.requires.front
     c.args.class c.requires.class) in
     let some_actions : 0 < product bs = omega arith in
-    let lt : c.loop-agent.agent < length ds = omega (arith, c.agents-agent-end.ensures, c.loop-agent-test.true) in
+    let lt : c.loop-agent.agent < length ds = omega (
+      arith,
+      c.agents-agent-end.ensures,
+      c.loop-agent-test.true,
+    ) in
     let lt' : c.loop-agent.agent < length bs = omega arith in
     lt'
 
@@ -91,9 +110,14 @@ action-requires-clause-class c =
     (chosen_below c.args.m.now.model c.args.front.now.horizon F c.invariant.ensures.model c.requires.front
     c.args.class c.requires.class) in
     let some_actions : 0 < product bs = omega arith in
-    let lt : c.loop-agent.agent < length ds = omega (arith, c.agents-agent-end.ensures, c.loop-agent-test.true) in
+    let lt : c.loop-agent.agent < length ds = omega (
+      arith,
+      c.agents-agent-end.ensures,
+      c.loop-agent-test.true,
+    ) in
     let lt' : c.loop-agent.agent < length bs = omega arith in
-    own_in bs ds c.loop-agent.agent c.loop-agent.left c.loop-agent.rest c.loop-agent.action J c.classes.result _ lt
+    own_in bs ds c.loop-agent.agent c.loop-agent.left c.loop-agent.rest c.loop-agent.action J
+    c.classes.result _ lt
     lt' c.classes.ensures refl some_actions J_in c.loop-agent.invariant
 
 pub overflow_mul-action : goal.overflow_mul-action
@@ -108,9 +132,14 @@ overflow_mul-action c =
     (chosen_below c.args.m.now.model c.args.front.now.horizon F c.invariant.ensures.model c.requires.front
     c.args.class c.requires.class) in
     let some_actions : 0 < product bs = omega arith in
-    let lt : c.loop-agent.agent < length ds = omega (arith, c.agents-agent-end.ensures, c.loop-agent-test.true) in
+    let lt : c.loop-agent.agent < length ds = omega (
+      arith,
+      c.agents-agent-end.ensures,
+      c.loop-agent-test.true,
+    ) in
     let lt' : c.loop-agent.agent < length bs = omega arith in
-    let few : product bs ≤ 256 = omega (arith, product_is, c.invariant.ensures.model.sizes.joint_actions_limit) in
+    let few : product bs ≤ 256 = omega
+    (arith, product_is, c.invariant.ensures.model.sizes.joint_actions_limit) in
     let room = action_room bs ds c.loop-agent.agent c.loop-agent.left c.loop-agent.rest c.loop-agent.action J
     c.classes.result c.actions.result lt lt' c.classes.ensures c.actions.ensures some_actions J_in
     c.loop-agent.invariant _ refl in omega arith
@@ -127,9 +156,14 @@ overflow_add-action c =
     (chosen_below c.args.m.now.model c.args.front.now.horizon F c.invariant.ensures.model c.requires.front
     c.args.class c.requires.class) in
     let some_actions : 0 < product bs = omega arith in
-    let lt : c.loop-agent.agent < length ds = omega (arith, c.agents-agent-end.ensures, c.loop-agent-test.true) in
+    let lt : c.loop-agent.agent < length ds = omega (
+      arith,
+      c.agents-agent-end.ensures,
+      c.loop-agent-test.true,
+    ) in
     let lt' : c.loop-agent.agent < length bs = omega arith in
-    let few : product bs ≤ 256 = omega (arith, product_is, c.invariant.ensures.model.sizes.joint_actions_limit) in
+    let few : product bs ≤ 256 = omega
+    (arith, product_is, c.invariant.ensures.model.sizes.joint_actions_limit) in
     let room = action_room bs ds c.loop-agent.agent c.loop-agent.left c.loop-agent.rest c.loop-agent.action J
     c.classes.result c.actions.result lt lt' c.classes.ensures c.actions.ensures some_actions J_in
     c.loop-agent.invariant c.unwrap_or.result (c.unwrap_or.ensures
@@ -147,7 +181,11 @@ loop-agent-preserved c =
     (chosen_below c.args.m.now.model c.args.front.now.horizon F c.invariant.ensures.model c.requires.front
     c.args.class c.requires.class) in
     let some_actions : 0 < product bs = omega arith in
-    let lt : c.loop-agent.agent < length ds = omega (arith, c.agents-agent-end.ensures, c.loop-agent-test.true) in
+    let lt : c.loop-agent.agent < length ds = omega (
+      arith,
+      c.agents-agent-end.ensures,
+      c.loop-agent-test.true,
+    ) in
     let lt' : c.loop-agent.agent < length bs = omega arith in
     choosing_next bs ds c.loop-agent.agent c.loop-agent.left c.loop-agent.rest c.loop-agent.action J
     c.classes.result c.actions.result lt lt' c.classes.ensures c.actions.ensures some_actions J_in

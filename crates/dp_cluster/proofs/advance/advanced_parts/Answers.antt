@@ -42,7 +42,8 @@ loop-agent-preserved c =
           (map (λ p. p.value) c.push.new.self.items) c.in_ok-new.field-0.value
           (advanced_agents m.observations k.front.stage k.front.agents) c.loop-agent.agent
           (omega (arith, advanced_length m.observations k.front.stage k.front.agents seen))
-          (ap (λ (p : OwnPart). p.front) value ∙ sym (part_advanced_is m k is c.invariant.ensures c.requires.stage
+          (ap (λ (p : OwnPart). p.front) value ∙ sym (part_advanced_is m k is c.invariant.ensures
+          c.requires.stage
           c.loop-agent.agent inside c.part.result.now c.part.ensures.front c.part.ensures.observations _))
           pushed c.loop-agent.invariant.fronts;
       seen = next_taken (λ (p : OwnPart). p.observations) (map (λ p. p.value) c.loop-agent.all.items)

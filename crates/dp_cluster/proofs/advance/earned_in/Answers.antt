@@ -40,7 +40,8 @@ pub earned_after-requires-else-is_exact : goal.earned_after-requires-else-is_exa
 earned_after-requires-else-is_exact c = record {
   sizes = advanceable false c.of-else-is_exact.result
       c.args.m.now.model c.args.front.now c.requires.of_model c.invariant.ensures c.requires.stage
-      (c.of-else-is_exact.ensures ∙ c.scales-else-is_exact.ensures) (sym c.is_exact.ensures ∙ c.if-is_exact.false);
+      (c.of-else-is_exact.ensures ∙ c.scales-else-is_exact.ensures)
+      (sym c.is_exact.ensures ∙ c.if-is_exact.false);
 }
 
 pub returns-else-is_exact : goal.returns-else-is_exact

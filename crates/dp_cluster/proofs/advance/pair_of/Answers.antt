@@ -36,7 +36,8 @@ nonzero_div-left c =
     ) in
     let whole : c.args.next < product (pair_counts cs ns) = whole_is c.args.count c.args.next cs ns alike
     (c.requires.count ∙ ap (λ (z : ℕ). product cs * z) seen) c.requires.next in
-    let room = code_room cs ns alike c.loop-agent.agent c.loop-agent.left c.loop-agent.rest c.loop-agent.pair.class
+    let room = code_room cs ns alike c.loop-agent.agent c.loop-agent.left c.loop-agent.rest
+    c.loop-agent.pair.class
     c.loop-agent.pair.seen c.args.next c.classes-classes.result c.observations-observations.result
     c.classes-classes.ensures
     (c.observations-observations.ensures ∙ sym c.part.ensures.observations
@@ -61,7 +62,8 @@ nonzero_div-own c =
     ) in
     let whole : c.args.next < product (pair_counts cs ns) = whole_is c.args.count c.args.next cs ns alike
     (c.requires.count ∙ ap (λ (z : ℕ). product cs * z) seen) c.requires.next in
-    let room = code_room cs ns alike c.loop-agent.agent c.loop-agent.left c.loop-agent.rest c.loop-agent.pair.class
+    let room = code_room cs ns alike c.loop-agent.agent c.loop-agent.left c.loop-agent.rest
+    c.loop-agent.pair.class
     c.loop-agent.pair.seen c.args.next c.classes-classes.result c.observations-observations.result
     c.classes-classes.ensures
     (c.observations-observations.ensures ∙ sym c.part.ensures.observations
@@ -86,7 +88,8 @@ nonzero_rem-rest c =
     ) in
     let whole : c.args.next < product (pair_counts cs ns) = whole_is c.args.count c.args.next cs ns alike
     (c.requires.count ∙ ap (λ (z : ℕ). product cs * z) seen) c.requires.next in
-    let room = code_room cs ns alike c.loop-agent.agent c.loop-agent.left c.loop-agent.rest c.loop-agent.pair.class
+    let room = code_room cs ns alike c.loop-agent.agent c.loop-agent.left c.loop-agent.rest
+    c.loop-agent.pair.class
     c.loop-agent.pair.seen c.args.next c.classes-classes.result c.observations-observations.result
     c.classes-classes.ensures
     (c.observations-observations.ensures ∙ sym c.part.ensures.observations
@@ -111,7 +114,8 @@ overflow_mul-left c =
     ) in
     let whole : c.args.next < product (pair_counts cs ns) = whole_is c.args.count c.args.next cs ns alike
     (c.requires.count ∙ ap (λ (z : ℕ). product cs * z) seen) c.requires.next in
-    let room = code_room cs ns alike c.loop-agent.agent c.loop-agent.left c.loop-agent.rest c.loop-agent.pair.class
+    let room = code_room cs ns alike c.loop-agent.agent c.loop-agent.left c.loop-agent.rest
+    c.loop-agent.pair.class
     c.loop-agent.pair.seen c.args.next c.classes-classes.result c.observations-observations.result
     c.classes-classes.ensures
     (c.observations-observations.ensures ∙ sym c.part.ensures.observations
@@ -136,7 +140,8 @@ overflow_mul-pair c =
     ) in
     let whole : c.args.next < product (pair_counts cs ns) = whole_is c.args.count c.args.next cs ns alike
     (c.requires.count ∙ ap (λ (z : ℕ). product cs * z) seen) c.requires.next in
-    let room = code_room cs ns alike c.loop-agent.agent c.loop-agent.left c.loop-agent.rest c.loop-agent.pair.class
+    let room = code_room cs ns alike c.loop-agent.agent c.loop-agent.left c.loop-agent.rest
+    c.loop-agent.pair.class
     c.loop-agent.pair.seen c.args.next c.classes-classes.result c.observations-observations.result
     c.classes-classes.ensures
     (c.observations-observations.ensures ∙ sym c.part.ensures.observations
@@ -165,7 +170,8 @@ overflow_add-pair c =
     ) in
     let whole : c.args.next < product (pair_counts cs ns) = whole_is c.args.count c.args.next cs ns alike
     (c.requires.count ∙ ap (λ (z : ℕ). product cs * z) seen) c.requires.next in
-    let room = code_room cs ns alike c.loop-agent.agent c.loop-agent.left c.loop-agent.rest c.loop-agent.pair.class
+    let room = code_room cs ns alike c.loop-agent.agent c.loop-agent.left c.loop-agent.rest
+    c.loop-agent.pair.class
     c.loop-agent.pair.seen c.args.next c.classes-classes.result c.observations-observations.result
     c.classes-classes.ensures
     (c.observations-observations.ensures ∙ sym c.part.ensures.observations
@@ -194,7 +200,8 @@ overflow_mul-pair-in-loop-agent c =
     ) in
     let whole : c.args.next < product (pair_counts cs ns) = whole_is c.args.count c.args.next cs ns alike
     (c.requires.count ∙ ap (λ (z : ℕ). product cs * z) seen) c.requires.next in
-    let room = code_room cs ns alike c.loop-agent.agent c.loop-agent.left c.loop-agent.rest c.loop-agent.pair.class
+    let room = code_room cs ns alike c.loop-agent.agent c.loop-agent.left c.loop-agent.rest
+    c.loop-agent.pair.class
     c.loop-agent.pair.seen c.args.next c.classes-classes.result c.observations-observations.result
     c.classes-classes.ensures
     (c.observations-observations.ensures ∙ sym c.part.ensures.observations
@@ -223,7 +230,8 @@ overflow_add-pair-in-loop-agent c =
     ) in
     let whole : c.args.next < product (pair_counts cs ns) = whole_is c.args.count c.args.next cs ns alike
     (c.requires.count ∙ ap (λ (z : ℕ). product cs * z) seen) c.requires.next in
-    let room = code_room cs ns alike c.loop-agent.agent c.loop-agent.left c.loop-agent.rest c.loop-agent.pair.class
+    let room = code_room cs ns alike c.loop-agent.agent c.loop-agent.left c.loop-agent.rest
+    c.loop-agent.pair.class
     c.loop-agent.pair.seen c.args.next c.classes-classes.result c.observations-observations.result
     c.classes-classes.ensures
     (c.observations-observations.ensures ∙ sym c.part.ensures.observations

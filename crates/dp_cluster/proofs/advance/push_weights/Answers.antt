@@ -26,7 +26,8 @@ loop-state-preserved g c =
     let k = c.args.front.now in
     let is = c.requires.sizes in
     let new = c.next_weight.ensures ∙ ap (λ (a : ℕ). weights_after_in A m
-    (weights_of c.class_weights-before.result.now) a c.args.seen c.loop-state.state) c.action_of-action.ensures.is
+    (weights_of c.class_weights-before.result.now) a c.args.seen c.loop-state.state)
+    c.action_of-action.ensures.is
     ∙ pushed_is A C m k is c.args.class c.requires.class (weights_of c.class_weights-before.result.now)
     c.class_weights-before.ensures.are c.args.seen c.loop-state.state c.requires.seen in
     next_after (class_weight_in A m (advanced_front m k.front)

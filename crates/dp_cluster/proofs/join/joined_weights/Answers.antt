@@ -41,7 +41,8 @@ overflow_mul-rows c =
     let is = c.requires.of_model.1 in
     let k = c.args.front.now in
     let i = c.args.agent in
-    let few = few_product m k is c.requires.exact c.invariant.ensures c.requires.stage i c.args.first c.args.second
+    let few = few_product m k is c.requires.exact c.invariant.ensures c.requires.stage i c.args.first
+    c.args.second
     c.requires.order c.requires.first c.requires.second c.joint_classes.result c.classes-count.result
     c.width_behind-width.result c.joint_classes.ensures.is c.classes-count.ensures
     c.width_behind-width.ensures in omega arith
@@ -183,10 +184,13 @@ returns c =
     let is = c.requires.of_model.1 in
     let k = c.args.front.now in
     let i = c.args.agent in
-    let stop = rows_end m k is c.requires.exact c.invariant.ensures c.requires.stage i c.args.first c.args.second
+    let stop = rows_end m k is c.requires.exact c.invariant.ensures c.requires.stage i c.args.first
+    c.args.second
     c.requires.order c.requires.first c.requires.second c.joint_classes.result c.classes-count.result
-    c.width_behind-width.result c.joint_classes.ensures.is c.classes-count.ensures c.width_behind-width.ensures in
+    c.width_behind-width.result c.joint_classes.ensures.is c.classes-count.ensures
+    c.width_behind-width.ensures in
     let all : c.loop-next.next
     ≡ c.joint_classes.result / (c.classes-count.result * c.width_behind-width.result) * (c.classes-count.result
     - 1) * c.width_behind-width.result = omega arith in
-    c.loop-next.invariant ∙ ap (weight_rows (merged_weight k i c.args.first c.args.second) k.states) (all ∙ stop)
+    c.loop-next.invariant ∙ ap (weight_rows (merged_weight k i c.args.first c.args.second) k.states)
+    (all ∙ stop)

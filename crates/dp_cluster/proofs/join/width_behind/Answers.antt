@@ -21,7 +21,8 @@ loop-before-preserved c =
     let ns = class_counts c.args.front.now.front.agents in
     let lt : c.loop-before.before < length ns = let n = as_many_counts c.args.front.now.front.agents in
     let a = c.requires.agent in let t = c.loop-before-test.true in omega arith in
-    let some : 0 < c.classes.result = rw c.classes.ensures (size_above ns c.loop-before.before c.requires.classes
+    let some : 0 < c.classes.result = rw c.classes.ensures (size_above ns c.loop-before.before
+    c.requires.classes
     lt) in
     divided c.classes.result (product (drop (suc c.loop-before.before) ns)) c.loop-before.width some
     (c.loop-before.invariant ∙ product-drop ns c.loop-before.before lt

@@ -90,7 +90,8 @@ index-requires t c =
     let read = stage_read c.args.past.now c.args.left c.requires.some within c.index-past-left.result
     c.as_ref-stage.result.now
     c.index-past-left.is c.as_ref-stage.ensures in
-    let below = class_in n ss c.requires.stages c.args.left c.requires.some within c.as_ref-stage.result.now read
+    let below = class_in n ss c.requires.stages c.args.left c.requires.some within c.as_ref-stage.result.now
+    read
     c.args.class reached in
     omega (arith, below, c.as_ref-stage.result.now.actions.ok.0)
 
@@ -104,7 +105,8 @@ returns t c = λ u x e lt leads.
     let read = stage_read c.args.past.now c.args.left c.requires.some within c.index-past-left.result
     c.as_ref-stage.result.now
     c.index-past-left.is c.as_ref-stage.ensures in
-    let below = class_in n ss c.requires.stages c.args.left c.requires.some within c.as_ref-stage.result.now read
+    let below = class_in n ss c.requires.stages c.args.left c.requires.some within c.as_ref-stage.result.now
+    read
     c.args.class reached in
     let action = get_or_read c.as_ref-stage.result.now.actions.items c.args.class _ below c.index.ensures 0 in
     let within_all : u + c.args.left ≡ length ss = omega arith in

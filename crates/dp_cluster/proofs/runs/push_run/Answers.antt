@@ -7,6 +7,7 @@ use Rattle.dp_cluster.proofs.runs.push_run.Goals as goal
 
 pub loop-weight-preserved : goal.loop-weight-preserved
 loop-weight-preserved c =
-    next_after (low_end c.args.run.now) c.args.weights.now.items c.loop-weight.weights.items c.push.new.self.items
+    next_after (low_end c.args.run.now) c.args.weights.now.items c.loop-weight.weights.items
+    c.push.new.self.items
     c.loop-weight.weight-index _ (to_z-of_z w128 (low_end c.args.run.now c.loop-weight.weight-index)
     (search rules)) c.in_ok-push.ensures.items c.loop-weight.invariant

@@ -30,7 +30,8 @@ change_place-at-requires-clause-agent c = rw (same_agents _ c.requires.of_front.
 
 pub place_of-joint-requires-clause-some : goal.place_of-joint-requires-clause-some
 place_of-joint-requires-clause-some c =
-    some_width (game_with c.args.actions.now c.args.choices.now c.args.table.now (pos 0)) c.args.agent c.args.class
+    some_width (game_with c.args.actions.now c.args.choices.now c.args.table.now (pos 0))
+    c.args.agent c.args.class
     c.args.choice c.requires.agent c.requires.class c.requires.of_front c.requires.after c.count-count.result
     c.width_from-width.result (c.count-count.ensures ∙ count_at c.args.choices.now c.args.agent
     c.index-choices-agent.result c.requires.agent c.index-choices-agent.is) c.width_from-width.ensures
@@ -44,7 +45,8 @@ place_of-joint-requires-clause-room c =
     c.width_from-width.result (c.count-count.ensures ∙ count_at c.args.choices.now c.args.agent
     c.index-choices-agent.result c.requires.agent c.index-choices-agent.is) c.width_from-width.ensures
     (length c.args.greatest.now) c.requires.one_each) c.loop-other-test.true in
-    joint_room (game_with c.args.actions.now c.args.choices.now c.args.table.now (pos 0)) c.args.agent c.args.class
+    joint_room (game_with c.args.actions.now c.args.choices.now c.args.table.now (pos 0))
+    c.args.agent c.args.class
     c.args.choice c.requires.agent c.requires.class c.requires.of_front c.requires.after c.count-count.result
     c.width_from-width.result (c.count-count.ensures ∙ count_at c.args.choices.now c.args.agent
     c.index-choices-agent.result c.requires.agent c.index-choices-agent.is) c.width_from-width.ensures
@@ -59,7 +61,8 @@ change_place-at-requires-clause-few c =
     c.width_from-width.result (c.count-count.ensures ∙ count_at c.args.choices.now c.args.agent
     c.index-choices-agent.result c.requires.agent c.index-choices-agent.is) c.width_from-width.ensures
     (length c.args.greatest.now) c.requires.one_each) c.loop-other-test.true in
-    joint_few (game_with c.args.actions.now c.args.choices.now c.args.table.now (pos 0)) c.args.agent c.args.class
+    joint_few (game_with c.args.actions.now c.args.choices.now c.args.table.now (pos 0))
+    c.args.agent c.args.class
     c.args.choice c.requires.agent c.requires.class c.requires.of_front c.requires.after c.count-count.result
     c.width_from-width.result (c.count-count.ensures ∙ count_at c.args.choices.now c.args.agent
     c.index-choices-agent.result c.requires.agent c.index-choices-agent.is) c.width_from-width.ensures
@@ -74,7 +77,8 @@ change_place-at-requires-clause-table c =
     c.width_from-width.result (c.count-count.ensures ∙ count_at c.args.choices.now c.args.agent
     c.index-choices-agent.result c.requires.agent c.index-choices-agent.is) c.width_from-width.ensures
     (length c.args.greatest.now) c.requires.one_each) c.loop-other-test.true in
-    in_table (game_with c.args.actions.now c.args.choices.now c.args.table.now (pos 0)) c.args.agent c.args.class
+    in_table (game_with c.args.actions.now c.args.choices.now c.args.table.now (pos 0))
+    c.args.agent c.args.class
     c.args.choice c.requires.agent c.requires.class c.requires.of_front c.requires.after c.count-count.result
     c.width_from-width.result (c.count-count.ensures ∙ count_at c.args.choices.now c.args.agent
     c.index-choices-agent.result c.requires.agent c.index-choices-agent.is) c.width_from-width.ensures
@@ -89,7 +93,8 @@ change_place-at-requires-clause-wanted c =
     c.width_from-width.result (c.count-count.ensures ∙ count_at c.args.choices.now c.args.agent
     c.index-choices-agent.result c.requires.agent c.index-choices-agent.is) c.width_from-width.ensures
     (length c.args.greatest.now) c.requires.one_each) c.loop-other-test.true in
-    in_wanted (game_with c.args.actions.now c.args.choices.now c.args.table.now (pos 0)) c.args.agent c.args.class
+    in_wanted (game_with c.args.actions.now c.args.choices.now c.args.table.now (pos 0))
+    c.args.agent c.args.class
     c.args.choice c.requires.agent c.requires.class c.requires.of_front c.requires.after c.count-count.result
     c.width_from-width.result (c.count-count.ensures ∙ count_at c.args.choices.now c.args.agent
     c.index-choices-agent.result c.requires.agent c.index-choices-agent.is) c.width_from-width.ensures
@@ -121,7 +126,8 @@ added-change-requires-clause-gone c =
     c.width_from-width.result (c.count-count.ensures ∙ count_at c.args.choices.now c.args.agent
     c.index-choices-agent.result c.requires.agent c.index-choices-agent.is) c.width_from-width.ensures
     (length c.args.greatest.now) c.requires.one_each) c.loop-other-test.true in
-    gone_fits (game_with c.args.actions.now c.args.choices.now c.args.table.now (pos 0)) c.args.agent c.args.class
+    gone_fits (game_with c.args.actions.now c.args.choices.now c.args.table.now (pos 0))
+    c.args.agent c.args.class
     c.args.choice c.requires.agent c.requires.class c.requires.of_front c.requires.after c.count-count.result
     c.width_from-width.result (c.count-count.ensures ∙ count_at c.args.choices.now c.args.agent
     c.index-choices-agent.result c.requires.agent c.index-choices-agent.is) c.width_from-width.ensures
@@ -137,7 +143,8 @@ added-change-requires-clause-come c =
     c.width_from-width.result (c.count-count.ensures ∙ count_at c.args.choices.now c.args.agent
     c.index-choices-agent.result c.requires.agent c.index-choices-agent.is) c.width_from-width.ensures
     (length c.args.greatest.now) c.requires.one_each) c.loop-other-test.true in
-    come_fits (game_with c.args.actions.now c.args.choices.now c.args.table.now (pos 0)) c.args.agent c.args.class
+    come_fits (game_with c.args.actions.now c.args.choices.now c.args.table.now (pos 0))
+    c.args.agent c.args.class
     c.args.choice c.requires.agent c.requires.class c.requires.of_front c.requires.after c.count-count.result
     c.width_from-width.result (c.count-count.ensures ∙ count_at c.args.choices.now c.args.agent
     c.index-choices-agent.result c.requires.agent c.index-choices-agent.is) c.width_from-width.ensures
@@ -155,27 +162,35 @@ loop-other-preserved c =
     c.width_from-width.result (c.count-count.ensures ∙ count_at c.args.choices.now c.args.agent
     c.index-choices-agent.result c.requires.agent c.index-choices-agent.is) c.width_from-width.ensures
     (length c.args.greatest.now) c.requires.one_each) c.loop-other-test.true in (
-      walk_next (game_with c.args.actions.now c.args.choices.now c.args.table.now (pos 0)) c.args.agent c.args.class
-          c.args.choice c.requires.agent c.requires.class c.requires.of_front c.requires.after c.count-count.result
+      walk_next (game_with c.args.actions.now c.args.choices.now c.args.table.now (pos 0))
+          c.args.agent c.args.class
+          c.args.choice c.requires.agent c.requires.class c.requires.of_front c.requires.after
+          c.count-count.result
           c.width_from-width.result (c.count-count.ensures ∙ count_at c.args.choices.now c.args.agent
           c.index-choices-agent.result c.requires.agent c.index-choices-agent.is) c.width_from-width.ensures
           c.loop-other.other hx c.place_of-joint.result c.place_of-joint.ensures c.loop-other.wanted
-          c.loop-other.greatest c.loop-other.invariant.0 c.change_place-at.new.wanted c.change_place-at.new.greatest
+          c.loop-other.greatest c.loop-other.invariant.0 c.change_place-at.new.wanted
+          c.change_place-at.new.greatest
           c.change_place-at.result.come c.change_place-at.ensures.wanted c.change_place-at.ensures.greatest
           c.change_place-at.ensures.come,
-      gone_next (game_with c.args.actions.now c.args.choices.now c.args.table.now (pos 0)) c.args.agent c.args.class
-          c.args.choice c.requires.agent c.requires.class c.requires.of_front c.requires.after c.count-count.result
+      gone_next (game_with c.args.actions.now c.args.choices.now c.args.table.now (pos 0))
+          c.args.agent c.args.class
+          c.args.choice c.requires.agent c.requires.class c.requires.of_front c.requires.after
+          c.count-count.result
           c.width_from-width.result (c.count-count.ensures ∙ count_at c.args.choices.now c.args.agent
           c.index-choices-agent.result c.requires.agent c.index-choices-agent.is) c.width_from-width.ensures
           c.loop-other.other hx c.place_of-joint.result c.place_of-joint.ensures c.loop-other.wanted
           c.loop-other.greatest c.loop-other.invariant.0 _ _ _ c.loop-other.invariant.1
           c.change_place-at.ensures.gone c.added-change.ensures.gone,
-      come_next (game_with c.args.actions.now c.args.choices.now c.args.table.now (pos 0)) c.args.agent c.args.class
-          c.args.choice c.requires.agent c.requires.class c.requires.of_front c.requires.after c.count-count.result
+      come_next (game_with c.args.actions.now c.args.choices.now c.args.table.now (pos 0))
+          c.args.agent c.args.class
+          c.args.choice c.requires.agent c.requires.class c.requires.of_front c.requires.after
+          c.count-count.result
           c.width_from-width.result (c.count-count.ensures ∙ count_at c.args.choices.now c.args.agent
           c.index-choices-agent.result c.requires.agent c.index-choices-agent.is) c.width_from-width.ensures
           c.loop-other.other hx c.place_of-joint.result c.place_of-joint.ensures c.loop-other.wanted
-          c.loop-other.greatest c.loop-other.invariant.0 c.change_place-at.new.wanted c.change_place-at.new.greatest
+          c.loop-other.greatest c.loop-other.invariant.0 c.change_place-at.new.wanted
+          c.change_place-at.new.greatest
           c.change_place-at.result.come c.change_place-at.ensures.wanted c.change_place-at.ensures.greatest
           c.change_place-at.ensures.come _ _ c.loop-other.invariant.2 c.added-change.ensures.come,
     )
@@ -209,7 +224,8 @@ returns-clause-gone c =
     c.width_from-width.result (c.count-count.ensures ∙ count_at c.args.choices.now c.args.agent
     c.index-choices-agent.result c.requires.agent c.index-choices-agent.is) c.width_from-width.ensures
     (length c.args.greatest.now) c.requires.one_each) c.loop-other.auto.other-end in
-    let all : c.loop-other.other ≡ product (without c.args.agent (own_counts c.args.choices.now)) = omega arith in
+    let all : c.loop-other.other ≡ product (without c.args.agent (own_counts c.args.choices.now)) =
+    omega arith in
     c.loop-other.invariant.1 ∙ ap (λ n. int_sum n (λ x. best_entry
     (game_with c.args.actions.now c.args.choices.now c.args.table.now (pos 0))
     (placed_number c.args.agent (own_counts c.args.choices.now) c.args.class x))) all
@@ -230,21 +246,25 @@ returns-clause-come c =
     c.width_from-width.result (c.count-count.ensures ∙ count_at c.args.choices.now c.args.agent
     c.index-choices-agent.result c.requires.agent c.index-choices-agent.is) c.width_from-width.ensures
     (length c.args.greatest.now) c.requires.one_each) c.loop-other.auto.other-end in
-    let all : c.loop-other.other ≡ product (without c.args.agent (own_counts c.args.choices.now)) = omega arith in
+    let all : c.loop-other.other ≡ product (without c.args.agent (own_counts c.args.choices.now)) =
+    omega arith in
     c.loop-other.invariant.2 ∙ ap (λ n. int_sum n (λ x. best_entry
     (with_own_choice (game_with c.args.actions.now c.args.choices.now c.args.table.now (pos 0)) c.args.agent
-    c.args.class c.args.choice) (placed_number c.args.agent (own_counts c.args.choices.now) c.args.class x))) all
+    c.args.class c.args.choice) (placed_number c.args.agent (own_counts c.args.choices.now) c.args.class x)))
+    all
 
 pub nonzero_div-other : goal.nonzero_div-other
 nonzero_div-other c =
-    some_width (game_with c.args.actions.now c.args.choices.now c.args.table.now (pos 0)) c.args.agent c.args.class
+    some_width (game_with c.args.actions.now c.args.choices.now c.args.table.now (pos 0))
+    c.args.agent c.args.class
     c.args.choice c.requires.agent c.requires.class c.requires.of_front c.requires.after c.count-count.result
     c.width_from-width.result (c.count-count.ensures ∙ count_at c.args.choices.now c.args.agent
     c.index-choices-agent.result c.requires.agent c.index-choices-agent.is) c.width_from-width.ensures
 
 pub nonzero_rem-other : goal.nonzero_rem-other
 nonzero_rem-other c =
-    some_width (game_with c.args.actions.now c.args.choices.now c.args.table.now (pos 0)) c.args.agent c.args.class
+    some_width (game_with c.args.actions.now c.args.choices.now c.args.table.now (pos 0))
+    c.args.agent c.args.class
     c.args.choice c.requires.agent c.requires.class c.requires.of_front c.requires.after c.count-count.result
     c.width_from-width.result (c.count-count.ensures ∙ count_at c.args.choices.now c.args.agent
     c.index-choices-agent.result c.requires.agent c.index-choices-agent.is) c.width_from-width.ensures

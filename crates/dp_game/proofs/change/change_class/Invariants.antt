@@ -8,7 +8,8 @@ use Rattle.dp_game.proofs.change.change_class.Given as goal
 
 abbrev pub invariant-loop-other : goal.invariant-loop-other
 invariant-loop-other l =
-    IsChanging (game_with l.actions l.choices l.table (pos 0)) l.agent l.class l.choice l.other l.wanted l.greatest
+    IsChanging (game_with l.actions l.choices l.table (pos 0))
+    l.agent l.class l.choice l.other l.wanted l.greatest
     × (l.change.gone ≡ int_sum l.other (λ y. best_entry (game_with l.actions l.choices l.table (pos 0))
     (placed_number l.agent (own_counts l.choices) l.class y)))
     × (l.change.come ≡ int_sum l.other (λ y. best_entry

@@ -9,6 +9,7 @@ pub returns : goal.returns
 returns c =
     let fits : SFits w128 c.greatest_allowed.result = search rules in
     to_z-of_z w128 _ fits
-    ∙ greatest_read c.args.actions.now c.args.table.now _ c.args.wanted.now _ c.args.joint _ _ _ c.count.ensures.is
+    ∙ greatest_read c.args.actions.now c.args.table.now _ c.args.wanted.now _ c.args.joint _ _ _
+    c.count.ensures.is
     c.agents.ensures.is
     c.entries_of-row.ensures c.choices_of-choices.ensures c.greatest_allowed.ensures

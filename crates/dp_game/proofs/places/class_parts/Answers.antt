@@ -13,7 +13,8 @@ loop-own-preserved c =
           c.own-item.result c.count-left.result (sym c.own-item.is) c.count-left.ensures c.loop-own.invariant.0,
       gone_on _ _ _ _ _ _ _ (ap (λ k. c.push.new.self.items ++ parts_of (own_counts (drop k oss))
           (c.loop-own.rest % (c.loop-own.left / c.count-left.result))) (add-one j)) c.loop-own.invariant.1
-          (parts_next c.args.choices.now c.loop-own.own-index c.loop-own.left c.loop-own.rest c.loop-own-test.true
+          (parts_next c.args.choices.now c.loop-own.own-index c.loop-own.left c.loop-own.rest
+          c.loop-own-test.true
           c.own-item.result c.count-left.result (sym c.own-item.is) c.count-left.ensures c.loop-own.invariant.0)
           c.in_ok-push.ensures.items,
     )

@@ -34,7 +34,8 @@ push_row-requires-clause-one_each c =
     let k = c.args.front.now in
     let ns = class_counts k.front.agents in
     let counts = ap own_counts c.requires.choices ∙ counts_of k.front.agents in
-    let lt : c.args.joint < product ns = subst (λ (n : ℕ). c.args.joint < n) c.requires.count c.requires.joint in
+    let lt : c.args.joint < product ns = subst (λ (n : ℕ). c.args.joint < n)
+    c.requires.count c.requires.joint in
     let number = number_is ns c.args.joint _ lt
     (c.deref.ensures.value ∙ c.in_ok-class_parts.ensures ∙ ap (λ ns. parts_of ns c.args.joint) counts) in
     let are = c.deref-2.ensures.value ∙ c.in_ok-fill_weights.ensures ∙ ap
@@ -48,12 +49,14 @@ push_row-requires-clause-weights c =
     let k = c.args.front.now in
     let ns = class_counts k.front.agents in
     let counts = ap own_counts c.requires.choices ∙ counts_of k.front.agents in
-    let lt : c.args.joint < product ns = subst (λ (n : ℕ). c.args.joint < n) c.requires.count c.requires.joint in
+    let lt : c.args.joint < product ns = subst (λ (n : ℕ). c.args.joint < n)
+    c.requires.count c.requires.joint in
     let number = number_is ns c.args.joint _ lt
     (c.deref.ensures.value ∙ c.in_ok-class_parts.ensures ∙ ap (λ ns. parts_of ns c.args.joint) counts) in
     let are = c.deref-2.ensures.value ∙ c.in_ok-fill_weights.ensures ∙ ap
     (λ J. map (kept_weight k J) (range_with_len 0 c.states.result)) number in
-    rw c.stage.ensures (row_weights m k c.args.bounder.now c.requires.of_model c.requires.bounder c.requires.horizon
+    rw c.stage.ensures (row_weights m k c.args.bounder.now c.requires.of_model c.requires.bounder
+    c.requires.horizon
     c.requires.stage c.requires.cells c.args.joint lt c.states.result c.states.ensures.is c.deref-2.result.now
     are)
 
@@ -63,7 +66,8 @@ returns-clause-row c =
     let k = c.args.front.now in
     let ns = class_counts k.front.agents in
     let counts = ap own_counts c.requires.choices ∙ counts_of k.front.agents in
-    let lt : c.args.joint < product ns = subst (λ (n : ℕ). c.args.joint < n) c.requires.count c.requires.joint in
+    let lt : c.args.joint < product ns = subst (λ (n : ℕ). c.args.joint < n)
+    c.requires.count c.requires.joint in
     let number = number_is ns c.args.joint _ lt
     (c.deref.ensures.value ∙ c.in_ok-class_parts.ensures ∙ ap (λ ns. parts_of ns c.args.joint) counts) in
     let are = c.deref-2.ensures.value ∙ c.in_ok-fill_weights.ensures ∙ ap

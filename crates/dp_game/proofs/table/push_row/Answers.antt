@@ -16,6 +16,7 @@ loop-action-preserved c =
       next_after (λ a. action_look_ahead_in (arithmetic b.is_exact m.scales) m (b.horizon - c.args.stage - 1)
           (weights_of c.args.weights.now) a b.look)
           c.args.table.now.items c.loop-action.table.items c.push.new.self.items c.loop-action.action _
-          (to_z-of_z w128 _ fits ∙ c.look_ahead.ensures.is) c.in_ok-push.ensures.items c.loop-action.invariant.0,
+          (to_z-of_z w128 _ fits ∙ c.look_ahead.ensures.is) c.in_ok-push.ensures.items
+          c.loop-action.invariant.0,
       c.look_ahead.ensures.room ∙ c.loop-action.invariant.1,
     )

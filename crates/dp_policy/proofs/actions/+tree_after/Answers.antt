@@ -65,8 +65,10 @@ returns t c =
           ∙ (λ i. map (λ o. tree_doing_after n act (rest i) (a.stage + 1) (a.history * n + o))
           (range_with_len 0 (all i))))
       | else-stage-rows w ↦
-          let steps : length a.rows.now - a.stage ≡ 1 = omega (arith, c.requires.stage, w.if-stage-rows.false) in
+          let steps : length a.rows.now - a.stage ≡ 1 = omega
+          (arith, c.requires.stage, w.if-stage-rows.false) in
           ap (λ kids. node c.index.result.now (policy_trees (map policy_tree kids.items))) w.kids-is
-          ∙ ap (λ items. node c.index.result.now (policy_trees (map policy_tree items))) c.new-kids.ensures.items
+          ∙ ap (λ items. node c.index.result.now (policy_trees (map policy_tree items)))
+          c.new-kids.ensures.items
           ∙ last_tree n act _ a.stage a.history _ steps action
     ])

@@ -10,7 +10,8 @@ use Rattle.dp_policy.proofs.actions.joint_trees.Goals as goal
 pub index-requires : goal.index-requires
 index-requires c =
     let m = c.args.model.now.model in
-    let count = agents_counted c.args.rows.now.horizon m.actions m.observations (agents_of c.args.rows.now.agents)
+    let count = agents_counted c.args.rows.now.horizon m.actions m.observations
+    (agents_of c.args.rows.now.agents)
     c.requires.rows in
     omega (
       arith,
@@ -56,7 +57,12 @@ tree_after-requires-clause-few c =
     let m = c.args.model.now.model in
     rw c.observations.ensures (histories_few m.observations c.args.rows.now.horizon c.loop-agent.agent t
     c.requires.within.own_histories
-    (omega (arith, c.invariant.ensures.model.sizes.alike, c.loop-agent-test.true, c.agents-agent-end.ensures.is))
+    (omega (
+      arith,
+      c.invariant.ensures.model.sizes.alike,
+      c.loop-agent-test.true,
+      c.agents-agent-end.ensures.is,
+    ))
     (omega (arith, s.steps)))
 
 pub tree_after-requires-clause-steps : goal.tree_after-requires-clause-steps
@@ -80,7 +86,8 @@ loop-agent-preserved c =
     let rows = rows_of_agent h m.actions m.observations (agents_of agents) c.requires.rows i inside in
     let is = stages_are agents i c.index.result.now c.deref-stages.result.now there c.index.ensures
     c.deref-stages.ensures.value in
-    let known = agent_stages (get_or m.actions i 0) (get_or m.observations i 0) h (get_or (agents_of agents) i [])
+    let known = agent_stages (get_or m.actions i 0) (get_or m.observations i 0) h
+    (get_or (agents_of agents) i [])
     c.deref-stages.result.now rows is in
     let steps : length c.deref-stages.result.now - 0 ≡ h = omega (arith, known.steps) in
     one_tree_more h i m.observations (agents_of agents) c.loop-agent.trees.items c.push.new.self.items

@@ -6,4 +6,5 @@ use Rattle.dp_policy.proofs.joined_rows.join_rows.Goals as goal
 pub of-requires : goal.of-requires
 of-requires c =
     kept_rows c.args.model.now.model c.invariant.ensures.model c.args.horizon c.requires.limit _
-    (subst (λ l. IsSharedOf c.args.model.now.model c.args.horizon (map (λ s. map (λ r. r.items) s.items) l)) c.deref.ensures.value (c.if-is_shared.ensures.0 refl))
+    (subst (λ l. IsSharedOf c.args.model.now.model c.args.horizon (map (λ s. map (λ r. r.items) s.items) l))
+    c.deref.ensures.value (c.if-is_shared.ensures.0 refl))

@@ -59,7 +59,8 @@ returns c =
     let m = c.args.model.now.model in
     let counted = length-map c.args.trees.now policy_tree in
     let alike = c.invariant.ensures.model.sizes.alike in
-    is_so (trees_end c.args.horizon m.actions m.observations (map policy_tree c.args.trees.now) c.loop-agent.agent
+    is_so (trees_end c.args.horizon m.actions m.observations (map policy_tree c.args.trees.now)
+    c.loop-agent.agent
     (omega (arith, c.agents-agent-end.ensures.is, c.loop-agent-test.false))
     (omega (arith, alike, c.agents-agent-end.ensures.is, c.loop-agent-test.false))
     (omega (

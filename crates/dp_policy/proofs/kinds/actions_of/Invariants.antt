@@ -5,4 +5,5 @@ use Rattle.dp_policy.proofs.kinds.actions_of.Given as goal
 
 abbrev pub invariant-loop-row : goal.invariant-loop-row
 invariant-loop-row l =
-    l.actions.items ≡ map (λ r. (row_at (get_or l.policy.rows l.agent []) l.stage r).action) (range_with_len 0 l.row)
+    l.actions.items ≡ map (λ r. (row_at (get_or l.policy.rows l.agent []) l.stage r).action)
+    (range_with_len 0 l.row)

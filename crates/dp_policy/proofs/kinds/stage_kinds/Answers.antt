@@ -81,7 +81,8 @@ loop-seen-preserved c =
     let both = subst (λ (l : List ℕ). ArePairNumbers c.loop-seen.kinds.items l c.in_ok-kinds-2.kinds.items)
     c.deref-in-loop-seen-2.ensures.value pairs in
     rw add-one (kinds_step S c.args.stage c.args.later.now c.loop-seen.seen c.loop-seen.kinds.items
-    c.in_ok-following.following.items c.in_ok-kinds-2.kinds.items c.loop-seen.invariant c.in_ok-following.ensures
+    c.in_ok-following.following.items c.in_ok-kinds-2.kinds.items c.loop-seen.invariant
+    c.in_ok-following.ensures
     both)
 
 pub returns : goal.returns

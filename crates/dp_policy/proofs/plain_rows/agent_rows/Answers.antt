@@ -11,7 +11,8 @@ stage_rows-requires-clause-count c =
     let t = c.loop-stage.stage in
     let at = c.loop-stage.invariant.trees c.loop-stage-test.true in
     let le = c.requires.few t c.loop-stage-test.true in
-    subst (λ (l : List (Bor PTree)). length l ≤ 2 ^ 22) (sym c.deref.ensures.value) (omega (arith, at.counted, le))
+    subst (λ (l : List (Bor PTree)). length l ≤ 2 ^ 22) (sym c.deref.ensures.value)
+    (omega (arith, at.counted, le))
 
 pub stage_rows-requires-clause-few : goal.stage_rows-requires-clause-few
 stage_rows-requires-clause-few c =
@@ -24,7 +25,8 @@ stage_rows-requires-clause-few c =
 
 pub stage_rows-requires-clause-nexts : goal.stage_rows-requires-clause-nexts
 stage_rows-requires-clause-nexts c =
-    few_nexts c.args.observations c.args.horizon c.loop-stage.stage c.nexts_at-nexts.result c.nexts_at-nexts.ensures
+    few_nexts c.args.observations c.args.horizon c.loop-stage.stage c.nexts_at-nexts.result
+    c.nexts_at-nexts.ensures
 
 pub all_subtrees-requires-clause-count : goal.all_subtrees-requires-clause-count
 all_subtrees-requires-clause-count c =
@@ -44,7 +46,8 @@ all_subtrees-requires-clause-few c =
     subst (λ (l : List (Bor PTree)). length l * c.nexts_at-nexts.result ≤ 2 ^ 30)
     (sym c.deref-in-loop-stage.ensures.value)
     (stage_nexts_few n c.args.horizon
-    (policy_tree c.args.root.now) t c.loop-stage.trees.items at c.nexts_at-nexts.result less c.requires.observations
+    (policy_tree c.args.root.now) t c.loop-stage.trees.items at c.nexts_at-nexts.result less
+    c.requires.observations
     le)
 
 pub all_subtrees-requires-clause-kids : goal.all_subtrees-requires-clause-kids
@@ -73,6 +76,7 @@ loop-stage-preserved c =
           ∙ map-append (λ r. r.items) c.loop-stage.stages.items (c.in_ok-stage_rows.field-0 ∷ [])
           ∙ plain_rows_step n h q t c.loop-stage.trees.items at nexts c.nexts_at-nexts.ensures _
           c.in_ok-stage_rows.field-0.items rows c.loop-stage.invariant.rows;
-      trees = rw add-one (λ more. next_trees n h q t c.loop-stage.trees.items at nexts c.nexts_at-nexts.ensures more
+      trees = rw add-one (λ more. next_trees n h q t c.loop-stage.trees.items at nexts
+          c.nexts_at-nexts.ensures more
           c.in_ok-trees.trees.items subs);
     }

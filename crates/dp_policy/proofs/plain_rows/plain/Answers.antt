@@ -15,7 +15,8 @@ pub loop-agent-init : goal.loop-agent-init
 loop-agent-init c =
     let m = c.args.model.now.model in
     let qs = joint_policy c.args.policy.now in
-    ap (λ l. map (λ s. map (λ r. r.items) s.items) l ++ plain_rows_of m.observations c.horizon-horizon.result qs)
+    ap (λ l. map (λ s. map (λ r. r.items) s.items) l ++ plain_rows_of m.observations c.horizon-horizon.result
+    qs)
     c.new-rows.ensures.items
     ∙ plain_form_made m c.horizon-horizon.result qs
 
@@ -67,7 +68,8 @@ agent_rows-requires-clause-few c =
     let li : i < length (joint_policy p) =
     omega (arith, counted, c.agents-agent-end.ensures.is, c.loop-agent-test.true) in
     λ t lt. subst (λ (k : ℕ). k ^ t ≤ 2 ^ 22) (sym c.observations-observations.ensures)
-    (stage_limit m c.invariant.ensures.model p.horizon c.requires.within (joint_policy p) c.requires.policy i li t
+    (stage_limit m c.invariant.ensures.model p.horizon c.requires.within (joint_policy p)
+    c.requires.policy i li t
     (omega (arith, lt, c.horizon-horizon.ensures.is)))
 
 pub loop-agent-preserved : goal.loop-agent-preserved

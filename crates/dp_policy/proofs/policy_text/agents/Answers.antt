@@ -28,7 +28,8 @@ stages-requires-clause-some c = rw c.actions.ensures (action_some c.args.model.n
 
 pub stages-requires-clause-few : goal.stages-requires-clause-few
 stages-requires-clause-few c = λ t in_time.
-    rw c.observations.ensures (histories_few c.args.model.now.model.observations c.args.horizon c.loop-agent.agent
+    rw c.observations.ensures (histories_few c.args.model.now.model.observations c.args.horizon
+    c.loop-agent.agent
     t c.requires.own_histories (omega (arith, c.invariant.ensures.model.sizes.alike)) in_time)
 
 pub returns-in_err-rows : goal.returns-in_err-rows

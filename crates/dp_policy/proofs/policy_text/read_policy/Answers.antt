@@ -11,7 +11,8 @@ use Rattle.dp_policy.proofs.policy_text.read_policy.Goals as goal
 
 pub joint_trees-requires-clause-rows : goal.joint_trees-requires-clause-rows
 joint_trees-requires-clause-rows c =
-    (read_fits c.args.model.now.model c.invariant.ensures.model c.args.bytes.now _ c.in_ok-rows.ensures.gives).rows
+    (read_fits c.args.model.now.model c.invariant.ensures.model c.args.bytes.now _
+    c.in_ok-rows.ensures.gives).rows
 
 pub of-requires : goal.of-requires
 of-requires c =

@@ -17,15 +17,18 @@ returns-in_err-titled-clause-gives c =
 pub returns-in_err-horizons-clause-gives : goal.returns-in_err-horizons-clause-gives
 returns-in_err-horizons-clause-gives c =
     let m = c.args.model.now.model in
-    let p = err_from_is_err_and c.from_residual-in_err-horizons.result c.from_residual-in_err-horizons.ensures.1 in
-    let titled = c.in_ok-titled.ensures (title_words (codes "policy")) (assumption, (assumption, (assumption, tt)))
+    let p = err_from_is_err_and c.from_residual-in_err-horizons.result
+    c.from_residual-in_err-horizons.ensures.1 in
+    let titled = c.in_ok-titled.ensures (title_words (codes "policy"))
+    (assumption, (assumption, (assumption, tt)))
     refl in
     rw (p.1, p.2) (fails_also _ _ _ (λ fault e. text_fails (policy_grammar m) c.args.bytes.now fault
     (title_read m c.args.bytes.now _ _ titled ∙ horizon_fails m _ _ fault e))
     c.in_err-horizons.ensures)
 
 pub index-horizon-requires : goal.index-horizon-requires
-index-horizon-requires c = let h = horizon_is _ _ _ _ c.in_ok-horizons.horizons.items c.in_ok-horizons.ensures in
+index-horizon-requires c = let h = horizon_is _ _ _ _ c.in_ok-horizons.horizons.items
+    c.in_ok-horizons.ensures in
     omega arith
 
 pub fits-requires : goal.fits-requires
@@ -36,7 +39,8 @@ fits-requires c =
 pub returns-in-Err-clause-gives : goal.returns-in-Err-clause-gives
 returns-in-Err-clause-gives c =
     let m = c.args.model.now.model in
-    let titled = c.in_ok-titled.ensures (title_words (codes "policy")) (assumption, (assumption, (assumption, tt)))
+    let titled = c.in_ok-titled.ensures (title_words (codes "policy"))
+    (assumption, (assumption, (assumption, tt)))
     refl in
     let h = horizon_is _ _ _ _ c.in_ok-horizons.horizons.items c.in_ok-horizons.ensures in
     let number = (h.number c.index-horizon.result.now c.index-horizon.ensures).1 in
@@ -50,7 +54,8 @@ pub returns-in_err-agents-clause-gives : goal.returns-in_err-agents-clause-gives
 returns-in_err-agents-clause-gives c =
     let m = c.args.model.now.model in
     let p = err_from_is_err_and c.from_residual-in_err-agents.result c.from_residual-in_err-agents.ensures.1 in
-    let titled = c.in_ok-titled.ensures (title_words (codes "policy")) (assumption, (assumption, (assumption, tt)))
+    let titled = c.in_ok-titled.ensures (title_words (codes "policy"))
+    (assumption, (assumption, (assumption, tt)))
     refl in
     let h = horizon_is _ _ _ _ c.in_ok-horizons.horizons.items c.in_ok-horizons.ensures in
     let number = (h.number c.index-horizon.result.now c.index-horizon.ensures).1 in
@@ -65,7 +70,8 @@ pub returns-in_err-end-clause-gives : goal.returns-in_err-end-clause-gives
 returns-in_err-end-clause-gives c =
     let m = c.args.model.now.model in
     let p = err_from_is_err_and c.from_residual-in_err-end.result c.from_residual-in_err-end.ensures.1 in
-    let titled = c.in_ok-titled.ensures (title_words (codes "policy")) (assumption, (assumption, (assumption, tt)))
+    let titled = c.in_ok-titled.ensures (title_words (codes "policy"))
+    (assumption, (assumption, (assumption, tt)))
     refl in
     let h = horizon_is _ _ _ _ c.in_ok-horizons.horizons.items c.in_ok-horizons.ensures in
     let number = (h.number c.index-horizon.result.now c.index-horizon.ensures).1 in
@@ -80,7 +86,8 @@ returns-in_err-end-clause-gives c =
 pub returns-then-not-is_empty-clause-gives : goal.returns-then-not-is_empty-clause-gives
 returns-then-not-is_empty-clause-gives c =
     let m = c.args.model.now.model in
-    let titled = c.in_ok-titled.ensures (title_words (codes "policy")) (assumption, (assumption, (assumption, tt)))
+    let titled = c.in_ok-titled.ensures (title_words (codes "policy"))
+    (assumption, (assumption, (assumption, tt)))
     refl in
     let h = horizon_is _ _ _ _ c.in_ok-horizons.horizons.items c.in_ok-horizons.ensures in
     let number = (h.number c.index-horizon.result.now c.index-horizon.ensures).1 in
@@ -95,7 +102,8 @@ returns-then-not-is_empty-clause-gives c =
 pub returns-clause-gives : goal.returns-clause-gives
 returns-clause-gives c =
     let m = c.args.model.now.model in
-    let titled = c.in_ok-titled.ensures (title_words (codes "policy")) (assumption, (assumption, (assumption, tt)))
+    let titled = c.in_ok-titled.ensures (title_words (codes "policy"))
+    (assumption, (assumption, (assumption, tt)))
     refl in
     let h = horizon_is _ _ _ _ c.in_ok-horizons.horizons.items c.in_ok-horizons.ensures in
     let number = (h.number c.index-horizon.result.now c.index-horizon.ensures).1 in

@@ -22,5 +22,6 @@ loop-place-preserved c =
           (renumbered_step S t kinds k reached c.loop-place.rows.items c.loop-place.later.items
           c.renumbered_nexts.new.later.items row c.loop-place.invariant.rows c.action.ensures
           (subst (AreNumberedAfter kinds
-          (length old) old c.loop-place.later.items c.renumbered_nexts.new.later.items) (sym c.of.ensures) news));
+          (length old) old c.loop-place.later.items c.renumbered_nexts.new.later.items) (sym c.of.ensures)
+          news));
     }

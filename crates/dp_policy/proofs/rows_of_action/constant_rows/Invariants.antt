@@ -5,4 +5,6 @@ use Rattle.dp_policy.proofs.rows_of_action.constant_rows.Given as goal
 
 abbrev pub invariant-loop-agent : goal.invariant-loop-agent
 invariant-loop-agent l =
-    map (λ s. map (λ r. r.items) s.items) l.rows.items ++ constant_rows_of (drop l.agent l.model.model.observations) l.horizon (drop l.agent (parts_of l.model.model.actions l.a)) ≡ constant_rows l.model.model l.horizon l.a
+    map (λ s. map (λ r. r.items) s.items) l.rows.items ++ constant_rows_of
+    (drop l.agent l.model.model.observations) l.horizon (drop l.agent (parts_of l.model.model.actions l.a))
+    ≡ constant_rows l.model.model l.horizon l.a

@@ -11,7 +11,8 @@ pub loop-agent-init : goal.loop-agent-init
 loop-agent-init c =
     let m = c.args.model.now.model in
     let qs = unfolded c.args.policy.now.rows in
-    ap (λ l. map (λ s. map (λ r. r.items) s.items) l ++ shared_rows_of m.observations c.horizon-horizon.result qs)
+    ap (λ l. map (λ s. map (λ r. r.items) s.items) l ++ shared_rows_of m.observations
+    c.horizon-horizon.result qs)
     c.new-rows.ensures.items
     ∙ shared_form_made m c.horizon-horizon.result qs
 
@@ -60,4 +61,8 @@ returns c =
     omega (arith, alike, rows, c.agents-agent-end.ensures.is, c.loop-agent-test.false) in
     let is = shared_end m.observations (unfolded p) h c.loop-agent.agent _ _ le c.loop-agent.invariant in
     let e = c.horizon-horizon.ensures.is in
-    c.of.ensures ∙ (λ j. record { horizon = e j; rows = (is ∙ ap (λ (k : ℕ). shared_form m k (unfolded p)) e) j })
+    c.of.ensures ∙ (λ j. record {
+      horizon = e j;
+      rows = (is ∙ ap (λ (k : ℕ). shared_form m k (unfolded p)) e)
+          j;
+    })

@@ -11,7 +11,8 @@ use Rattle.dp_policy.proofs.tree.+is_tree.Goals as goal
 
 pub returns-then-tree-actions : goal.returns-then-tree-actions
 returns-then-tree-actions t c =
-    is_not (λ h. let lt = action_below c.args.actions c.args.observations c.args.steps c.args.tree.now c.requires h
+    is_not (λ h. let lt = action_below c.args.actions c.args.observations c.args.steps c.args.tree.now
+    c.requires h
     in absurd (omega arith))
 
 pub returns-then-steps-eq1 : goal.returns-then-steps-eq1

@@ -5,4 +5,5 @@ use Rattle.dp_policy.proofs.tree.+is_tree.Given as goal
 
 abbrev pub invariant-loop-kid : goal.invariant-loop-kid
 invariant-loop-kid l =
-    All (λ k. IsPolicyTree l.actions l.observations (l.steps - 1) (policy_tree k)) (take l.kid-index l.kid-items)
+    All (λ k. IsPolicyTree l.actions l.observations (l.steps - 1) (policy_tree k))
+    (take l.kid-index l.kid-items)

@@ -7,12 +7,18 @@ use Rattle.dp_pomdp.proofs.bounds.action_in_mode.Goals as goal
 pub of-arith-requires : goal.of-arith-requires
 of-arith-requires c =
     let m = c.args.model.now.model in
-    record { range = subst AreInRange (sym c.scales.ensures) (scales_in_range m.scales c.invariant.ensures.model.scales) }
+    record {
+      range = subst AreInRange (sym c.scales.ensures)
+          (scales_in_range m.scales c.invariant.ensures.model.scales);
+    }
 
 pub of-arith-requires-else-fit : goal.of-arith-requires-else-fit
 of-arith-requires-else-fit c =
     let m = c.args.model.now.model in
-    record { range = subst AreInRange (sym c.scales-else-fit.ensures) (scales_in_range m.scales c.invariant.ensures.model.scales) }
+    record {
+      range = subst AreInRange (sym c.scales-else-fit.ensures)
+          (scales_in_range m.scales c.invariant.ensures.model.scales);
+    }
 
 pub action_look_ahead-requires-clause-sizes : goal.action_look_ahead-requires-clause-sizes
 action_look_ahead-requires-clause-sizes c =
@@ -20,7 +26,8 @@ action_look_ahead-requires-clause-sizes c =
     let early : c.args.t ≤ c.args.fit.horizon = omega arith in
     let left : suc (c.args.fit.horizon - c.args.t - 1) ≡ c.args.fit.horizon - c.args.t = omega arith in
     mode_looking true fit.exact c.of-arith.result c.args.model.now.model c.invariant.ensures.model
-    (c.of-arith.ensures ∙ c.scales.ensures) c.if-fit.true fit.horizon c.args.t _ fit.unit c.requires.fit early left
+    (c.of-arith.ensures ∙ c.scales.ensures) c.if-fit.true fit.horizon c.args.t _ fit.unit c.requires.fit
+    early left
     c.args.weights.now c.requires.one_each c.requires.weights
 
 pub action_look_ahead-requires-else-fit-clause-sizes : goal.action_look_ahead-requires-else-fit-clause-sizes

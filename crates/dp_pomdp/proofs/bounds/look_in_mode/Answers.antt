@@ -7,23 +7,31 @@ use Rattle.dp_pomdp.proofs.bounds.look_in_mode.Goals as goal
 pub of-arith-requires : goal.of-arith-requires
 of-arith-requires c =
     let m = c.args.model.now.model in
-    record { range = subst AreInRange (sym c.scales.ensures) (scales_in_range m.scales c.invariant.ensures.model.scales) }
+    record {
+      range = subst AreInRange (sym c.scales.ensures)
+          (scales_in_range m.scales c.invariant.ensures.model.scales);
+    }
 
 pub of-arith-requires-else-fit : goal.of-arith-requires-else-fit
 of-arith-requires-else-fit c =
     let m = c.args.model.now.model in
-    record { range = subst AreInRange (sym c.scales-else-fit.ensures) (scales_in_range m.scales c.invariant.ensures.model.scales) }
+    record {
+      range = subst AreInRange (sym c.scales-else-fit.ensures)
+          (scales_in_range m.scales c.invariant.ensures.model.scales);
+    }
 
 pub look_ahead-requires-clause-sizes : goal.look_ahead-requires-clause-sizes
 look_ahead-requires-clause-sizes c =
     let fit = c.args.fit in
     mode_looking true fit.exact c.of-arith.result c.args.model.now.model c.invariant.ensures.model
-    (c.of-arith.ensures ∙ c.scales.ensures) c.if-fit.true fit.horizon c.args.t (fit.horizon - c.args.t) fit.unit c.requires.fit c.requires.time
+    (c.of-arith.ensures ∙ c.scales.ensures) c.if-fit.true fit.horizon c.args.t (fit.horizon - c.args.t)
+    fit.unit c.requires.fit c.requires.time
     refl c.args.weights.now c.requires.one_each c.requires.weights
 
 pub look_ahead-requires-else-fit-clause-sizes : goal.look_ahead-requires-else-fit-clause-sizes
 look_ahead-requires-else-fit-clause-sizes c =
     let fit = c.args.fit in
     mode_looking false fit.exact c.of-arith-else-fit.result c.args.model.now.model c.invariant.ensures.model
-    (c.of-arith-else-fit.ensures ∙ c.scales-else-fit.ensures) c.if-fit.false fit.horizon c.args.t (fit.horizon - c.args.t) fit.unit
+    (c.of-arith-else-fit.ensures ∙ c.scales-else-fit.ensures) c.if-fit.false fit.horizon c.args.t
+    (fit.horizon - c.args.t) fit.unit
     c.requires.fit c.requires.time refl c.args.weights.now c.requires.one_each c.requires.weights

@@ -11,7 +11,13 @@ abbrev pub decreases-look_ahead : goal.decreases-look_ahead
 decreases-look_ahead g l = l.rest + l.rest
 
 abbrev pub invariant-action_look_ahead-loop-seen : goal.invariant-action_look_ahead-loop-seen
-invariant-action_look_ahead-loop-seen g l = l.total ≡ (weighted_reward_in (g.A.Arith.operations l.arith) l.model.model l.rest (weights_of l.weights) l.action).high +ℤ int_sum l.seen (λ o. look_ahead_in (g.A.Arith.operations l.arith) l.model.model l.rest (weights_after_in (g.A.Arith.operations l.arith) l.model.model (weights_of l.weights) l.action o) (l.look - 1))
+invariant-action_look_ahead-loop-seen g l = l.total ≡ (weighted_reward_in (g.A.Arith.operations l.arith)
+    l.model.model l.rest (weights_of l.weights) l.action).high +ℤ int_sum l.seen
+    (λ o. look_ahead_in (g.A.Arith.operations l.arith) l.model.model l.rest
+    (weights_after_in (g.A.Arith.operations l.arith) l.model.model (weights_of l.weights) l.action o)
+    (l.look - 1))
 
 abbrev pub invariant-look_ahead-loop-action : goal.invariant-look_ahead-loop-action
-invariant-look_ahead-loop-action g l = l.best ≡ greatest (λ a. action_look_ahead_in (g.A.Arith.operations l.arith) l.model.model (l.rest - 1) (weights_of l.weights) a l.look) (numbers_below l.action)
+invariant-look_ahead-loop-action g l = l.best ≡ greatest (λ a. action_look_ahead_in
+    (g.A.Arith.operations l.arith)
+    l.model.model (l.rest - 1) (weights_of l.weights) a l.look) (numbers_below l.action)

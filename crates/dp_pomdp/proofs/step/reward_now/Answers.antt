@@ -40,4 +40,5 @@ returns g c =
     let all : c.loop-state.state ≡ c.args.model.now.model.states = omega arith in
     let fits : SFits w128 c.loop-state.total.high = search rules in
     to_z-of_z w128 _ fits
-    ∙ rewards_are_all _ _ _ _ _ c.requires.sizes _ c.requires.action c.loop-state.state _ all c.loop-state.invariant
+    ∙ rewards_are_all _ _ _ _ _ c.requires.sizes _ c.requires.action c.loop-state.state _ all
+    c.loop-state.invariant

@@ -5,4 +5,5 @@ use Rattle.dp_pomdp.proofs.step.reward_now.Given as goal
 
 abbrev pub invariant-loop-state : goal.invariant-loop-state
 invariant-loop-state g l =
-    l.total ≡ span_sum l.state (reward_from (g.A.Arith.operations l.arith) l.model.model l.rest l.weights l.action)
+    l.total ≡ span_sum l.state (reward_from (g.A.Arith.operations l.arith)
+    l.model.model l.rest l.weights l.action)

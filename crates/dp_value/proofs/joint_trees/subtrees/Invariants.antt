@@ -12,5 +12,6 @@ invariant-loop-agent l = record {
   all : length l.after ≡ 6;
   are : (i : ℕ) → i < l.agent → (d : Bor PTree)
       → policy_tree (get_or l.after i d).now ≡ subtree
-      (tree_of (first_trees (length l.model.model.actions) l.trees) i) (part_of l.model.model.observations l.seen i);
+      (tree_of (first_trees (length l.model.model.actions) l.trees) i)
+      (part_of l.model.model.observations l.seen i);
 }

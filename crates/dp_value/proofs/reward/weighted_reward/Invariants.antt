@@ -5,4 +5,5 @@ use Rattle.dp_value.specs.Rewards.{reward_from}
 use Rattle.dp_value.proofs.reward.weighted_reward.Given as goal
 
 abbrev pub invariant-loop-state : goal.invariant-loop-state
-invariant-loop-state g l = l.total ≡ span_sum l.state (λ s. reward_from (g.A.Arith.operations l.arith) l.model.model l.rest (weights_of l.weights s) l.action s)
+invariant-loop-state g l = l.total ≡ span_sum l.state (λ s. reward_from (g.A.Arith.operations l.arith)
+    l.model.model l.rest (weights_of l.weights s) l.action s)

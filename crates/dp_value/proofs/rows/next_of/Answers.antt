@@ -10,7 +10,12 @@ use Rattle.dp_value.proofs.rows.next_of.Goals as goal
 pub loop-agent-init : goal.loop-agent-init
 loop-agent-init c =
     let e = next_is c.args.model.now.model c.args.policy.now.rows c.args.stage c.args.row c.args.seen in
-    record { left_is = c.joint_rows-left.ensures.is; below = omega (arith, c.joint_rows-left.ensures.is, c.requires.row); is = omega (arith, e) }
+    record {
+      left_is = c.joint_rows-left.ensures.is;
+      below = omega
+          (arith, c.joint_rows-left.ensures.is, c.requires.row);
+      is = omega (arith, e);
+    }
 
 pub nonzero_div-own : goal.nonzero_div-own
 nonzero_div-own c =
@@ -24,9 +29,12 @@ nonzero_div-own c =
     let same = c.invariant.ensures.model.sizes.alike in
     let counted = length-parts_of c.args.model.now.model.observations c.args.seen in
     let early : c.args.stage < c.args.policy.now.horizon = omega (arith, c.requires.stage) in
-    let li : c.loop-agent.agent < length c.args.policy.now.rows = omega (arith, c.agents-agent-end.ensures.is, c.loop-agent-test.true) in
-    let lo : c.loop-agent.agent < length (parts_of c.args.model.now.model.observations c.args.seen) = omega arith in
-    let one = followed_at p os i t c.loop-agent.left c.loop-agent.rest c.loop-agent.next J li lo c.loop-agent.invariant in
+    let li : c.loop-agent.agent < length c.args.policy.now.rows = omega
+    (arith, c.agents-agent-end.ensures.is, c.loop-agent-test.true) in
+    let lo : c.loop-agent.agent < length (parts_of c.args.model.now.model.observations c.args.seen) =
+    omega arith in
+    let one = followed_at p os i t c.loop-agent.left c.loop-agent.rest c.loop-agent.next J li lo
+    c.loop-agent.invariant in
     rw c.rows.ensures.is one.some_after
 
 pub nonzero_rem-rest : goal.nonzero_rem-rest
@@ -41,9 +49,12 @@ nonzero_rem-rest c =
     let same = c.invariant.ensures.model.sizes.alike in
     let counted = length-parts_of c.args.model.now.model.observations c.args.seen in
     let early : c.args.stage < c.args.policy.now.horizon = omega (arith, c.requires.stage) in
-    let li : c.loop-agent.agent < length c.args.policy.now.rows = omega (arith, c.agents-agent-end.ensures.is, c.loop-agent-test.true) in
-    let lo : c.loop-agent.agent < length (parts_of c.args.model.now.model.observations c.args.seen) = omega arith in
-    let one = followed_at p os i t c.loop-agent.left c.loop-agent.rest c.loop-agent.next J li lo c.loop-agent.invariant in
+    let li : c.loop-agent.agent < length c.args.policy.now.rows = omega
+    (arith, c.agents-agent-end.ensures.is, c.loop-agent-test.true) in
+    let lo : c.loop-agent.agent < length (parts_of c.args.model.now.model.observations c.args.seen) =
+    omega arith in
+    let one = followed_at p os i t c.loop-agent.left c.loop-agent.rest c.loop-agent.next J li lo
+    c.loop-agent.invariant in
     rw c.rows.ensures.is one.some_after
 
 pub local_obs-requires-clause-agent : goal.local_obs-requires-clause-agent
@@ -58,9 +69,12 @@ local_obs-requires-clause-agent c =
     let same = c.invariant.ensures.model.sizes.alike in
     let counted = length-parts_of c.args.model.now.model.observations c.args.seen in
     let early : c.args.stage < c.args.policy.now.horizon = omega (arith, c.requires.stage) in
-    let li : c.loop-agent.agent < length c.args.policy.now.rows = omega (arith, c.agents-agent-end.ensures.is, c.loop-agent-test.true) in
-    let lo : c.loop-agent.agent < length (parts_of c.args.model.now.model.observations c.args.seen) = omega arith in
-    let one = followed_at p os i t c.loop-agent.left c.loop-agent.rest c.loop-agent.next J li lo c.loop-agent.invariant in
+    let li : c.loop-agent.agent < length c.args.policy.now.rows = omega
+    (arith, c.agents-agent-end.ensures.is, c.loop-agent-test.true) in
+    let lo : c.loop-agent.agent < length (parts_of c.args.model.now.model.observations c.args.seen) =
+    omega arith in
+    let one = followed_at p os i t c.loop-agent.left c.loop-agent.rest c.loop-agent.next J li lo
+    c.loop-agent.invariant in
     omega arith
 
 pub next-follows-requires-clause-row : goal.next-follows-requires-clause-row
@@ -75,9 +89,12 @@ next-follows-requires-clause-row c =
     let same = c.invariant.ensures.model.sizes.alike in
     let counted = length-parts_of c.args.model.now.model.observations c.args.seen in
     let early : c.args.stage < c.args.policy.now.horizon = omega (arith, c.requires.stage) in
-    let li : c.loop-agent.agent < length c.args.policy.now.rows = omega (arith, c.agents-agent-end.ensures.is, c.loop-agent-test.true) in
-    let lo : c.loop-agent.agent < length (parts_of c.args.model.now.model.observations c.args.seen) = omega arith in
-    let one = followed_at p os i t c.loop-agent.left c.loop-agent.rest c.loop-agent.next J li lo c.loop-agent.invariant in
+    let li : c.loop-agent.agent < length c.args.policy.now.rows = omega
+    (arith, c.agents-agent-end.ensures.is, c.loop-agent-test.true) in
+    let lo : c.loop-agent.agent < length (parts_of c.args.model.now.model.observations c.args.seen) =
+    omega arith in
+    let one = followed_at p os i t c.loop-agent.left c.loop-agent.rest c.loop-agent.next J li lo
+    c.loop-agent.invariant in
     rw c.rows.ensures.is one.own
 
 pub next-follows-requires-clause-seen : goal.next-follows-requires-clause-seen
@@ -92,10 +109,14 @@ next-follows-requires-clause-seen c =
     let same = c.invariant.ensures.model.sizes.alike in
     let counted = length-parts_of c.args.model.now.model.observations c.args.seen in
     let early : c.args.stage < c.args.policy.now.horizon = omega (arith, c.requires.stage) in
-    let li : c.loop-agent.agent < length c.args.policy.now.rows = omega (arith, c.agents-agent-end.ensures.is, c.loop-agent-test.true) in
-    let lo : c.loop-agent.agent < length (parts_of c.args.model.now.model.observations c.args.seen) = omega arith in
-    let one = followed_at p os i t c.loop-agent.left c.loop-agent.rest c.loop-agent.next J li lo c.loop-agent.invariant in
-    rw (c.rows.ensures.is, c.local_obs.ensures) (goes_on m c.invariant.ensures.model c.args.policy.now.horizon p c.requires.policy t early c.requires.stage c.args.seen i _ c.requires.seen li one.own)
+    let li : c.loop-agent.agent < length c.args.policy.now.rows = omega
+    (arith, c.agents-agent-end.ensures.is, c.loop-agent-test.true) in
+    let lo : c.loop-agent.agent < length (parts_of c.args.model.now.model.observations c.args.seen) =
+    omega arith in
+    let one = followed_at p os i t c.loop-agent.left c.loop-agent.rest c.loop-agent.next J li lo
+    c.loop-agent.invariant in
+    rw (c.rows.ensures.is, c.local_obs.ensures) (goes_on m c.invariant.ensures.model c.args.policy.now.horizon p
+    c.requires.policy t early c.requires.stage c.args.seen i _ c.requires.seen li one.own)
 
 pub overflow_mul-next : goal.overflow_mul-next
 overflow_mul-next c =
@@ -109,12 +130,19 @@ overflow_mul-next c =
     let same = c.invariant.ensures.model.sizes.alike in
     let counted = length-parts_of c.args.model.now.model.observations c.args.seen in
     let early : c.args.stage < c.args.policy.now.horizon = omega (arith, c.requires.stage) in
-    let li : c.loop-agent.agent < length c.args.policy.now.rows = omega (arith, c.agents-agent-end.ensures.is, c.loop-agent-test.true) in
-    let lo : c.loop-agent.agent < length (parts_of c.args.model.now.model.observations c.args.seen) = omega arith in
-    let one = followed_at p os i t c.loop-agent.left c.loop-agent.rest c.loop-agent.next J li lo c.loop-agent.invariant in
-    let inside = next_row_inside m c.args.policy.now.horizon p c.requires.policy t c.args.row c.args.seen c.requires.stage c.requires.row c.requires.seen in
-    let limit = (few_rows m c.invariant.ensures.model c.args.policy.now.horizon p c.requires.policy (suc t) c.requires.stage).1 in
-    let room = following_room m c.invariant.ensures.model c.args.policy.now.horizon p c.requires.policy t early c.requires.stage os i c.loop-agent.left c.loop-agent.rest c.loop-agent.next J li lo (omega arith) c.loop-agent.invariant in
+    let li : c.loop-agent.agent < length c.args.policy.now.rows = omega
+    (arith, c.agents-agent-end.ensures.is, c.loop-agent-test.true) in
+    let lo : c.loop-agent.agent < length (parts_of c.args.model.now.model.observations c.args.seen) =
+    omega arith in
+    let one = followed_at p os i t c.loop-agent.left c.loop-agent.rest c.loop-agent.next J li lo
+    c.loop-agent.invariant in
+    let inside = next_row_inside m c.args.policy.now.horizon p c.requires.policy t c.args.row c.args.seen
+    c.requires.stage c.requires.row c.requires.seen in
+    let limit = (few_rows m c.invariant.ensures.model c.args.policy.now.horizon p c.requires.policy (suc t)
+    c.requires.stage).1 in
+    let room = following_room m c.invariant.ensures.model c.args.policy.now.horizon p c.requires.policy t early
+    c.requires.stage os i c.loop-agent.left c.loop-agent.rest c.loop-agent.next J li lo (omega arith)
+    c.loop-agent.invariant in
     rw (c.rows-count.ensures.is, add-one) (omega (arith, room))
 
 pub overflow_add-next : goal.overflow_add-next
@@ -129,13 +157,21 @@ overflow_add-next c =
     let same = c.invariant.ensures.model.sizes.alike in
     let counted = length-parts_of c.args.model.now.model.observations c.args.seen in
     let early : c.args.stage < c.args.policy.now.horizon = omega (arith, c.requires.stage) in
-    let li : c.loop-agent.agent < length c.args.policy.now.rows = omega (arith, c.agents-agent-end.ensures.is, c.loop-agent-test.true) in
-    let lo : c.loop-agent.agent < length (parts_of c.args.model.now.model.observations c.args.seen) = omega arith in
-    let one = followed_at p os i t c.loop-agent.left c.loop-agent.rest c.loop-agent.next J li lo c.loop-agent.invariant in
-    let inside = next_row_inside m c.args.policy.now.horizon p c.requires.policy t c.args.row c.args.seen c.requires.stage c.requires.row c.requires.seen in
-    let limit = (few_rows m c.invariant.ensures.model c.args.policy.now.horizon p c.requires.policy (suc t) c.requires.stage).1 in
-    let room = following_room m c.invariant.ensures.model c.args.policy.now.horizon p c.requires.policy t early c.requires.stage os i c.loop-agent.left c.loop-agent.rest c.loop-agent.next J li lo (omega arith) c.loop-agent.invariant in
-    rw (c.rows-count.ensures.is, c.next-follows.ensures, c.local_obs.ensures, c.rows.ensures.is, add-one) (omega (arith, room))
+    let li : c.loop-agent.agent < length c.args.policy.now.rows = omega
+    (arith, c.agents-agent-end.ensures.is, c.loop-agent-test.true) in
+    let lo : c.loop-agent.agent < length (parts_of c.args.model.now.model.observations c.args.seen) =
+    omega arith in
+    let one = followed_at p os i t c.loop-agent.left c.loop-agent.rest c.loop-agent.next J li lo
+    c.loop-agent.invariant in
+    let inside = next_row_inside m c.args.policy.now.horizon p c.requires.policy t c.args.row c.args.seen
+    c.requires.stage c.requires.row c.requires.seen in
+    let limit = (few_rows m c.invariant.ensures.model c.args.policy.now.horizon p c.requires.policy (suc t)
+    c.requires.stage).1 in
+    let room = following_room m c.invariant.ensures.model c.args.policy.now.horizon p c.requires.policy t early
+    c.requires.stage os i c.loop-agent.left c.loop-agent.rest c.loop-agent.next J li lo (omega arith)
+    c.loop-agent.invariant in
+    rw (c.rows-count.ensures.is, c.next-follows.ensures, c.local_obs.ensures, c.rows.ensures.is, add-one)
+    (omega (arith, room))
 
 pub loop-agent-preserved : goal.loop-agent-preserved
 loop-agent-preserved c =
@@ -149,19 +185,33 @@ loop-agent-preserved c =
     let same = c.invariant.ensures.model.sizes.alike in
     let counted = length-parts_of c.args.model.now.model.observations c.args.seen in
     let early : c.args.stage < c.args.policy.now.horizon = omega (arith, c.requires.stage) in
-    let li : c.loop-agent.agent < length c.args.policy.now.rows = omega (arith, c.agents-agent-end.ensures.is, c.loop-agent-test.true) in
-    let lo : c.loop-agent.agent < length (parts_of c.args.model.now.model.observations c.args.seen) = omega arith in
-    let one = followed_at p os i t c.loop-agent.left c.loop-agent.rest c.loop-agent.next J li lo c.loop-agent.invariant in
-    rw (add-one, c.rows.ensures.is, c.rows-count.ensures.is, c.next-follows.ensures, c.local_obs.ensures, c.rows.ensures.is, add-one) one.going
+    let li : c.loop-agent.agent < length c.args.policy.now.rows = omega
+    (arith, c.agents-agent-end.ensures.is, c.loop-agent-test.true) in
+    let lo : c.loop-agent.agent < length (parts_of c.args.model.now.model.observations c.args.seen) =
+    omega arith in
+    let one = followed_at p os i t c.loop-agent.left c.loop-agent.rest c.loop-agent.next J li lo
+    c.loop-agent.invariant in
+    rw (
+      add-one,
+      c.rows.ensures.is,
+      c.rows-count.ensures.is,
+      c.next-follows.ensures,
+      c.local_obs.ensures,
+      c.rows.ensures.is,
+      add-one,
+    ) one.going
 
 pub returns-clause-is : goal.returns-clause-is
 returns-clause-is c =
-    let is = following_end c.args.policy.now.rows (parts_of c.args.model.now.model.observations c.args.seen) c.loop-agent.agent c.args.stage c.loop-agent.left c.loop-agent.rest c.loop-agent.next _
+    let is = following_end c.args.policy.now.rows (parts_of c.args.model.now.model.observations c.args.seen)
+    c.loop-agent.agent c.args.stage c.loop-agent.left c.loop-agent.rest c.loop-agent.next _
     (omega (arith, c.agents-agent-end.ensures.is, c.loop-agent-test.false)) c.loop-agent.invariant in
     is
 
 pub returns-clause-next : goal.returns-clause-next
 returns-clause-next c =
-    let is = following_end c.args.policy.now.rows (parts_of c.args.model.now.model.observations c.args.seen) c.loop-agent.agent c.args.stage c.loop-agent.left c.loop-agent.rest c.loop-agent.next _
+    let is = following_end c.args.policy.now.rows (parts_of c.args.model.now.model.observations c.args.seen)
+    c.loop-agent.agent c.args.stage c.loop-agent.left c.loop-agent.rest c.loop-agent.next _
     (omega (arith, c.agents-agent-end.ensures.is, c.loop-agent-test.false)) c.loop-agent.invariant in
-    rw is (next_row_inside c.args.model.now.model c.args.policy.now.horizon c.args.policy.now.rows c.requires.policy c.args.stage c.args.row c.args.seen c.requires.stage c.requires.row c.requires.seen)
+    rw is (next_row_inside c.args.model.now.model c.args.policy.now.horizon c.args.policy.now.rows
+    c.requires.policy c.args.stage c.args.row c.args.seen c.requires.stage c.requires.row c.requires.seen)

@@ -9,5 +9,6 @@ returns g c =
     let m = c.args.model.now.model in
     let p = c.args.policy.now.rows in
     let h = c.args.policy.now.horizon in
-    let all : c.loop-stage.stage ≡ c.args.policy.now.horizon = omega (arith, c.horizon-stage-end.ensures.is, c.loop-stage-test.false) in
+    let all : c.loop-stage.stage ≡ c.args.policy.now.horizon = omega
+    (arith, c.horizon-stage-end.ensures.is, c.loop-stage-test.false) in
     c.loop-stage.invariant.earned ∙ ap (λ (k : ℕ). rows_earn_in A m p h k) all ∙ worth_is A m h p

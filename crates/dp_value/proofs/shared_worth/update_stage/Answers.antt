@@ -11,8 +11,10 @@ returns g c =
     let m = c.args.model.now.model in
     let p = c.args.policy.now.rows in
     let t = c.args.stage in
-    let all : c.loop-row.row ≡ joint_row_count c.args.policy.now.rows c.args.stage = omega (arith, c.joint_rows-row-end.ensures.is, c.loop-row-test.false) in
+    let all : c.loop-row.row ≡ joint_row_count c.args.policy.now.rows c.args.stage = omega
+    (arith, c.joint_rows-row-end.ensures.is, c.loop-row-test.false) in
     record {
       room = omega (arith, c.requires.room, c.loop-row.auto.next);
-      are = λ j s lj ls. c.loop-row.invariant j s lj ls ∙ ap (λ (k : ℕ). span_sum k (row_gives A m p t j s)) all ∙ stage_all A m p t j s;
+      are = λ j s lj ls. c.loop-row.invariant j s lj ls ∙ ap (λ (k : ℕ). span_sum k (row_gives A m p t j s)) all
+          ∙ stage_all A m p t j s;
     }

@@ -6,5 +6,6 @@ use Rattle.dp_value.proofs.shared_worth.update_stage.Given as goal
 
 abbrev pub invariant-loop-row : goal.invariant-loop-row
 invariant-loop-row g l =
-    (j s : ℕ) → j < joint_row_count l.policy.rows (suc l.stage) → s < l.model.model.states → weight_in l.model.model.states l.next j s
+    (j s : ℕ) → j < joint_row_count l.policy.rows (suc l.stage) → s < l.model.model.states
+    → weight_in l.model.model.states l.next j s
     ≡ span_sum l.row (row_gives (g.A.Arith.operations l.arith) l.model.model l.policy.rows l.stage j s)

@@ -17,7 +17,8 @@ weighted_reward-total-requires-clause-sizes g t c =
     let m = c.args.model.now.model in
     let ws = weights_of c.args.weights.now in
     let qs = first_trees (length m.actions) c.args.trees.now in
-    let front = c.split_at_mut-now.ensures.front ∙ ap (λ (k : ℕ). take k c.args.weights.now) c.states.ensures.is in
+    let front = c.split_at_mut-now.ensures.front ∙ ap (λ (k : ℕ). take k c.args.weights.now)
+    c.states.ensures.is in
     now_rewardable _ _ m c.args.rest ws qs c.requires.sizes (weights_of c.split_at_mut-now.result.0.now)
     (λ s ls. ap (λ l. weights_of l s) front ∙ taken_at c.args.weights.now m.states s ls)
 
@@ -27,7 +28,8 @@ loop-seen-init g t c =
     let m = c.args.model.now.model in
     let ws = weights_of c.args.weights.now in
     let qs = first_trees (length m.actions) c.args.trees.now in
-    let front = c.split_at_mut-now.ensures.front ∙ ap (λ (k : ℕ). take k c.args.weights.now) c.states.ensures.is in
+    let front = c.split_at_mut-now.ensures.front ∙ ap (λ (k : ℕ). take k c.args.weights.now)
+    c.states.ensures.is in
     let v = weights_of c.split_at_mut-now.result.0.now in
     c.weighted_reward-total.ensures
     ∙ ap (weighted_reward_in A m c.args.rest v) c.joint_action-action.ensures.is
@@ -41,7 +43,8 @@ returns-else-rest-gt0 g t c =
     let m = c.args.model.now.model in
     let ws = weights_of c.args.weights.now in
     let qs = first_trees (length m.actions) c.args.trees.now in
-    let front = c.split_at_mut-now.ensures.front ∙ ap (λ (k : ℕ). take k c.args.weights.now) c.states.ensures.is in
+    let front = c.split_at_mut-now.ensures.front ∙ ap (λ (k : ℕ). take k c.args.weights.now)
+    c.states.ensures.is in
     let v = weights_of c.split_at_mut-now.result.0.now in
     earned_last A m c.args.rest ws qs (omega (arith, c.if-rest-gt0.false)) c.weighted_reward-total.result
     (c.weighted_reward-total.ensures
@@ -54,7 +57,8 @@ update_all-requires-clause-sizes g t c =
     let m = c.args.model.now.model in
     let ws = weights_of c.args.weights.now in
     let qs = first_trees (length m.actions) c.args.trees.now in
-    let front = c.split_at_mut-now.ensures.front ∙ ap (λ (k : ℕ). take k c.args.weights.now) c.states.ensures.is in
+    let front = c.split_at_mut-now.ensures.front ∙ ap (λ (k : ℕ). take k c.args.weights.now)
+    c.states.ensures.is in
     now_updatable _ _ m c.args.rest ws qs c.requires.sizes (weights_of c.split_at_mut-now.result.0.now)
     (λ s ls. ap (λ l. weights_of l s) front ∙ taken_at c.args.weights.now m.states s ls)
 
@@ -75,7 +79,8 @@ worth_from-earned-requires g t c =
     let o = c.loop-seen.seen in
     let rest = c.args.rest in
     let some = c.if-rest-gt0.true in
-    let front = c.split_at_mut-now.ensures.front ∙ ap (λ (k : ℕ). take k c.args.weights.now) c.states.ensures.is in
+    let front = c.split_at_mut-now.ensures.front ∙ ap (λ (k : ℕ). take k c.args.weights.now)
+    c.states.ensures.is in
     let next = next_weights A m c.joint_action-action.result (joint_root_action m qs) o
     (weights_of c.split_at_mut-now.result.0.now) ws (weights_of c.update_all.new.later)
     c.joint_action-action.ensures.is
@@ -116,7 +121,8 @@ add_spans-total-requires g t c =
     let o = c.loop-seen.seen in
     let rest = c.args.rest in
     let some = c.if-rest-gt0.true in
-    let front = c.split_at_mut-now.ensures.front ∙ ap (λ (k : ℕ). take k c.args.weights.now) c.states.ensures.is in
+    let front = c.split_at_mut-now.ensures.front ∙ ap (λ (k : ℕ). take k c.args.weights.now)
+    c.states.ensures.is in
     let next = next_weights A m c.joint_action-action.result (joint_root_action m qs) o
     (weights_of c.split_at_mut-now.result.0.now) ws (weights_of c.update_all.new.later)
     c.joint_action-action.ensures.is
@@ -134,7 +140,8 @@ add_spans-total-requires g t c =
     (weights_after_in A m ws (joint_root_action m qs) o) (trees_after m qs o) next in
     record {
       room = subst (λ (w : Span). size w < 2 ^ 127)
-          (sym (earned_step A m rest ws qs o c.loop-seen.total c.worth_from-earned.result c.loop-seen.invariant part))
+          (sym (earned_step A m rest ws qs o c.loop-seen.total c.worth_from-earned.result
+          c.loop-seen.invariant part))
           (earned_room A _ m rest ws qs c.requires.sizes (suc o) lo);
     }
 
@@ -147,7 +154,8 @@ loop-seen-preserved g t c =
     let o = c.loop-seen.seen in
     let rest = c.args.rest in
     let some = c.if-rest-gt0.true in
-    let front = c.split_at_mut-now.ensures.front ∙ ap (λ (k : ℕ). take k c.args.weights.now) c.states.ensures.is in
+    let front = c.split_at_mut-now.ensures.front ∙ ap (λ (k : ℕ). take k c.args.weights.now)
+    c.states.ensures.is in
     let next = next_weights A m c.joint_action-action.result (joint_root_action m qs) o
     (weights_of c.split_at_mut-now.result.0.now) ws (weights_of c.update_all.new.later)
     c.joint_action-action.ensures.is

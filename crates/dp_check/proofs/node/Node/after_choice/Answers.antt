@@ -11,7 +11,8 @@ advance-requires-clause-room c =
 
 pub look_aheads-requires-clause-front : goal.look_aheads-requires-clause-front
 look_aheads-requires-clause-front c =
-    advanced_with_room c.args.m.now.model c.args.bounds.now c.requires.bounds c.args.self.now c.requires.of_model
+    advanced_with_room c.args.m.now.model c.args.bounds.now c.requires.bounds c.args.self.now
+    c.requires.of_model
     c.args.agent c.args.class c.args.action c.requires.stage c.requires.unassigned c.requires.narrow
     c.in_ok-front.front c.in_ok-front.ensures.is
     _ c.complete.ensures c.if-complete.true c.in_ok-next.next c.in_ok-next.ensures.front
@@ -19,7 +20,8 @@ look_aheads-requires-clause-front c =
 
 pub below-requires-clause-front : goal.below-requires-clause-front
 below-requires-clause-front c =
-    advanced_with_room c.args.m.now.model c.args.bounds.now c.requires.bounds c.args.self.now c.requires.of_model
+    advanced_with_room c.args.m.now.model c.args.bounds.now c.requires.bounds c.args.self.now
+    c.requires.of_model
     c.args.agent c.args.class c.args.action c.requires.stage c.requires.unassigned c.requires.narrow
     c.in_ok-front.front c.in_ok-front.ensures.is
     _ c.complete.ensures c.if-complete.true c.in_ok-next.next c.in_ok-next.ensures.front
@@ -27,7 +29,8 @@ below-requires-clause-front c =
 
 pub below-requires-clause-above : goal.below-requires-clause-above
 below-requires-clause-above c =
-    deeper c.args.m.now.model c.args.bounds.now c.requires.bounds c.args.self.now c.requires.of_model c.args.agent
+    deeper c.args.m.now.model c.args.bounds.now c.requires.bounds c.args.self.now c.requires.of_model
+    c.args.agent
     c.args.class c.args.action c.requires.stage c.requires.unassigned c.requires.narrow c.in_ok-front.front
     c.in_ok-front.ensures.is
 
@@ -48,7 +51,8 @@ below-requires-else-complete-clause-looks c =
 
 pub below-requires-else-complete-clause-above : goal.below-requires-else-complete-clause-above
 below-requires-else-complete-clause-above c =
-    deeper c.args.m.now.model c.args.bounds.now c.requires.bounds c.args.self.now c.requires.of_model c.args.agent
+    deeper c.args.m.now.model c.args.bounds.now c.requires.bounds c.args.self.now c.requires.of_model
+    c.args.agent
     c.args.class c.args.action c.requires.stage c.requires.unassigned c.requires.narrow c.in_ok-front.front
     c.in_ok-front.ensures.is
 

@@ -12,7 +12,8 @@ next-requires-clause-stored c =
     next_stored c.args.m.now.model c.args.self.now c.requires.of_model c.requires.stage c.requires.complete _ _
     c.earned_in-earned.result c.in_ok-agents.ensures.fronts c.in_ok-agents.ensures.observations
     (advanced_weights_few c.args.m.now.model c.args.self.now c.requires.of_model c.requires.room)
-    (λ early. ap (λ v. v.items) c.in_ok-new.ensures.ok ∙ c.in_ok-weights.ensures early) c.earned_in-earned.ensures
+    (λ early. ap (λ v. v.items) c.in_ok-new.ensures.ok ∙ c.in_ok-weights.ensures early)
+    c.earned_in-earned.ensures
 
 pub returns-clause-of_model : goal.returns-clause-of_model
 returns-clause-of_model c =
@@ -20,7 +21,8 @@ returns-clause-of_model c =
     (next_kept c.args.m.now.model c.args.self.now c.requires.of_model c.requires.stage c.requires.complete _ _
     c.earned_in-earned.result c.in_ok-agents.ensures.fronts c.in_ok-agents.ensures.observations
     (advanced_weights_few c.args.m.now.model c.args.self.now c.requires.of_model c.requires.room)
-    (λ early. ap (λ v. v.items) c.in_ok-new.ensures.ok ∙ c.in_ok-weights.ensures early) c.earned_in-earned.ensures)
+    (λ early. ap (λ v. v.items) c.in_ok-new.ensures.ok ∙ c.in_ok-weights.ensures early)
+    c.earned_in-earned.ensures)
 
 pub weights_in-requires-clause-room : goal.weights_in-requires-clause-room
 weights_in-requires-clause-room c = advanced_weights_few c.args.m.now.model c.args.self.now c.requires.of_model

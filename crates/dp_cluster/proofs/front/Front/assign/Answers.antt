@@ -28,7 +28,10 @@ replaced-requires c =
 kept_value : (c : goal.After-result-2-1) → kept_front c.self.inside.horizon c.self.inside.exact
     c.self.inside.states c.self.inside.stage (map (λ p. p.value) c.in_ok-replaced.field-0.items)
     c.in_ok-clone.field-0.value.items c.self.inside.earned
-    ≡ record c.args.self.now { front = chosen_front c.args.self.now.front c.args.agent c.args.class c.args.action }
+    ≡ record c.args.self.now {
+      front = chosen_front c.args.self.now.front c.args.agent c.args.class
+          c.args.action;
+    }
 kept_value c =
     let parts = map (λ p. p.value) c.self.inside.agents.items in
     let inside = (unassigned_in _ _ _ c.requires.unassigned).0 in
@@ -37,7 +40,8 @@ kept_value c =
     let read = part_is parts c.args.agent c.part.result.now lt
     (ap (λ (k : KeptFront). get_or k.front.agents c.args.agent c.part.result.now.front) c.self.view_is
     ∙ c.part.ensures.front c.part.result.now.front)
-    (ap (λ (k : KeptFront). get_or k.observations c.args.agent 0) c.self.view_is ∙ c.part.ensures.observations) in
+    (ap (λ (k : KeptFront). get_or k.observations c.args.agent 0) c.self.view_is
+    ∙ c.part.ensures.observations) in
     let list = c.in_ok-replaced.ensures ∙ ap (λ l. set (map (λ p. p.value) l) c.args.agent c.in_ok-part.part)
     c.deref-parts.ensures.value in
     after_assign _ _ _ _ parts (map (λ p. p.value) c.in_ok-replaced.field-0.items)
@@ -59,5 +63,6 @@ returns-clause-of_model c = λ m is action. subst (IsFrontOf m) (sym (kept_value
     c.requires.unassigned action)
 
 pub returns-clause-keeps : goal.returns-clause-keeps
-returns-clause-keeps c = λ m is qs policy keeps. keeps_some_choice m c.args.self.now.horizon c.args.self.now.front
+returns-clause-keeps c = λ m is qs policy keeps. keeps_some_choice m c.args.self.now.horizon
+    c.args.self.now.front
     qs c.args.agent c.args.class is.front c.requires.stage policy keeps c.requires.unassigned

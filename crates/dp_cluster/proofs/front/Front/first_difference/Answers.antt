@@ -55,7 +55,8 @@ returns-in-Some c =
 pub loop-row-preserved : goal.loop-row-preserved
 loop-row-preserved c =
     let ps = c.args.places in
-    proportion_next c.args.self.now.weights ps.rows ps.classes ps.width c.loop-row.row c.args.first c.args.second
+    proportion_next c.args.self.now.weights ps.rows ps.classes ps.width c.loop-row.row c.args.first
+    c.args.second
     c.run-one.result.now c.run-other.result.now c.total-t.result c.total-u.result
     (record {
       runs = c.requires.runs;

@@ -10,13 +10,15 @@ places-requires-clause-some_class c =
 
 pub first_difference-requires-clause-first_room : goal.first_difference-requires-clause-first_room
 first_difference-requires-clause-first_room c =
-    few_at c.requires.of_model.0 c.args.self.now c.requires.of_model.1 c.requires.exact c.requires.stage c.args.agent
+    few_at c.requires.of_model.0 c.args.self.now c.requires.of_model.1 c.requires.exact c.requires.stage
+    c.args.agent
     c.requires.agent c.args.first c.requires.first _ _ _ c.places.ensures.rows c.places.ensures.classes
     c.places.ensures.width
 
 pub first_difference-requires-clause-second_room : goal.first_difference-requires-clause-second_room
 first_difference-requires-clause-second_room c =
-    few_at c.requires.of_model.0 c.args.self.now c.requires.of_model.1 c.requires.exact c.requires.stage c.args.agent
+    few_at c.requires.of_model.0 c.args.self.now c.requires.of_model.1 c.requires.exact c.requires.stage
+    c.args.agent
     c.requires.agent c.args.second c.requires.second _ _ _ c.places.ensures.rows c.places.ensures.classes
     c.places.ensures.width
 

@@ -38,7 +38,8 @@ loop-agent-preserved c =
     let alike = as_many_agents c.requires.of_model.front.agents in
     let counted = as_many_counts k.front.agents in
     let lt_seen : i < length m.observations = omega arith in
-    let stage = fixed_stages c.requires.of_model.front.agents i c.part.result.now.front lt (c.part.ensures.front _) in
+    let stage = fixed_stages c.requires.of_model.front.agents i c.part.result.now.front lt
+    (c.part.ensures.front _) in
     let seen = ap (λ l. get_or l i 0) (sym c.requires.of_model.observations) ∙ c.part.ensures.observations in
     let step = doing_step k.front.stage m.observations k.front.agents i c.part.result.now.observations
     c.part.result.now.front
@@ -46,7 +47,8 @@ loop-agent-preserved c =
     let tree = c.in_ok-tree.ensures
     ∙ ap (tree_doing c.part.result.now.observations (λ t x. get_or (get_or c.part.result.now.front.fixed t [])
     x 0)) stage in
-    let pushed = ap (map policy_tree) c.in_ok-push.ensures.items ∙ map-append policy_tree c.loop-agent.trees.items _
+    let pushed = ap (map policy_tree) c.in_ok-push.ensures.items
+    ∙ map-append policy_tree c.loop-agent.trees.items _
     ∙ ap (λ q. map policy_tree c.loop-agent.trees.items ++ q ∷ []) tree in
     rw add-one (trees_next (map policy_tree c.loop-agent.trees.items) (map policy_tree c.push.new.self.items)
     _ _ _ _ pushed step
@@ -123,4 +125,5 @@ returns-clause-value c = λ exact.
     (doing_end k.front.stage m.observations k.front.agents c.loop-agent.agent le) c.loop-agent.invariant in
     let answer = ap joint_policy (value_where c.join.result _ _ c.unwrap.result c.join.ensures c.unwrap.ensures)
     ∙ made in
-    value m k c.requires.of_model c.requires.full exact ∙ ap (λ qs. point (policy_value m k.horizon qs)) (sym answer)
+    value m k c.requires.of_model c.requires.full exact ∙ ap (λ qs. point (policy_value m k.horizon qs))
+    (sym answer)

@@ -14,9 +14,11 @@ returns-then-is_some-clause-fault c = λ m is.
       order,
       elim c.then-is_some.branch [
         | then-is_some-via-then-is_some w ↦
-            inl (assigned ds c.args.agent c.args.first c.action.result c.action.ensures (sym w.if-is_some.ensures))
+            inl (assigned ds c.args.agent c.args.first c.action.result c.action.ensures
+            (sym w.if-is_some.ensures))
         | then-is_some-via-else-is_some+then-is_some-2 w ↦
-            inr (assigned ds c.args.agent c.args.second _ w.action-else-is_some.ensures (sym w.if-is_some-2.ensures))
+            inr (assigned ds c.args.agent c.args.second _ w.action-else-is_some.ensures
+            (sym w.if-is_some-2.ensures))
       ],
     )
 
@@ -64,7 +66,8 @@ returns-in-Ok-clause-loses_nothing c = λ m is.
     c.action-else-is_some.ensures (sym c.if-is_some-2.ensures) in
     let all = merged m c.args.self.now c.args.agent c.args.first c.args.second c.first_unequal.result are
     (c.first_unequal.ensures m is) c.in_default.is in
-    subst (λ (F : Front). LosesNothing m c.args.self.now.horizon c.args.self.now.front F) (sym c.in-Ok.ensures.front)
+    subst (λ (F : Front). LosesNothing m c.args.self.now.horizon c.args.self.now.front F)
+    (sym c.in-Ok.ensures.front)
     (loses_nothing m c.args.self.now c.args.agent c.args.first c.args.second is c.requires.stage all)
 
 pub returns-in-Ok-clause-keeps : goal.returns-in-Ok-clause-keeps

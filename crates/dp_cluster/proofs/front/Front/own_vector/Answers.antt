@@ -13,7 +13,8 @@ returns-then-is_some c = λ m is.
 pub total-requires-clause-room : goal.total-requires-clause-room
 total-requires-clause-room c =
     let ps = c.requires.places in
-    few_at c.requires.of_model.0 c.args.self.now c.requires.of_model.1 c.requires.exact c.requires.stage c.args.agent
+    few_at c.requires.of_model.0 c.args.self.now c.requires.of_model.1 c.requires.exact c.requires.stage
+    c.args.agent
     c.requires.agent c.args.class c.requires.class _ _ _ ps.rows ps.classes ps.width
 
 pub returns-then-total-eq0 : goal.returns-then-total-eq0
@@ -22,7 +23,8 @@ returns-then-total-eq0 c = λ m is.
     let none = sym c.action.ensures ∙ none_of c.action.result (sym c.if-is_some.ensures) in
     let total = total_at m c.args.self.now is c.requires.exact c.requires.stage c.args.agent
     c.requires.agent c.args.class c.requires.class _ _ _ ps.rows ps.classes ps.width in (
-      none_unassigned c.args.self.now.front.agents c.args.agent c.args.class c.requires.agent c.requires.class none,
+      none_unassigned c.args.self.now.front.agents c.args.agent c.args.class c.requires.agent
+          c.requires.class none,
       sym total ∙ sym c.total.ensures ∙ c.if-total-eq0.true,
     )
 
@@ -50,7 +52,8 @@ returns c = λ m is.
     let size : c.in_ok-weights.weights.len ≡ length all = omega
     (arith, c.in_ok-weights.weights.ok.0, c.primitive.auto.values, c.deref_mut.ensures.len) in
     let made = c.primitive.ensures (class_vector m c.args.self.now.front c.args.agent c.args.class) vector in (
-      none_unassigned c.args.self.now.front.agents c.args.agent c.args.class c.requires.agent c.requires.class none,
+      none_unassigned c.args.self.now.front.agents c.args.agent c.args.class c.requires.agent
+          c.requires.class none,
       omega (arith, total, c.total.ensures, some),
       (
         made.0,

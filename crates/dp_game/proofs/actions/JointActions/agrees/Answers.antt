@@ -10,14 +10,16 @@ use Rattle.dp_game.proofs.actions.JointActions.agrees.Goals as goal
 
 pub overflow_mul-first : goal.overflow_mul-first
 overflow_mul-first c =
-    let is = subst (λ (l : List ℕ). AreActionParts l c.self.inside.count c.self.inside.parts.items) c.self.view_is
+    let is = subst (λ (l : List ℕ). AreActionParts l c.self.inside.count c.self.inside.parts.items)
+    c.self.view_is
     c.self.invariant in
     let lt = action_room _ _ _ c.args.action is c.requires.action in
     rw c.agents-agents.ensures.is (omega arith)
 
 pub bounds-parts-first : goal.bounds-parts-first
 bounds-parts-first c =
-    let is = subst (λ (l : List ℕ). AreActionParts l c.self.inside.count c.self.inside.parts.items) c.self.view_is
+    let is = subst (λ (l : List ℕ). AreActionParts l c.self.inside.count c.self.inside.parts.items)
+    c.self.view_is
     c.self.invariant in
     let hj : c.loop-agent.agent < length c.args.self.now = omega
     (arith, c.agents-agents.ensures.is, c.loop-agent-test.true) in
@@ -26,7 +28,8 @@ bounds-parts-first c =
 
 pub returns-then-not-is_allowed : goal.returns-then-not-is_allowed
 returns-then-not-is_allowed c =
-    let is = subst (λ (l : List ℕ). AreActionParts l c.self.inside.count c.self.inside.parts.items) c.self.view_is
+    let is = subst (λ (l : List ℕ). AreActionParts l c.self.inside.count c.self.inside.parts.items)
+    c.self.view_is
     c.self.invariant in
     let hj : c.loop-agent.agent < length c.args.self.now = omega
     (arith, c.agents-agents.ensures.is, c.loop-agent-test.true) in
@@ -40,7 +43,8 @@ returns-then-not-is_allowed c =
 
 pub loop-agent-preserved : goal.loop-agent-preserved
 loop-agent-preserved c =
-    let is = subst (λ (l : List ℕ). AreActionParts l c.self.inside.count c.self.inside.parts.items) c.self.view_is
+    let is = subst (λ (l : List ℕ). AreActionParts l c.self.inside.count c.self.inside.parts.items)
+    c.self.view_is
     c.self.invariant in
     let hj : c.loop-agent.agent < length c.args.self.now = omega
     (arith, c.agents-agents.ensures.is, c.loop-agent-test.true) in

@@ -22,14 +22,16 @@ choices_of-requires-clause-small c = choices_small c.args.model.now.model c.args
 
 pub joint_count-count-requires-clause-some : goal.joint_count-count-requires-clause-some
 joint_count-count-requires-clause-some c =
-    let counts = ap (λ oss. product (own_counts oss)) (c.deref.ensures.value ∙ c.in_ok-choices.ensures) ∙ ap product
+    let counts = ap (λ oss. product (own_counts oss)) (c.deref.ensures.value ∙ c.in_ok-choices.ensures)
+    ∙ ap product
     (counts_of c.args.front.now.front.agents) in
     rw counts (some_class c.args.model.now.model c.args.front.now.horizon c.args.front.now.front
     c.requires.of_model.model c.requires.of_model.front)
 
 pub joint_count-count-requires-clause-few : goal.joint_count-count-requires-clause-few
 joint_count-count-requires-clause-few c =
-    let counts = ap (λ oss. product (own_counts oss)) (c.deref.ensures.value ∙ c.in_ok-choices.ensures) ∙ ap product
+    let counts = ap (λ oss. product (own_counts oss)) (c.deref.ensures.value ∙ c.in_ok-choices.ensures)
+    ∙ ap product
     (counts_of c.args.front.now.front.agents) in
     rw counts (few_front c.args.model.now.model c.args.front.now c.args.bounder.now c.requires.of_model
     c.requires.bounder c.requires.horizon c.requires.stage c.requires.room)
@@ -141,7 +143,8 @@ returns-clause-sound c =
     subst (λ (x : ℤ). BoundsKeepers c.args.model.now.model c.args.front.now.horizon c.args.front.now.front
     (game_bound (game_with c.in_ok-actions.actions c.in_ok-choices.choices.items c.in_ok-table.table.items x)))
     (sym (to_z-of_z w128 _ fits-earned))
-    (bounds_keepers c.args.model.now.model c.args.front.now.horizon c.args.bounder.now.look c.args.front.now.front _
+    (bounds_keepers c.args.model.now.model c.args.front.now.horizon c.args.bounder.now.look
+    c.args.front.now.front _
     (game c.args.model.now.model c.args.front.now c.args.bounder.now c.requires.of_model c.requires.bounder
     c.requires.horizon c.requires.stage c.requires.room c.in_ok-actions.actions c.in_ok-choices.choices.items
     c.joint_count-count.result c.in_ok-table.table.items c.earned-earned.result c.in_ok-actions.ensures

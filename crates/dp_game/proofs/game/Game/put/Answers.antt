@@ -14,7 +14,8 @@ use Rattle.dp_game.proofs.game.Game.put.Goals as goal
 pub change_class-change-requires-clause-before : goal.change_class-change-requires-clause-before
 change_class-change-requires-clause-before c =
     let i = c.self.inside in
-    kept_before (game_with i.actions i.choices.items i.table.items i.earned) c.deref.result.now c.deref-2.result.now
+    kept_before (game_with i.actions i.choices.items i.table.items i.earned)
+    c.deref.result.now c.deref-2.result.now
     _ i.wanted.items _ i.greatest.items
     c.deref.ensures.value c.deref-2.ensures.value c.deref_mut.ensures.value c.deref_mut-2.ensures.value
     c.self.invariant.at
@@ -28,7 +29,8 @@ moved-self-inside-requires-clause-less c =
     let hc : c.args.class < length (get_or g.choices c.args.agent []) =
     subst (λ (k : KeptGame). c.args.class < length (get_or k.choices c.args.agent [])) (sym c.self.view_is)
     c.requires.class in
-    let after = subst (λ (k : KeptGame). IsOfSomeFront (with_own_choice k c.args.agent c.args.class c.args.choice))
+    let after = subst (λ (k : KeptGame). IsOfSomeFront (with_own_choice k c.args.agent c.args.class
+    c.args.choice))
     (sym c.self.view_is) c.requires.after in
     let fits : SFits w128 c.self.inside.bound = search rules in
     let fits-gone : SFits w128 c.change_class-change.result.gone = search rules in
@@ -42,7 +44,8 @@ moved-self-inside-requires-clause-less c =
     (placed_number c.args.agent (own_counts (eo j)) c.args.class x))) in
     let come = to_z-of_z w128 _ fits-come ∙ c.change_class-change.ensures.come
     ∙ (λ j. int_sum (product (without c.args.agent (own_counts (eo j)))) (λ x.
-    best_entry (with_own_choice (game_with i.actions (eo j) (et j) (pos 0)) c.args.agent c.args.class c.args.choice)
+    best_entry (with_own_choice (game_with i.actions (eo j) (et j) (pos 0))
+    c.args.agent c.args.class c.args.choice)
     (placed_number c.args.agent (own_counts (eo j)) c.args.class x))) in
     less_fits g c.args.agent c.args.class c.args.choice hi hc c.self.invariant.of_front after _ _ _ is gone come
 
@@ -55,7 +58,8 @@ moved-self-inside-requires-clause-after c =
     let hc : c.args.class < length (get_or g.choices c.args.agent []) =
     subst (λ (k : KeptGame). c.args.class < length (get_or k.choices c.args.agent [])) (sym c.self.view_is)
     c.requires.class in
-    let after = subst (λ (k : KeptGame). IsOfSomeFront (with_own_choice k c.args.agent c.args.class c.args.choice))
+    let after = subst (λ (k : KeptGame). IsOfSomeFront (with_own_choice k c.args.agent c.args.class
+    c.args.choice))
     (sym c.self.view_is) c.requires.after in
     let fits : SFits w128 c.self.inside.bound = search rules in
     let fits-gone : SFits w128 c.change_class-change.result.gone = search rules in
@@ -69,9 +73,11 @@ moved-self-inside-requires-clause-after c =
     (placed_number c.args.agent (own_counts (eo j)) c.args.class x))) in
     let come = to_z-of_z w128 _ fits-come ∙ c.change_class-change.ensures.come
     ∙ (λ j. int_sum (product (without c.args.agent (own_counts (eo j)))) (λ x.
-    best_entry (with_own_choice (game_with i.actions (eo j) (et j) (pos 0)) c.args.agent c.args.class c.args.choice)
+    best_entry (with_own_choice (game_with i.actions (eo j) (et j) (pos 0))
+    c.args.agent c.args.class c.args.choice)
     (placed_number c.args.agent (own_counts (eo j)) c.args.class x))) in
-    after_fits g c.args.agent c.args.class c.args.choice hi hc c.self.invariant.of_front after _ _ _ is gone come
+    after_fits g c.args.agent c.args.class c.args.choice hi hc c.self.invariant.of_front after _ _ _ is gone
+    come
 
 pub invariant_of-self : goal.invariant_of-self
 invariant_of-self c =
@@ -82,7 +88,8 @@ invariant_of-self c =
     let hc : c.args.class < length (get_or g.choices c.args.agent []) =
     subst (λ (k : KeptGame). c.args.class < length (get_or k.choices c.args.agent [])) (sym c.self.view_is)
     c.requires.class in
-    let after = subst (λ (k : KeptGame). IsOfSomeFront (with_own_choice k c.args.agent c.args.class c.args.choice))
+    let after = subst (λ (k : KeptGame). IsOfSomeFront (with_own_choice k c.args.agent c.args.class
+    c.args.choice))
     (sym c.self.view_is) c.requires.after in
     let fits : SFits w128 c.self.inside.bound = search rules in
     let fits-gone : SFits w128 c.change_class-change.result.gone = search rules in
@@ -96,10 +103,12 @@ invariant_of-self c =
     (placed_number c.args.agent (own_counts (eo j)) c.args.class x))) in
     let come = to_z-of_z w128 _ fits-come ∙ c.change_class-change.ensures.come
     ∙ (λ j. int_sum (product (without c.args.agent (own_counts (eo j)))) (λ x.
-    best_entry (with_own_choice (game_with i.actions (eo j) (et j) (pos 0)) c.args.agent c.args.class c.args.choice)
+    best_entry (with_own_choice (game_with i.actions (eo j) (et j) (pos 0))
+    c.args.agent c.args.class c.args.choice)
     (placed_number c.args.agent (own_counts (eo j)) c.args.class x))) in
     let fits-moved : SFits w128 c.moved-self-inside.result = search rules in
-    let bound = to_z-of_z w128 _ fits-moved ∙ c.moved-self-inside.ensures ∙ bound_after g c.args.agent c.args.class
+    let bound = to_z-of_z w128 _ fits-moved ∙ c.moved-self-inside.ensures
+    ∙ bound_after g c.args.agent c.args.class
     c.args.choice hi hc c.self.invariant.of_front after _ _ _ is gone come in
     let wanted_len = c.change_class-change.auto.wanted in
     let greatest_len = c.change_class-change.auto.greatest in
@@ -112,7 +121,8 @@ invariant_of-self c =
     kept_after g c.args.agent c.args.class c.args.choice c.deref.result.now _ c.deref-2.result.now
     c.change_class-change.new.wanted _ c.change_class-change.new.greatest _ _
     hi hc after eo et (ap (set i.choices.items c.args.agent) own) c.change_class-change.ensures.after
-    (wanted_len ∙ wanted_same ∙ c.self.invariant.as_many) (greatest_len ∙ greatest_same ∙ c.self.invariant.one_each)
+    (wanted_len ∙ wanted_same ∙ c.self.invariant.as_many) (greatest_len ∙ greatest_same
+    ∙ c.self.invariant.one_each)
     (written i.wanted.len c.change_class-change.new.wanted i.wanted.items
     (sym c.deref_mut.ensures.len ∙ sym wanted_len))
     (written i.greatest.len c.change_class-change.new.greatest i.greatest.items

@@ -12,7 +12,8 @@ loop-seen-init c =
     let p = c.args.self.now in
     let n = observations_of (joint_policy p) c.args.agent in
     let all : p.horizon ≡ p.horizon - 0 = omega arith in
-    let kept = subst (λ (v : HorizonTrees). AreKeptTrees v.horizon (joint_policy v)) c.self.view_is c.self.invariant
+    let kept = subst (λ (v : HorizonTrees). AreKeptTrees v.horizon (joint_policy v))
+    c.self.view_is c.self.invariant
     in
     record {
       whole = subst (λ (r : ℕ). IsPolicyTree (2 ^ 32) n r (policy_tree c.tree-here.result.now)) all
@@ -35,7 +36,8 @@ loop-seen-preserved c =
     let t = c.loop-seen.seen-index in
     let q = policy_tree c.loop-seen.here.now in
     record {
-      whole = rw c.subtree-here.ensures (next_whole (2 ^ 32) n (p.horizon - t) (p.horizon - (t + 1)) q (get_or H t 0)
+      whole = rw c.subtree-here.ensures (next_whole (2 ^ 32) n (p.horizon - t) (p.horizon - (t + 1)) q
+          (get_or H t 0)
           (omega (arith, c.requires.shorter, c.loop-seen-test.true))
           (c.requires.seen t c.loop-seen-test.true) c.loop-seen.invariant.whole);
       reached = rw add-one (followed_step H (remaining_after (tree_of (joint_policy p) c.args.agent) H) q
@@ -49,4 +51,5 @@ returns c =
     let H = c.args.history.now in
     c.root_action.ensures
     ∙ ap root_action (followed_end H (remaining_after (tree_of (joint_policy p) c.args.agent) H)
-    (policy_tree c.loop-seen.here.now) c.loop-seen.seen-index c.loop-seen-test.false c.loop-seen.invariant.reached)
+    (policy_tree c.loop-seen.here.now) c.loop-seen.seen-index c.loop-seen-test.false
+    c.loop-seen.invariant.reached)

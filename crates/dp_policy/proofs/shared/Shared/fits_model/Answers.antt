@@ -6,5 +6,7 @@ use Rattle.dp_policy.proofs.shared.Shared.fits_model.Goals as goal
 
 pub returns : goal.returns
 returns c =
-    subst (λ (v : HorizonRows). IsTrue c.is_shared.result ↔ IsSharedOf c.args.model.now.model v.horizon v.rows) c.self.view_is
-    (subst (λ l. IsTrue c.is_shared.result ↔ IsSharedOf c.args.model.now.model c.self.inside.horizon (map (λ s. map (λ r. r.items) s.items) l)) c.deref.ensures.value c.is_shared.ensures)
+    subst (λ (v : HorizonRows). IsTrue c.is_shared.result ↔ IsSharedOf c.args.model.now.model v.horizon v.rows)
+    c.self.view_is
+    (subst (λ l. IsTrue c.is_shared.result ↔ IsSharedOf c.args.model.now.model c.self.inside.horizon
+    (map (λ s. map (λ r. r.items) s.items) l)) c.deref.ensures.value c.is_shared.ensures)

@@ -15,4 +15,5 @@ returns-clause-sound c =
     let fits : SFits w128 c.action_in_mode.result = search rules in
     let is = to_z-of_z w128 _ fits ∙ c.action_in_mode.ensures in
     subst (BoundsEarningsOf fit.exact m fit.horizon fit.unit c.args.t ws c.args.a) (sym is)
-    (action_look_ahead_bounds fit.exact m c.invariant.ensures.model fit.horizon c.args.t c.args.a c.args.look fit.unit c.requires.fit c.requires.time ws)
+    (action_look_ahead_bounds fit.exact m c.invariant.ensures.model fit.horizon c.args.t c.args.a c.args.look
+    fit.unit c.requires.fit c.requires.time ws)
