@@ -4,3 +4,4 @@ pub mod GrownLeaves
 pub mod TriedPolicies
 pub mod LeavesSoFar
 pub mod ConstantPolicies
+pub mod FrontSteps

@@ -53,7 +53,8 @@ module _ {F P : Type 0} (meaning : F → Front) (S : Space) (constants : ℤ) (w
 -- ---- what is held
 
 -- each leaf that is held is neither full nor wide
-pub held_are_open : {F P : Type 0} (meaning : F → Front) (S : Space) (constants : ℤ) (width budget : ℕ) (st : State F P)
+pub held_are_open : {F P : Type 0} (meaning : F → Front) (S : Space) (constants : ℤ) (width budget : ℕ)
+    (st : State F P)
     (rest : List OpenLeaf) → Runs meaning S constants width budget st rest
     → All (λ (o : HeldLeaf F). S.is_full (meaning o.front) ≡ false) (heap_items st.held.heap)
     × All (λ (o : HeldLeaf F). S.is_wide o.above (meaning o.front) ≡ false) (heap_items st.held.heap)

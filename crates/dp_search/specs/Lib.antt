@@ -3,5 +3,6 @@ pub mod Running
 pub mod SearchStates
 pub mod Rules
 pub mod Constants
+pub mod FrontPlanners
 pub mod Toy
 pub mod GreatestLeaves

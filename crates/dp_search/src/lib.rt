@@ -1,6 +1,7 @@
 //! Best-first search for a bound tree, over any space of fronts.
 #![tactic(auto)]
 
+mod bounding;
 mod children;
 mod chooser;
 mod constants;
@@ -8,6 +9,7 @@ mod greatest_leaf;
 mod held_leaf;
 mod held_leaves;
 mod look;
+mod options;
 mod place;
 mod planner;
 mod search;
@@ -17,6 +19,7 @@ mod tests;
 
 pub use chooser::Chooser;
 pub use greatest_leaf::greatest_bound;
+pub use options::PlanOpts;
 pub use place::Place;
 pub use planner::{Child, Expanded, Planner};
 pub use search::{Searched, search_best_first};

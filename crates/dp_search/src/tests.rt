@@ -79,7 +79,12 @@ impl Planner for Toy {
         Ok(70 + u64::from(*front))
     }
 
-    fn completion(&self, _alloc: Global, _room: &mut (), front: &u32) -> Result<Option<u64>, Memory> {
+    fn completion(
+        &self,
+        _alloc: Global,
+        _room: &mut (),
+        front: &u32,
+    ) -> Result<Option<u64>, Memory> {
         Ok(Some(70 + u64::from(*front)))
     }
 
