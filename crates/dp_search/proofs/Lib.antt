@@ -4,3 +4,6 @@ pub mod GrownLeaves
 pub mod TriedPolicies
 pub mod LeavesSoFar
 pub mod ConstantPolicies
+pub mod UpperWeights
+pub mod SpreadSteps
+pub mod PlaceLists

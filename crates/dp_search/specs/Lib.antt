@@ -5,3 +5,4 @@ pub mod Rules
 pub mod Constants
 pub mod Toy
 pub mod GreatestLeaves
+pub mod FrontPlaces

@@ -4,6 +4,7 @@
 mod children;
 mod chooser;
 mod constants;
+mod front_places;
 mod greatest_leaf;
 mod held_leaf;
 mod held_leaves;
@@ -16,6 +17,7 @@ mod state;
 mod tests;
 
 pub use chooser::Chooser;
+pub use front_places::places;
 pub use greatest_leaf::greatest_bound;
 pub use place::Place;
 pub use planner::{Child, Expanded, Planner};
