@@ -55,7 +55,8 @@ module _ (A : Arithmetic) (m : Model) (h look : ℕ) (F : Front) where
   all_more i n =
       ap (λ l. map (place_at A m h look F i) (filter (free_class i) l)) (below_more n)
       ∙ ap (map (place_at A m h look F i)) (filter-append (free_class i) (range_with_len 0 n) (n ∷ []))
-      ∙ map-append (place_at A m h look F i) (filter (free_class i) (range_with_len 0 n)) (filter (free_class i) (n ∷ []))
+      ∙ map-append (place_at A m h look F i) (filter (free_class i) (range_with_len 0 n)) (filter (free_class i)
+      (n ∷ []))
 
   pub place_more : (i n : ℕ) → get_or (chosen_of F i) n None ≡ None
       → places_below A m h look F i (suc n) ≡ places_below A m h look F i n ++ place_at A m h look F i n ∷ []
@@ -77,7 +78,8 @@ module _ (A : Arithmetic) (m : Model) (h look : ℕ) (F : Front) where
   agent_more i =
       ap (flat_map (agent_places_of A m h look F)) (below_more i)
       ∙ flat_map-append (agent_places_of A m h look F) (range_with_len 0 i) (i ∷ [])
-      ∙ ap (λ l. flat_map (agent_places_of A m h look F) (range_with_len 0 i) ++ l) (append_none (agent_places_of A m h look F i))
+      ∙ ap (λ l. flat_map (agent_places_of A m h look F) (range_with_len 0 i) ++ l) (append_none
+      (agent_places_of A m h look F i))
 
 -- ---- classes as they are read
 
@@ -107,7 +109,8 @@ choices_at (d ∷ ds) (suc i) lt = choices_at ds i (omega arith)
 
 -- ---- and in the game of a front
 
-module _ (m : Model) (h look : ℕ) (F : Front) (g : KeptGame) (is : IsGameOf m h look F g) (i c : ℕ) (lt : i < length F.agents) where
+module _ (m : Model) (h look : ℕ) (F : Front) (g : KeptGame) (is : IsGameOf m h look F g) (i c : ℕ)
+    (lt : i < length F.agents) where
   pub agent_in : i < length g.choices
   agent_in = let many = ap (λ oss. length oss) is.choices in let e = as_many_choices F.agents in omega arith
 

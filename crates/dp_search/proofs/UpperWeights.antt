@@ -63,7 +63,8 @@ one_small false k C = omega arith
 pub part_small : (k : KeptFront) (i c n N : ℕ) → n ≤ N
     → unsigned_abs (kept_upper_weight k i c n) ≤ nat_sum N (upper_size k)
 part_small k i c n N le =
-    let f = λ (C : ℕ). cond (eqb (get_or (parts_of (class_counts k.front.agents) C) i 0) c) (kept_upper k C) (pos 0) in
+    let f = λ (C : ℕ). cond (eqb (get_or (parts_of (class_counts k.front.agents) C) i 0) c) (kept_upper k C)
+    (pos 0) in
     let part = int_sum_part n N f le in
     let each = nat_sum_le N (λ C. unsigned_abs (f C)) (upper_size k)
     (λ C p. one_small (eqb (get_or (parts_of (class_counts k.front.agents) C) i 0) c) k C) in

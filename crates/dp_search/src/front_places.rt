@@ -36,8 +36,9 @@ pub fn places(
     requires stage { front.now.front.stage < front.now.horizon }
     requires room { has_room model.now.model front.now.horizon front.now.front ≡ true }
     requires game { IsGameOf model.now.model front.now.horizon look front.now.front game.old }
-    ensures places { IfOk result (λ v. map place_of v.items ≡ places_of
-        (arithmetic front.now.is_exact model.now.model.scales) model.now.model front.now.horizon look front.now.front) }
+    ensures places { IfOk result (λ v. map place_of v.items
+        ≡ places_of (arithmetic front.now.is_exact model.now.model.scales) model.now.model front.now.horizon
+        look front.now.front) }
     ensures game { OnOk result (game.new ≡ game.old) }
     ensures few { IfOk result (λ v. length v.items ≤ 2 ^ 26) }
 {
@@ -63,8 +64,9 @@ fn push_places(
     requires stage { front.now.front.stage < front.now.horizon }
     requires game { IsGameOf model.now.model front.now.horizon look front.now.front game.old }
     requires agent { agent < length front.now.front.agents }
-    ensures places { IfOk result (λ _. map place_of places.new.items ≡ map place_of places.old.items ++ agent_places_of
-        (arithmetic front.now.is_exact model.now.model.scales) model.now.model front.now.horizon look front.now.front agent) }
+    ensures places { IfOk result (λ _. map place_of places.new.items ≡ map place_of places.old.items
+        ++ agent_places_of (arithmetic front.now.is_exact model.now.model.scales) model.now.model front.now.horizon
+        look front.now.front agent) }
     ensures game { OnOk result (game.new ≡ game.old) }
     ensures few { IfOk result (λ _. length places.new.items ≤ length places.old.items + own_count front.now agent) }
 {

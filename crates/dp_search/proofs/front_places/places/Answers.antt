@@ -17,6 +17,7 @@ loop-agent-preserved c =
       c.in_ok-push_places.ensures.places
           ∙ ap (λ l. l ++ agent_places_of A m k.horizon c.args.look k.front i) c.loop-agent.invariant.1
           ∙ sym (agent_more A m k.horizon c.args.look k.front i)
-          ∙ ap (λ n. flat_map (agent_places_of A m k.horizon c.args.look k.front) (range_with_len 0 n)) (sym (add-one i)),
+          ∙ ap (λ n. flat_map (agent_places_of A m k.horizon
+          c.args.look k.front) (range_with_len 0 n)) (sym (add-one i)),
       omega (arith, few, c.in_ok-push_places.ensures.few, c.loop-agent.invariant.2),
     )

@@ -34,16 +34,28 @@ loop-class-preserved c =
     let below : cl < own_count k i = omega (arith, c.classes-class-end.ensures, c.loop-class-test.true) in
     elim c.if-is_none.branch [
       | then-is_none+in_ok-push w ↦
-          let none = sym c.action.ensures ∙ none_is c.action.result (search (rules, c.is_none.ensures, w.if-is_none.true)) in
-          let within : cl < length c.in_ok-weights.weights.items = omega (arith, below, c.in_ok-weights.ensures.one_each) in
+          let none = sym c.action.ensures ∙ none_is c.action.result (search (
+            rules,
+            c.is_none.ensures,
+            w.if-is_none.true,
+          )) in
+          let within : cl < length c.in_ok-weights.weights.items =
+          omega (arith, below, c.in_ok-weights.ensures.one_each) in
           let weight = to_z-of_z w128 _ (search (rules, w.index-weight.type_inv)) ∙ w.index-weight.ensures
           ∙ get_or_default c.in_ok-weights.weights.items cl _ (pos 0) within ∙ c.in_ok-weights.ensures.are cl below
           ∙ kept_is_upper m k c.requires.of_model c.requires.stage i cl in
           let spread = w.spread_of_class-spread.ensures.is in (
             w.game-is ∙ w.spread_of_class-spread.ensures.game ∙ c.loop-class.invariant.0,
             ap (λ v. map place_of v.items) w.places-is
-                ∙ class_pushed A m h look k.front i cl c.requires.agent pre c.loop-class.places.items before _ w.push.new.self.items none
-                (λ j. record { agent = i; class = cl; weight = weight j; spread = spread j }) w.in_ok-push.ensures.items,
+                ∙ class_pushed A m h look k.front i cl c.requires.agent pre
+                c.loop-class.places.items before _ w.push.new.self.items none
+                (λ j. record {
+                  agent = i;
+                  class = cl;
+                  weight = weight j;
+                  spread =
+                      spread j;
+                }) w.in_ok-push.ensures.items,
             (let more = one_longer c.loop-class.places.items c.if-is_none.places.items _
                 (ap (λ v. v.items) w.places-is ∙ w.in_ok-push.ensures.items) in
                 let few = c.loop-class.invariant.2 in omega arith),

@@ -20,7 +20,8 @@ choose-requires-clause-class c =
     let m = c.args.model.now.model in
     let k = c.args.front.now in
     let is = subst (IsGameOf m k.horizon c.args.look k.front) (sym c.loop-action.invariant.0) c.requires.game in
-    class_in m k.horizon c.args.look k.front c.loop-action.game is c.args.agent c.args.class c.requires.agent c.requires.class
+    class_in m k.horizon c.args.look k.front c.loop-action.game is c.args.agent c.args.class c.requires.agent
+    c.requires.class
 
 pub choose-requires-clause-unassigned : goal.choose-requires-clause-unassigned
 choose-requires-clause-unassigned c =
@@ -37,7 +38,8 @@ unchoose-requires-clause-class c =
     let g = c.loop-action.game in
     let is = subst (IsGameOf m k.horizon c.args.look k.front) (sym c.loop-action.invariant.0) c.requires.game in
     let hi = agent_in m k.horizon c.args.look k.front g is c.args.agent c.args.class c.requires.agent in
-    let hc = class_in m k.horizon c.args.look k.front g is c.args.agent c.args.class c.requires.agent c.requires.class in
+    let hc = class_in m k.horizon c.args.look k.front g is c.args.agent c.args.class c.requires.agent
+    c.requires.class in
     rw c.choose.ensures.is (class_kept g c.args.agent c.args.class c.loop-action.action hi hc)
 
 pub unchoose-requires-clause-chosen : goal.unchoose-requires-clause-chosen
@@ -47,8 +49,12 @@ unchoose-requires-clause-chosen c =
     let g = c.loop-action.game in
     let is = subst (IsGameOf m k.horizon c.args.look k.front) (sym c.loop-action.invariant.0) c.requires.game in
     let hi = agent_in m k.horizon c.args.look k.front g is c.args.agent c.args.class c.requires.agent in
-    let hc = class_in m k.horizon c.args.look k.front g is c.args.agent c.args.class c.requires.agent c.requires.class in
-    (c.loop-action.action, rw c.choose.ensures.is (choice_made g c.args.agent c.args.class c.loop-action.action hi hc))
+    let hc = class_in m k.horizon c.args.look k.front g is c.args.agent c.args.class c.requires.agent
+    c.requires.class in (
+      c.loop-action.action,
+      rw c.choose.ensures.is (choice_made g c.args.agent c.args.class
+          c.loop-action.action hi hc),
+    )
 
 pub loop-action-preserved : goal.loop-action-preserved
 loop-action-preserved c =
@@ -67,8 +73,10 @@ loop-action-preserved c =
     let none = choice_in m h look F g is i cl c.requires.agent ∙ c.requires.unassigned in
     let bound = to_z-of_z w128 c.bound.result (search (rules, c.bound.type_inv))
     ∙ c.bound.ensures.of_front m h look (chosen_front F i cl a) (c.choose.ensures.of_front m h look F is)
-    ∙ ap (λ e. front_bound (arithmetic e m.scales) m h look (chosen_front F i cl a)) (sym c.requires.of_model.mode) in (
-      c.unchoose.ensures.is ∙ ap (λ g. with_own_choice g i cl None) c.choose.ensures.is ∙ taken_back g i cl a hi hc none
+    ∙ ap (λ e. front_bound (arithmetic e m.scales) m h look (chosen_front F i cl a)) (sym
+    c.requires.of_model.mode) in (
+      c.unchoose.ensures.is ∙ ap (λ g. with_own_choice g i cl None) c.choose.ensures.is
+          ∙ taken_back g i cl a hi hc none
           ∙ c.loop-action.invariant.0,
       to_z-of_z w128 c.lesser-least.result (search (rules, c.lesser-least.type_inv)) ∙ c.lesser-least.ensures
           ∙ (λ j. int_min (c.loop-action.invariant.1 j) (bound j))
@@ -85,7 +93,8 @@ distance-requires c =
     ∙ c.bound-bound.ensures.of_front m k.horizon look k.front c.requires.game
     ∙ ap (λ e. front_bound (arithmetic e m.scales) m k.horizon look k.front) (sym c.requires.of_model.mode) in
     rw (bound, c.loop-action.invariant.1) (least_of_at_most B
-    (λ a. front_bound (arithmetic k.is_exact m.scales) m k.horizon look (chosen_front k.front c.args.agent c.args.class a))
+    (λ a. front_bound (arithmetic k.is_exact m.scales) m k.horizon look (chosen_front k.front c.args.agent
+    c.args.class a))
     c.loop-action.action)
 
 pub returns-clause-is : goal.returns-clause-is
@@ -96,8 +105,10 @@ returns-clause-is c =
     let bound = to_z-of_z w128 c.bound-bound.result (search (rules, c.bound-bound.type_inv))
     ∙ c.bound-bound.ensures.of_front m k.horizon look k.front c.requires.game
     ∙ ap (λ e. front_bound (arithmetic e m.scales) m k.horizon look k.front) (sym c.requires.of_model.mode) in
-    let free = unassigned k.front.agents c.args.agent c.args.class c.requires.agent c.requires.class c.requires.unassigned in
-    let all : c.loop-action.action ≡ c.actions-action-end.result = omega (arith, c.loop-action-test.false, c.loop-action.auto.action-end) in
+    let free = unassigned k.front.agents c.args.agent c.args.class c.requires.agent c.requires.class
+    c.requires.unassigned in
+    let all : c.loop-action.action ≡ c.actions-action-end.result =
+    omega (arith, c.loop-action-test.false, c.loop-action.auto.action-end) in
     c.distance.ensures ∙ (λ j. bound j +ℤ neg_ℤ (c.loop-action.invariant.1 j))
     ∙ spread_is m k c.requires.of_model c.requires.stage look c.args.agent c.args.class c.loop-action.action free
     (all ∙ c.actions-action-end.ensures)

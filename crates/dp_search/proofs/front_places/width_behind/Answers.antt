@@ -12,15 +12,20 @@ overflow_add-before-end c = let few = c.invariant.ensures.agents in let lt = c.r
 pub nonzero_div-width : goal.nonzero_div-width
 nonzero_div-width c =
     let ns = class_counts c.args.front.now.front.agents in
-    let lt : c.loop-before.before < length ns = let n = as_many_counts c.args.front.now.front.agents in let a = c.requires.agent in let t = c.loop-before-test.true in omega arith in
+    let lt : c.loop-before.before < length ns = let n = as_many_counts c.args.front.now.front.agents in
+    let a = c.requires.agent in let t = c.loop-before-test.true in omega arith in
     rw c.classes.ensures (size_above ns c.loop-before.before c.requires.some_class lt)
 
 pub loop-before-preserved : goal.loop-before-preserved
 loop-before-preserved c =
     let ns = class_counts c.args.front.now.front.agents in
-    let lt : c.loop-before.before < length ns = let n = as_many_counts c.args.front.now.front.agents in let a = c.requires.agent in let t = c.loop-before-test.true in omega arith in
-    let some : 0 < c.classes.result = rw c.classes.ensures (size_above ns c.loop-before.before c.requires.some_class lt) in
-    divided c.classes.result (product (drop (suc c.loop-before.before) ns)) c.loop-before.width some (c.loop-before.invariant ∙ product-drop ns c.loop-before.before lt ∙ ap (λ (z : ℕ). z * product (drop (suc c.loop-before.before) ns)) (sym c.classes.ensures))
+    let lt : c.loop-before.before < length ns = let n = as_many_counts c.args.front.now.front.agents in
+    let a = c.requires.agent in let t = c.loop-before-test.true in omega arith in
+    let some : 0 < c.classes.result = rw c.classes.ensures (size_above ns c.loop-before.before
+    c.requires.some_class lt) in
+    divided c.classes.result (product (drop (suc c.loop-before.before) ns))
+    c.loop-before.width some (c.loop-before.invariant ∙ product-drop ns c.loop-before.before lt
+    ∙ ap (λ (z : ℕ). z * product (drop (suc c.loop-before.before) ns)) (sym c.classes.ensures))
     ∙ ap (λ (z : ℕ). product (drop z ns)) (sym (add-one c.loop-before.before))
 
 pub returns : goal.returns
