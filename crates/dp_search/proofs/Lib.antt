@@ -5,3 +5,6 @@ pub mod TriedPolicies
 pub mod LeavesSoFar
 pub mod ConstantPolicies
 pub mod FrontSteps
+pub mod UpperWeights
+pub mod SpreadSteps
+pub mod PlaceLists

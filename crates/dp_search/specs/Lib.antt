@@ -6,3 +6,4 @@ pub mod Constants
 pub mod FrontPlanners
 pub mod Toy
 pub mod GreatestLeaves
+pub mod FrontPlaces

@@ -5,6 +5,7 @@ mod bounding;
 mod children;
 mod chooser;
 mod constants;
+mod front_places;
 mod greatest_leaf;
 mod held_leaf;
 mod held_leaves;
@@ -18,6 +19,7 @@ mod state;
 mod tests;
 
 pub use chooser::Chooser;
+pub use front_places::places;
 pub use greatest_leaf::greatest_bound;
 pub use options::PlanOpts;
 pub use place::Place;
