@@ -1,4 +1,5 @@
--- The steps of a planner's fronts: what is kept by a choice and the advance that may follow, and the bound of a full one.
+-- The steps of a planner's fronts: what is kept by a choice and the advance that may follow, and the bound of a full
+-- one.
 use Rattle.std.proofs.Common.{◌≡◌, ℕ, ◌+◌, ◌-◌, ◌<◌, Bool, true, false, sym, ap, ◌∙◌, arith}
 use Rattle.dp_spec.specs.Arithmetic.{Arithmetic}
 use Rattle.dp_spec.specs.Fitting.{front_bound}

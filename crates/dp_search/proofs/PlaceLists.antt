@@ -154,7 +154,8 @@ module _ (A : Arithmetic) (m : Model) (h look : ℕ) (F : Front) (i c : ℕ) (lt
   pub class_skipped : (a : ℕ) → choice_at F.agents i c ≡ Some a
       → map place_of all ≡ pre ++ places_below A m h look F i (c + 1)
   class_skipped a some =
-      before ∙ ap (λ l. pre ++ l) (sym (place_skipped A m h look F i c a (sym (choice_of F.agents i c lt) ∙ some)))
+      before ∙ ap (λ l. pre ++ l) (sym (place_skipped A m h look F i c a
+      (sym (choice_of F.agents i c lt) ∙ some)))
       ∙ ap (λ n. pre ++ places_below A m h look F i n) (sym (add-one c))
 
 pub one_longer : (all all' : List Place) (new : Place) → all' ≡ all ++ new ∷ [] → length all' ≡ length all + 1

@@ -47,7 +47,8 @@ least_bound m k look i c n =
 -- the spread is the bound less the least bound after all actions
 pub spread_is : (m : Model) (k : KeptFront) → IsFrontOf m k → k.front.stage < k.horizon → (look i c n : ℕ)
     → IsUnassigned i c k.front.agents → n ≡ get_or m.actions i 0
-    → front_bound (arithmetic k.is_exact m.scales) m k.horizon look k.front +ℤ neg_ℤ (least_bound m k look i c n)
+    → front_bound (arithmetic k.is_exact m.scales) m k.horizon look k.front +ℤ neg_ℤ
+    (least_bound m k look i c n)
     ≡ spread_of (arithmetic k.is_exact m.scales) m k.horizon look k.front i c
 unfolding spread_of
 spread_is m k is early look i c zero free many =
@@ -75,7 +76,8 @@ taken_back g i c a hi hc none =
     let own = get_or g.choices i [] in
     let chosen = set own c (Some a) in
     let inner : set (get_or (set g.choices i chosen) i []) c None ≡ own =
-    ap (λ os. set os c None) (get_or-set_same g.choices i chosen [] hi) ∙ set_back own c (Some a) None None hc none in
+    ap (λ os. set os c None) (get_or-set_same g.choices i chosen [] hi)
+    ∙ set_back own c (Some a) None None hc none in
     ap (λ oss. record g { choices = oss })
     (ap (λ os. set (set g.choices i chosen) i os) inner ∙ set_back g.choices i chosen own [] hi refl)
 

@@ -31,7 +31,8 @@ use Rattle.dp_search.specs.FrontPlaces.{kept_upper, kept_upper_weight, upper_siz
 
 -- where joint class C is of class p C, each class has the sum of f over its joint classes
 pub class_next : (f : ℕ → ℤ) (p : ℕ → ℕ) (C count : ℕ) (ws ws' : List ℤ) (new : ℤ) → length ws ≡ count
-    → p C < count → ((c : ℕ) → c < count → get_or ws c (pos 0) ≡ int_sum C (λ D. cond (eqb (p D) c) (f D) (pos 0)))
+    → p C < count → ((c : ℕ) → c < count → get_or ws c (pos 0)
+    ≡ int_sum C (λ D. cond (eqb (p D) c) (f D) (pos 0)))
     → new ≡ get_or ws (p C) (pos 0) +ℤ f C → ws' ≡ set ws (p C) new
     → (c : ℕ) → c < count → get_or ws' c (pos 0) ≡ int_sum (suc C) (λ D. cond (eqb (p D) c) (f D) (pos 0))
 class_next f p C count ws ws' new long in_range before added written c lt = elim (cases_eq (p C) c) [
@@ -88,7 +89,8 @@ pub all_small : (m : Model) (k : KeptFront) → IsFrontOf m k → k.front.stage 
 all_small m k is early cells =
     let A = arithmetic k.is_exact m.scales in
     let N = product (class_counts k.front.agents) in
-    let can = mode_can_refine m is.model k.horizon is.some_step is.horizon k.is_exact is.mode k.front is.front early
+    let can = mode_can_refine m is.model k.horizon is.some_step is.horizon k.is_exact is.mode k.front
+    is.front early
     (λ e. cells (sym is.mode ∙ e)) in
     let each = nat_sum_le N (upper_size k) (λ C. total_size m (class_weight_in A m k.front C))
     (λ C p. high_small m k is early C p) in
@@ -165,7 +167,8 @@ module _ (k : KeptFront) (i C count width : ℕ) (some : 0 < product (class_coun
       ∙ nat_sum_ext k.states _ _ (λ s p. ap (λ w. unsigned_abs w.high) (are s p)) in
       let one = nat_sum_at (product ns) (upper_size k) C lt in omega arith
 
-  own_sum : (ws : List Span) → length ws ≡ k.states → ((s : ℕ) → s < k.states → weights_of ws s ≡ kept_weight k C s)
+  own_sum : (ws : List Span) → length ws ≡ k.states → ((s : ℕ) → s < k.states
+      → weights_of ws s ≡ kept_weight k C s)
       → int_sum (length ws) (λ s. (weights_of ws s).high) ≡ kept_upper k C
   own_sum ws long are =
       ap (λ n. int_sum n (λ s. (weights_of ws s).high)) long

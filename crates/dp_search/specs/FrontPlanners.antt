@@ -47,7 +47,8 @@ pub record IsPlannerFront (m : Model) (h : ℕ) (k : KeptFront) : Type 0 where
   pub horizon : k.horizon ≡ h
   pub room : has_room m h k.front ≡ true
 
--- A policy that a planner keeps: shared rows of the model over the horizon, plain in version 1 and a shared form in version 2.
+-- A policy that a planner keeps: shared rows of the model over the horizon, plain in version 1 and a shared form in
+-- version 2.
 pub record IsPlannerPolicy (m : Model) (h version : ℕ) (p : HorizonRows) : Type 0 where
   pub horizon : p.horizon ≡ h
   pub shared : IsSharedOf m h p.rows

@@ -50,7 +50,8 @@ pub(crate) fn after_choice(
     requires action { action < get_or model.now.model.actions agent 0 }
     requires narrow { (above : ℕ) × (is_wide model.now.model front.now.horizon above front.now.front ≡ false) }
     ensures of_planner { IfOk result (IsPlannerFront model.now.model front.now.horizon) }
-    ensures front { IfOk result (λ f. f.front ≡ front_after_choice model.now.model front.now.front agent class action) }
+    ensures front { IfOk result (λ f.
+        f.front ≡ front_after_choice model.now.model front.now.front agent class action) }
 {
     let chosen = front.assign(alloc, agent, class, action)?;
     if chosen.complete() {

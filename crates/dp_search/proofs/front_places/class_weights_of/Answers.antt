@@ -13,7 +13,8 @@ nonzero_div-class c =
     let lt : c.loop-joint.joint < product (class_counts k.front.agents) =
     omega (arith, c.joint_classes-joint-end.ensures.is, c.loop-joint-test.true) in
     some_width k c.args.agent c.loop-joint.joint c.classes-count.result c.width_behind-width.result
-    c.requires.some_class c.requires.agent lt c.requires.small c.classes-count.ensures c.width_behind-width.ensures
+    c.requires.some_class c.requires.agent lt c.requires.small c.classes-count.ensures
+    c.width_behind-width.ensures
 
 pub nonzero_rem-class : goal.nonzero_rem-class
 nonzero_rem-class c =
@@ -21,7 +22,8 @@ nonzero_rem-class c =
     let lt : c.loop-joint.joint < product (class_counts k.front.agents) =
     omega (arith, c.joint_classes-joint-end.ensures.is, c.loop-joint-test.true) in
     some_count k c.args.agent c.loop-joint.joint c.classes-count.result c.width_behind-width.result
-    c.requires.some_class c.requires.agent lt c.requires.small c.classes-count.ensures c.width_behind-width.ensures
+    c.requires.some_class c.requires.agent lt c.requires.small c.classes-count.ensures
+    c.width_behind-width.ensures
 
 pub upper_sum-requires : goal.upper_sum-requires
 upper_sum-requires c =
@@ -41,7 +43,8 @@ index_mut-requires c =
     let lt : c.loop-joint.joint < product (class_counts k.front.agents) =
     omega (arith, c.joint_classes-joint-end.ensures.is, c.loop-joint-test.true) in
     let below = class_below k c.args.agent c.loop-joint.joint c.classes-count.result c.width_behind-width.result
-    c.requires.some_class c.requires.agent lt c.requires.small c.classes-count.ensures c.width_behind-width.ensures in
+    c.requires.some_class c.requires.agent lt c.requires.small c.classes-count.ensures
+    c.width_behind-width.ensures in
     omega (arith, below, c.loop-joint.invariant.0)
 
 pub overflow_add-index_mut : goal.overflow_add-index_mut
@@ -50,11 +53,13 @@ overflow_add-index_mut c =
     let lt : c.loop-joint.joint < product (class_counts k.front.agents) =
     omega (arith, c.joint_classes-joint-end.ensures.is, c.loop-joint-test.true) in
     let below = class_below k c.args.agent c.loop-joint.joint c.classes-count.result c.width_behind-width.result
-    c.requires.some_class c.requires.agent lt c.requires.small c.classes-count.ensures c.width_behind-width.ensures in
+    c.requires.some_class c.requires.agent lt c.requires.small c.classes-count.ensures
+    c.width_behind-width.ensures in
     let within : c.loop-joint.joint / c.width_behind-width.result % c.classes-count.result < length
     c.loop-joint.weights.items = omega (arith, below, c.loop-joint.invariant.0) in
     weight_fits k c.args.agent c.loop-joint.joint c.classes-count.result c.width_behind-width.result
-    c.requires.some_class c.requires.agent lt c.requires.small c.classes-count.ensures c.width_behind-width.ensures
+    c.requires.some_class c.requires.agent lt c.requires.small c.classes-count.ensures
+    c.width_behind-width.ensures
     c.loop-joint.weights.items c.class_weights.result.now _ _ c.loop-joint.invariant.0 c.loop-joint.invariant.1
     c.class_weights.ensures.one_each c.class_weights.ensures.are
     (to_z-of_z w128 _ (search (rules, c.index_mut.type_inv)) ∙ c.index_mut.ensures.value
@@ -67,14 +72,16 @@ loop-joint-preserved c =
     let lt : c.loop-joint.joint < product (class_counts k.front.agents) =
     omega (arith, c.joint_classes-joint-end.ensures.is, c.loop-joint-test.true) in
     let below = class_below k c.args.agent c.loop-joint.joint c.classes-count.result c.width_behind-width.result
-    c.requires.some_class c.requires.agent lt c.requires.small c.classes-count.ensures c.width_behind-width.ensures in
+    c.requires.some_class c.requires.agent lt c.requires.small c.classes-count.ensures
+    c.width_behind-width.ensures in
     let within : c.loop-joint.joint / c.width_behind-width.result % c.classes-count.result < length
     c.loop-joint.weights.items = omega (arith, below, c.loop-joint.invariant.0) in (
       length-set c.loop-joint.weights.items _ _ ∙ c.loop-joint.invariant.0,
       weight_next k c.args.agent c.loop-joint.joint c.classes-count.result c.width_behind-width.result
           c.requires.some_class c.requires.agent lt c.requires.small c.classes-count.ensures
           c.width_behind-width.ensures
-          c.loop-joint.weights.items c.class_weights.result.now _ _ c.loop-joint.invariant.0 c.loop-joint.invariant.1
+          c.loop-joint.weights.items c.class_weights.result.now _ _ c.loop-joint.invariant.0
+          c.loop-joint.invariant.1
           c.class_weights.ensures.one_each c.class_weights.ensures.are
           (to_z-of_z w128 _ (search (rules, c.index_mut.type_inv)) ∙ c.index_mut.ensures.value
           ∙ get_or_default c.loop-joint.weights.items _ _ (pos 0) within)

@@ -8,6 +8,7 @@ use Rattle.dp_search.proofs.front_places.places.Given as goal
 abbrev pub invariant-loop-agent : goal.invariant-loop-agent
 invariant-loop-agent l =
     (l.game ≡ l.fn.game)
-    × (map place_of l.places.items ≡ flat_map (agent_places_of (arithmetic l.front.is_exact l.model.model.scales)
+    × (map place_of l.places.items ≡ flat_map (agent_places_of
+    (arithmetic l.front.is_exact l.model.model.scales)
     l.model.model l.front.horizon l.look l.front.front) (range_with_len 0 l.agent))
     × (length l.places.items ≤ l.agent * 2 ^ 22)

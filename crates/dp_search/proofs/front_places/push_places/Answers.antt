@@ -18,7 +18,8 @@ class_weights_of-requires-clause-some_class c =
 
 pub class_weights_of-requires-clause-small : goal.class_weights_of-requires-clause-small
 class_weights_of-requires-clause-small c =
-    all_small c.args.model.now.model c.args.front.now c.requires.of_model c.requires.stage c.requires.game.stage_cells
+    all_small c.args.model.now.model c.args.front.now c.requires.of_model c.requires.stage
+    c.requires.game.stage_cells
 
 pub loop-class-preserved : goal.loop-class-preserved
 loop-class-preserved c =
@@ -42,7 +43,8 @@ loop-class-preserved c =
           let within : cl < length c.in_ok-weights.weights.items =
           omega (arith, below, c.in_ok-weights.ensures.one_each) in
           let weight = to_z-of_z w128 _ (search (rules, w.index-weight.type_inv)) ∙ w.index-weight.ensures
-          ∙ get_or_default c.in_ok-weights.weights.items cl _ (pos 0) within ∙ c.in_ok-weights.ensures.are cl below
+          ∙ get_or_default c.in_ok-weights.weights.items cl _ (pos 0) within
+          ∙ c.in_ok-weights.ensures.are cl below
           ∙ kept_is_upper m k c.requires.of_model c.requires.stage i cl in
           let spread = w.spread_of_class-spread.ensures.is in (
             w.game-is ∙ w.spread_of_class-spread.ensures.game ∙ c.loop-class.invariant.0,
@@ -64,7 +66,8 @@ loop-class-preserved c =
           let some = some_is c.action.result w.if-is_none.ensures in (
             w.game-is ∙ c.loop-class.invariant.0,
             ap (λ v. map place_of v.items) w.places-is
-                ∙ class_skipped A m h look k.front i cl c.requires.agent pre c.loop-class.places.items before some.0
+                ∙ class_skipped A m h look k.front i cl c.requires.agent pre c.loop-class.places.items before
+                some.0
                 (sym c.action.ensures ∙ some.1),
             (let same = ap (λ v. length v.items) w.places-is in
                 let few = c.loop-class.invariant.2 in omega arith),

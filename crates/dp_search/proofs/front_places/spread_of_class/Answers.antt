@@ -110,5 +110,6 @@ returns-clause-is c =
     let all : c.loop-action.action ≡ c.actions-action-end.result =
     omega (arith, c.loop-action-test.false, c.loop-action.auto.action-end) in
     c.distance.ensures ∙ (λ j. bound j +ℤ neg_ℤ (c.loop-action.invariant.1 j))
-    ∙ spread_is m k c.requires.of_model c.requires.stage look c.args.agent c.args.class c.loop-action.action free
+    ∙ spread_is m k c.requires.of_model c.requires.stage look c.args.agent c.args.class c.loop-action.action
+    free
     (all ∙ c.actions-action-end.ensures)
