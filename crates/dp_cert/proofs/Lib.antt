@@ -12,3 +12,4 @@ pub mod AgentWords
 pub mod StageParts
 pub mod CertificateParts
 pub mod CertificateAnswers
+pub mod WrittenTrees

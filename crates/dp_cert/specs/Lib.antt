@@ -8,3 +8,4 @@ pub mod HeadValue
 pub mod NodeLines
 pub mod OpenNodes
 pub mod CertificateLaws
+pub mod CertificateBytes

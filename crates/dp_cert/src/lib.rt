@@ -12,9 +12,11 @@ mod ranges;
 mod read;
 mod shared_text;
 mod tree_text;
+mod write;
 
 pub use certificate::Certificate;
 pub use dp_lines::FileWhy;
 pub use fault::CertFault;
 pub use laws::certificate_texts_have_one_answer;
 pub use read::read_cert;
+pub use write::write_cert;

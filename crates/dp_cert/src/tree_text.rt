@@ -29,7 +29,7 @@ const CHILDREN: PlainRange = PlainRange { low: 1, high: 256 };
 const DEEPEST: usize = 2048;
 
 /// A node as its line says it.
-#[derive(Clone, Copy, Debug, PartialEq, Eq)]
+#[derive(Clone, Copy)]
 pub(crate) enum Node {
     /// A leaf with its bound.
     Leaf(i128),

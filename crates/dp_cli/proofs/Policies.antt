@@ -14,7 +14,8 @@ use Rattle.dp_cli.specs.ValueCommand.{lines_fault, policy_fault}
 pub stops_reading : (m : Model) → IsModel m → (bytes : List ℕ) (fault : PolicyFault) → HasPolicyFault m bytes fault
     → Stops (policy_fault bytes m) (policy_refusal fault)
 stops_reading m is bytes (faults.At line why) has = ap lines_fault (fault_is_computed m is bytes (bad line why) has)
-stops_reading m is bytes (faults.TooLarge passed) has = ap lines_fault (fault_is_computed m is bytes (limit passed) has)
+stops_reading m is bytes (faults.TooLarge passed) has = ap lines_fault
+    (fault_is_computed m is bytes (limit passed) has)
 stops_reading m is bytes faults.Memory has = tt
 
 -- nothing is wrong with those of a policy

@@ -21,9 +21,24 @@ pub record IsOfFault (fault : JobFault) : Type 0 where
 
 -- each fault has one line here
 pub fault_apart : (fault : JobFault) → IsOfFault fault
-fault_apart (job_faults.BadModel line column why) = record { done = λ e. cc; usage = λ e. cc; read = λ e. cc; limit = λ e. cc }
-fault_apart (job_faults.BadFile line why) = record { done = λ e. cc; usage = λ e. cc; read = λ e. cc; limit = λ e. cc }
-fault_apart (job_faults.TooLarge passed) = record { done = λ e. cc; usage = λ e. cc; read = λ e. cc; limit = λ e. (passed, refl) }
+fault_apart (job_faults.BadModel line column why) = record {
+  done = λ e. cc;
+  usage = λ e. cc;
+  read = λ e. cc;
+  limit = λ e. cc;
+}
+fault_apart (job_faults.BadFile line why) = record {
+  done = λ e. cc;
+  usage = λ e. cc;
+  read = λ e. cc;
+  limit = λ e. cc;
+}
+fault_apart (job_faults.TooLarge passed) = record {
+  done = λ e. cc;
+  usage = λ e. cc;
+  read = λ e. cc;
+  limit = λ e. (passed, refl);
+}
 fault_apart (job_faults.Unbuilt part) = record { done = λ e. cc; usage = λ e. cc; read = λ e. cc; limit = λ e. cc }
 
 -- the status of an answer

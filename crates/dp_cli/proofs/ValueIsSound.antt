@@ -40,7 +40,8 @@ value_claims (file ∷ policy ∷ next ∷ texts) text h = absurd h
 policy_is_other : (bytes : List ℕ) (m : Model) → IsOther (limit_told (policy_fault bytes m))
 policy_is_other bytes m = by (text_from (policy_grammar m) 1 bytes) refl
   where
-    by : (r : Result PolicyActions (Fault TooLarge)) → text_from (policy_grammar m) 1 bytes ≡ r → IsOther (limit_told (lines_fault r))
+    by : (r : Result PolicyActions (Fault TooLarge)) → text_from (policy_grammar m) 1 bytes ≡ r
+        → IsOther (limit_told (lines_fault r))
     by (Ok said) e = tt
     by (Err (bad line why)) e = tt
     by (Err (limit passed)) e = limit_of_text m bytes passed e

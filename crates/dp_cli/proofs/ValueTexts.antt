@@ -32,4 +32,5 @@ head_pushed t0 t1 t2 t3 t4 t5 t6 t7 a repaired b mode c unit d e1 e2 e3 e4 e5 e6
 pub worth_pushed : (t0 t1 t2 t3 head low high : List ℕ) → t0 ≡ [] → t1 ≡ t0 ++ head → t2 ≡ t1 ++ low → t3 ≡ t2 ++ high
     → t3 ≡ head ++ (low ++ high)
 worth_pushed t0 t1 t2 t3 head low high none e1 e2 e3 =
-    and_then t0 t1 t3 head (low ++ high) e1 (and_then t1 t2 t3 low high e2 e3) ∙ ap (λ l. l ++ (head ++ (low ++ high))) none
+    and_then t0 t1 t3 head (low ++ high) e1 (and_then t1 t2 t3 low high e2 e3)
+    ∙ ap (λ l. l ++ (head ++ (low ++ high))) none

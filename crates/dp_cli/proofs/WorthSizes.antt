@@ -24,7 +24,8 @@ use Rattle.dp_spec.specs.Value.{joint_root_action, trees_after}
 
 -- ---- in exact mode
 
-pub exact_worth_fits : (m : Model) → IsModel m → (h : ℕ) → true ≡ is_exact_mode m h → (ws : ℕ → Span) (qs : List PolicyTree)
+pub exact_worth_fits : (m : Model) → IsModel m → (h : ℕ) → true ≡ is_exact_mode m h
+    → (ws : ℕ → Span) (qs : List PolicyTree)
     → total_size m ws ≤ m.scales.start * step_scale m ^ 0 → IsPolicyOf m h qs
     → worth_size (exact m.scales) m h ws qs ≤ 2 ^ 126
 unfolding value_most
@@ -99,7 +100,8 @@ ends_fit m is h within false mode qs policy =
 
 -- the ends of the worth of a joint policy
 pub worth_fits : (m : Model) → IsModel m → (h : ℕ) → IsWithinLimits m h → (e : Bool) → e ≡ is_exact_mode m h
-    → (qs : List PolicyTree) → IsPolicyOf m h qs → (worth : Span) → worth ≡ forward_worth_in (arithmetic e m.scales) m h qs
+    → (qs : List PolicyTree) → IsPolicyOf m h qs → (worth : Span)
+    → worth ≡ forward_worth_in (arithmetic e m.scales) m h qs
     → (unsigned_abs worth.low ≤ 2 ^ 126) × (unsigned_abs worth.high ≤ 2 ^ 126)
 worth_fits m is h within e mode qs policy worth ends =
     let A = arithmetic e m.scales in
@@ -113,7 +115,8 @@ worth_fits m is h within e mode qs policy worth ends =
 
 scale_some : (m : Model) → IsModel m → (h : ℕ) → 1 ≤ value_scale m h
 unfolding value_scale
-scale_some m is h = mul-pos is.scales.start (mul-pos is.scales.reward (one-le-pow h (step_scale m) (step_scale_some m is)))
+scale_some m is h = mul-pos is.scales.start (mul-pos is.scales.reward
+    (one-le-pow h (step_scale m) (step_scale_some m is)))
 
 scale_most : (m : Model) → IsModel m → (h : ℕ) → 0 < h → true ≡ is_exact_mode m h → value_scale m h ≤ 2 ^ 126
 unfolding value_scale reward_most
@@ -128,6 +131,7 @@ pub unit_fits : (m : Model) → IsModel m → (h : ℕ) → 0 < h → (1 ≤ uni
 unfolding unit_of
 unit_fits m is h some = by (is_exact_mode m h) refl
   where
-    by : (e : Bool) → is_exact_mode m h ≡ e → (1 ≤ cond e (value_scale m h) (10 ^ 9)) × (cond e (value_scale m h) (10 ^ 9) ≤ 2 ^ 126)
+    by : (e : Bool) → is_exact_mode m h ≡ e → (1 ≤ cond e (value_scale m h) (10 ^ 9))
+        × (cond e (value_scale m h) (10 ^ 9) ≤ 2 ^ 126)
     by true mode = (scale_some m is h, scale_most m is h some (sym mode))
     by false mode = (omega arith, omega arith)

@@ -73,7 +73,8 @@ pub record IsWorthOfText (m : Model) (repaired : ℕ) (policy text : List ℕ) :
   pub horizon : ℕ
   pub trees : List PolicyTree
   pub says : IsPolicyText m policy horizon trees
-  pub tells : text ≡ value_text repaired (is_exact_mode m horizon) (pos (unit_of m horizon)) (worth_of m horizon trees)
+  pub tells : text ≡ value_text repaired (is_exact_mode m horizon) (pos (unit_of m horizon))
+      (worth_of m horizon trees)
 
 -- A file means a model, and the text tells the worth of the policy for it.
 pub record IsValueOfText (file policy text : List ℕ) : Type 0 where

@@ -42,7 +42,8 @@ tree_made n h rows q len is =
     is ∙ ap (λ r. tree_doing_after n (action_in rows) r 0 0) steps
 
 -- one tree more is made
-pub one_tree_more : (h i : ℕ) (ns : List ℕ) (agents : List (List (List ℕ))) (before after : List PTree) (t : PTree) (all : List PolicyTree)
+pub one_tree_more : (h i : ℕ) (ns : List ℕ) (agents : List (List (List ℕ))) (before after : List PTree) (t : PTree)
+    (all : List PolicyTree)
     → i < length ns → i < length agents → after ≡ before ++ t ∷ []
     → policy_tree t ≡ tree_of_rows (get_or ns i 0) h (get_or agents i [])
     → map policy_tree before ++ trees_of_rows h (drop i ns) (drop i agents) ≡ all
@@ -50,7 +51,8 @@ pub one_tree_more : (h i : ℕ) (ns : List ℕ) (agents : List (List (List ℕ))
 one_tree_more h i ns agents before after t all ln la grown is so_far =
     let next : i + 1 ≡ suc i = omega arith in
     let behind = trees_of_rows h (drop (suc i) ns) (drop (suc i) agents) in
-    let parts : trees_of_rows h (drop i ns) (drop i agents) ≡ tree_of_rows (get_or ns i 0) h (get_or agents i []) ∷ trees_of_rows h (drop (suc i) ns) (drop (suc i) agents) =
+    let parts : trees_of_rows h (drop i ns) (drop i agents) ≡ tree_of_rows (get_or ns i 0) h
+    (get_or agents i []) ∷ trees_of_rows h (drop (suc i) ns) (drop (suc i) agents) =
     λ j. trees_of_rows h (drop-cons ns i 0 ln j) (drop-cons agents i [] la j) in
     (λ j. map policy_tree (grown j) ++ trees_of_rows h (drop (next j) ns) (drop (next j) agents))
     ∙ ap (λ l. l ++ behind) (map-append policy_tree before (t ∷ []))
@@ -60,10 +62,12 @@ one_tree_more h i ns agents before after t all ln la grown is so_far =
     ∙ so_far
 
 -- the rows of an agent, as code reads them
-pub stages_are : (agents : Vec (Vec (Vec ℕ Global) Global) Global) (i : ℕ) (v : Vec (Vec ℕ Global) Global) (stages : List (Vec ℕ Global))
+pub stages_are : (agents : Vec (Vec (Vec ℕ Global) Global) Global) (i : ℕ) (v : Vec (Vec ℕ Global) Global)
+    (stages : List (Vec ℕ Global))
     → i < length agents.items → v ≡ get_or agents.items i v → stages ≡ v.items
     → get_or (agents_of agents) i [] ≡ map (λ row. row.items) stages
-stages_are agents i v stages lt is same = mapped_at rows_of agents.items i [] v lt is ∙ ap (map (λ row. row.items)) (sym same)
+stages_are agents i v stages lt is same = mapped_at rows_of agents.items i [] v lt is
+    ∙ ap (map (λ row. row.items)) (sym same)
 
 -- what is known of them
 pub record AreAgentStages (n h : ℕ) (stages : List (Vec ℕ Global)) : Type 0 where

@@ -15,7 +15,8 @@ use Rattle.dp_policy.proofs.RowsOfTrees.{more_nexts, no_nexts}
 -- two rows of stage t have one action, and next rows of equal kinds after the first k observations
 pub record AreAlikeUpTo (stages : AgentRows) (t : ℕ) (later : List ℕ) (k r s : ℕ) : Type 0 where
   pub action : (row_at stages t r).action ≡ (row_at stages t s).action
-  pub nexts : (o : ℕ) → o < k → get_or later (get_or (row_at stages t r).next o 0) 0 ≡ get_or later (get_or (row_at stages t s).next o 0) 0
+  pub nexts : (o : ℕ) → o < k → get_or later (get_or (row_at stages t r).next o 0) 0 ≡ get_or later
+      (get_or (row_at stages t s).next o 0) 0
 
 -- a number for each row of stage t, the same for two rows exactly where they are alike so far, and none above its row
 pub record AreKindsUpTo (stages : AgentRows) (t : ℕ) (later : List ℕ) (k : ℕ) (kinds : List ℕ) : Type 0 where
@@ -26,13 +27,15 @@ pub record AreKindsUpTo (stages : AgentRows) (t : ℕ) (later : List ℕ) (k : �
 
 module _ (stages : AgentRows) (t : ℕ) (later : List ℕ) where
   pub kinds_first : (actions kinds : List ℕ)
-      → actions ≡ map (λ r. (row_at stages t r).action) (range_with_len 0 (row_count stages t)) → ArePairNumbers actions actions kinds
+      → actions ≡ map (λ r. (row_at stages t r).action) (range_with_len 0 (row_count stages t))
+      → ArePairNumbers actions actions kinds
       → AreKindsUpTo stages t later 0 kinds
   kinds_first actions kinds is pairs =
       let f = λ (r : ℕ). (row_at stages t r).action in
       let n = row_count stages t in
       let all : length actions ≡ n = ap length is ∙ length-map-range_with_len f 0 n in
-      let at = λ (r : ℕ) (lr : r < n). ap (λ (l : List ℕ). get_or l r 0) is ∙ get_or-map-range_with_len f 0 n r r 0 lr (omega arith) in
+      let at = λ (r : ℕ) (lr : r < n). ap (λ (l : List ℕ). get_or l r 0) is
+      ∙ get_or-map-range_with_len f 0 n r r 0 lr (omega arith) in
       record {
         counted = pairs.counted ∙ all;
         most = λ r lr. pairs.most r (omega arith);
@@ -48,13 +51,15 @@ module _ (stages : AgentRows) (t : ℕ) (later : List ℕ) where
       }
 
   pub kinds_step : (k : ℕ) (kinds following more : List ℕ) → AreKindsUpTo stages t later k kinds
-      → following ≡ map (λ r. get_or later (get_or (row_at stages t r).next k 0) 0) (range_with_len 0 (row_count stages t))
+      → following ≡ map (λ r. get_or later (get_or (row_at stages t r).next k 0) 0)
+      (range_with_len 0 (row_count stages t))
       → ArePairNumbers kinds following more → AreKindsUpTo stages t later (suc k) more
   kinds_step k kinds following more so_far is pairs =
       let f = λ (r : ℕ). get_or later (get_or (row_at stages t r).next k 0) 0 in
       let n = row_count stages t in
       let all = so_far.counted in
-      let at = λ (r : ℕ) (lr : r < n). ap (λ (l : List ℕ). get_or l r 0) is ∙ get_or-map-range_with_len f 0 n r r 0 lr (omega arith) in
+      let at = λ (r : ℕ) (lr : r < n). ap (λ (l : List ℕ). get_or l r 0) is
+      ∙ get_or-map-range_with_len f 0 n r r 0 lr (omega arith) in
       record {
         counted = pairs.counted ∙ all;
         most = λ r lr. pairs.most r (omega arith);
@@ -68,13 +73,15 @@ module _ (stages : AgentRows) (t : ℕ) (later : List ℕ) where
                   | inl early ↦ alike.nexts o early
                   | inr late ↦
                       let here : k ≡ o = omega arith in
-                      subst (λ (z : ℕ). get_or later (get_or (row_at stages t r).next z 0) 0 ≡ get_or later (get_or (row_at stages t s).next z 0) 0) here
+                      subst (λ (z : ℕ). get_or later (get_or (row_at stages t r).next z 0) 0 ≡ get_or later
+                      (get_or (row_at stages t s).next z 0) 0) here
                       (sym (at r lr) ∙ both.1 ∙ at s ls)
                 ];
               },
           λ alike.
               (pairs.same r s (omega arith) (omega arith)).1 (
-                (so_far.same r s lr ls).1 (record { action = alike.action; nexts = λ o lo. alike.nexts o (omega arith) }),
+                (so_far.same r s lr ls).1 (record
+                    { action = alike.action; nexts = λ o lo. alike.nexts o (omega arith) }),
                 at r lr ∙ alike.nexts k (omega arith) ∙ sym (at s ls),
               ),
         );
@@ -94,7 +101,9 @@ trees_alike_of g (x ∷ xs) (y ∷ ys) e each =
 -- rows with equal actions and trees that are equal after each observation have equal trees
 pub rows_trees_alike : (stages : AgentRows) (t r s : ℕ) → (row_at stages t r).action ≡ (row_at stages t s).action
     → length (row_at stages t r).next ≡ length (row_at stages t s).next
-    → ((o : ℕ) → o < length (row_at stages t r).next → rows_tree stages (suc t) (get_or (row_at stages t r).next o 0) ≡ rows_tree stages (suc t) (get_or (row_at stages t s).next o 0))
+    → ((o : ℕ) → o < length (row_at stages t r).next
+    → rows_tree stages (suc t) (get_or (row_at stages t r).next o 0) ≡ rows_tree stages (suc t)
+    (get_or (row_at stages t s).next o 0))
     → rows_tree stages t r ≡ rows_tree stages t s
 rows_trees_alike stages t r s act len each =
     let subs = trees_alike_of (rows_tree stages (suc t)) (row_at stages t r).next (row_at stages t s).next len each in
@@ -102,7 +111,8 @@ rows_trees_alike stages t r s act len each =
 
 module _ (b n h : ℕ) (stages : AgentRows) (are : AreAgentRows b n h stages) (t : ℕ) (lt : t < h) (nexts : ℕ) (each : (r : ℕ) → r < row_count stages t → length (row_at stages t r).next ≡ nexts) where
   -- with all observations passed
-  pub kinds_end : (later kinds : List ℕ) (k : ℕ) → k ≡ nexts → (0 < nexts → suc t < h) → (suc t < h → AreKinds stages (suc t) later)
+  pub kinds_end : (later kinds : List ℕ) (k : ℕ) → k ≡ nexts → (0 < nexts → suc t < h)
+      → (suc t < h → AreKinds stages (suc t) later)
       → AreKindsUpTo stages t later k kinds → AreKinds stages t kinds
   kinds_end later kinds k all more next so_far = record {
     counted = so_far.counted;
@@ -116,7 +126,8 @@ module _ (b n h : ℕ) (stages : AgentRows) (are : AreAgentRows b n h stages) (t
           (λ o lo.
           let step = more (omega arith) in
           let kinds = next step in
-          ((kinds.same _ _ (inside step r o lr (omega arith)) (inside step s o ls (omega arith))).0 (alike.nexts o (omega arith)))),
+          ((kinds.same _ _ (inside step r o lr (omega arith)) (inside step s o ls (omega arith))).0
+          (alike.nexts o (omega arith)))),
       λ same.
           let er = each r lr in
           let es = each s ls in
@@ -125,12 +136,14 @@ module _ (b n h : ℕ) (stages : AgentRows) (are : AreAgentRows b n h stages) (t
             nexts = λ o lo.
                 let step = more (omega arith) in
                 (((next step).same _ _ (inside step r o lr (omega arith)) (inside step s o ls (omega arith))).1
-                (sym (subtree_of_row stages t r o (omega arith)) ∙ ap (λ (q : PolicyTree). subtree q o) same ∙ subtree_of_row stages t s o (omega arith)));
+                (sym (subtree_of_row stages t r o (omega arith)) ∙ ap (λ (q : PolicyTree). subtree q o) same
+                ∙ subtree_of_row stages t s o (omega arith)));
           }),
     );
   }
     where
-      inside : suc t < h → (r o : ℕ) → r < row_count stages t → o < nexts → get_or (row_at stages t r).next o 0 < row_count stages (suc t)
+      inside : suc t < h → (r o : ℕ) → r < row_count stages t → o < nexts
+          → get_or (row_at stages t r).next o 0 < row_count stages (suc t)
       inside step r o lr lo =
           let size = are.of_horizon in
           let alike = row_nexts b n stages are.rows t r (omega arith) lr in
@@ -153,7 +166,8 @@ module _ (b n h : ℕ) (stages : AgentRows) (are : AreAgentRows b n h stages) (t
     | inr le ↦ let e = no_nexts n h t le in absurd (omega arith)
   ]
 
-  pub nexts_inside : (r o : ℕ) → r < row_count stages t → o < nexts → get_or (row_at stages t r).next o 0 < row_count stages (suc t)
+  pub nexts_inside : (r o : ℕ) → r < row_count stages t → o < nexts
+      → get_or (row_at stages t r).next o 0 < row_count stages (suc t)
   nexts_inside r o lr lo =
       let step = goes_on (omega arith) in
       let size = are.of_horizon in
@@ -165,10 +179,12 @@ pub kinds_push : (stages : AgentRows) (h n t : ℕ) (lists : List (List ℕ)) (k
     → ((k : ℕ) → k < n → AreKinds stages (h - suc k) (get_or lists k [])) → t ≡ h - suc n → AreKinds stages t kinds
     → (k : ℕ) → k < n + 1 → AreKinds stages (h - suc k) (get_or (lists ++ kinds ∷ []) k [])
 kinds_push stages h n t lists kinds e before is here k lt = elim (cases_lt k n) [
-  | inl early ↦ subst (AreKinds stages (h - suc k)) (sym (get_or-append lists (kinds ∷ []) [] k (omega arith))) (before k early)
+  | inl early ↦ subst (AreKinds stages (h - suc k)) (sym (get_or-append lists (kinds ∷ []) [] k (omega arith)))
+      (before k early)
   | inr late ↦
       let same : n ≡ k = omega arith in
       subst (λ (z : ℕ). AreKinds stages (h - suc z) (get_or (lists ++ kinds ∷ []) z [])) same
-      (subst (AreKinds stages (h - suc n)) (sym (ap (λ (z : ℕ). get_or (lists ++ kinds ∷ []) z []) (sym e) ∙ get_or-append_seam lists kinds [] []))
+      (subst (AreKinds stages (h - suc n))
+      (sym (ap (λ (z : ℕ). get_or (lists ++ kinds ∷ []) z []) (sym e) ∙ get_or-append_seam lists kinds [] []))
       (subst (λ (z : ℕ). AreKinds stages z kinds) is here))
 ]

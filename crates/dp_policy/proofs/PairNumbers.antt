@@ -49,7 +49,8 @@ module _ (key : ℕ → ℕ) (k : ℕ) (known next : ℕ → Option ℕ) (number
       | inr late ↦
           let here : k ≡ i = omega arith in
           let first = from.0 in
-          subst (λ (j : ℕ). get_or (numbers ++ z ∷ []) j 0 ≤ j) here (rw (last_of numbers z k so_far.counted) (omega arith))
+          subst (λ (j : ℕ). get_or (numbers ++ z ∷ []) j 0 ≤ j) here
+          (rw (last_of numbers z k so_far.counted) (omega arith))
     ];
     has = λ i lt. elim (cases_lt i k) [
       | inl early ↦
@@ -61,7 +62,8 @@ module _ (key : ℕ → ℕ) (k : ℕ) (known next : ℕ → Option ℕ) (number
           ])
       | inr late ↦
           let here : k ≡ i = omega arith in
-          subst (λ (j : ℕ). next (key j) ≡ Some (get_or (numbers ++ z ∷ []) j 0)) here (has ∙ ap (λ (x : ℕ). Some x) (sym (last_of numbers z k so_far.counted)))
+          subst (λ (j : ℕ). next (key j) ≡ Some (get_or (numbers ++ z ∷ []) j 0)) here
+          (has ∙ ap (λ (x : ℕ). Some x) (sym (last_of numbers z k so_far.counted)))
     ];
     origin = λ q w is. elim (cases_eq q (key k)) [
       | inl same ↦
@@ -89,7 +91,8 @@ numbered_none key known none = record {
 
 -- with all places numbered
 pub numbered_all : (xs ys : List ℕ) (n : ℕ) (known : ℕ → Option ℕ) (numbers : List ℕ)
-    → AreNumbered (λ i. number_of_pair (get_or xs i 0) (get_or ys i 0)) n known numbers → n ≡ length xs → ((i : ℕ) → get_or ys i 0 < 2 ^ 32)
+    → AreNumbered (λ i. number_of_pair (get_or xs i 0) (get_or ys i 0)) n known numbers → n ≡ length xs
+    → ((i : ℕ) → get_or ys i 0 < 2 ^ 32)
     → ArePairNumbers xs ys numbers
 numbered_all xs ys n known numbers all e small = record {
   counted = all.counted ∙ e;
@@ -102,6 +105,7 @@ numbered_all xs ys n known numbers all e small = record {
         sym mine ∙ ap (λ (z : ℕ). number_of_pair (get_or xs z 0) (get_or ys z 0)) same ∙ yours in
         same_parts (2 ^ 32) (get_or xs i 0) (get_or ys i 0) (get_or xs j 0) (get_or ys j 0) (small i) (small j) keys,
     λ both.
-        some_is (sym (all.has i (omega arith)) ∙ ap known (λ k. number_of_pair (both.0 k) (both.1 k)) ∙ all.has j (omega arith)),
+        some_is (sym (all.has i (omega arith)) ∙ ap known (λ k. number_of_pair (both.0 k) (both.1 k))
+        ∙ all.has j (omega arith)),
   );
 }

@@ -30,16 +30,23 @@ replicate_items (suc k) low high = replicate_items k low high
 stages_proper : (L : Type 0) (b n t left : ℕ) → IsProper {L = L} (stage_rows b n t left)
 stages_proper L b n t zero = tt
 stages_proper L b n t (suc left) =
-    IsProper-bind (the_numbers (row_form b n t)) (λ row. stage_rows b n (t + 1) left >>= λ others. ends (map unsigned_abs row ∷ others)) (numbers_proper L (row_form b n t) (replicate_items (n ^ t) 0 _))
-    (λ row. IsProper-bind (stage_rows b n (t + 1) left) (λ others. ends (map unsigned_abs row ∷ others)) (stages_proper L b n (t + 1) left) (λ others. tt))
+    IsProper-bind (the_numbers (row_form b n t)) (λ row. stage_rows b n (t + 1) left >>= λ others. ends
+    (map unsigned_abs row ∷ others)) (numbers_proper L (row_form b n t) (replicate_items (n ^ t) 0 _))
+    (λ row. IsProper-bind (stage_rows b n (t + 1) left) (λ others. ends (map unsigned_abs row ∷ others))
+    (stages_proper L b n (t + 1) left) (λ others. tt))
 
-pub agents_proper : (L : Type 0) (h agent : ℕ) (bs ns : List ℕ) → agent + length bs < 10 ^ 64 → IsProper {L = L} (agent_rows h agent bs ns)
+pub agents_proper : (L : Type 0) (h agent : ℕ) (bs ns : List ℕ) → agent + length bs < 10 ^ 64
+    → IsProper {L = L} (agent_rows h agent bs ns)
 agents_proper L h agent [] ns few = tt
 agents_proper L h agent (b ∷ bs) [] few = tt
 agents_proper L h agent (b ∷ bs) (n ∷ ns) few =
-    IsProper-bind (the_words (agent_words agent)) (λ title. stage_rows b n 0 h >>= λ rows. agent_rows h (agent + 1) bs ns >>= λ others. ends (rows ∷ others)) (words_proper L (agent_words agent) (agent_words_are agent (omega arith)))
-    (λ title. IsProper-bind (stage_rows b n 0 h) (λ rows. agent_rows h (agent + 1) bs ns >>= λ others. ends (rows ∷ others)) (stages_proper L b n 0 h)
-    (λ rows. IsProper-bind (agent_rows h (agent + 1) bs ns) (λ others. ends (rows ∷ others)) (agents_proper L h (agent + 1) bs ns (omega arith)) (λ others. tt)))
+    IsProper-bind (the_words (agent_words agent)) (λ title. stage_rows b n 0 h >>= λ rows. agent_rows h (agent + 1)
+    bs ns >>= λ others. ends (rows ∷ others)) (words_proper L (agent_words agent)
+    (agent_words_are agent (omega arith)))
+    (λ title. IsProper-bind (stage_rows b n 0 h) (λ rows. agent_rows h (agent + 1) bs ns >>= λ others. ends
+    (rows ∷ others)) (stages_proper L b n 0 h)
+    (λ rows. IsProper-bind (agent_rows h (agent + 1) bs ns) (λ others. ends (rows ∷ others))
+    (agents_proper L h (agent + 1) bs ns (omega arith)) (λ others. tt)))
 
 unless_proper : (o : Option TooLarge) → IsProper (unless_passed o)
 unless_proper None = tt
@@ -49,8 +56,15 @@ pub policy_proper : (m : Model) → IsModel m → IsProper (policy_grammar m)
 unfolding policy_grammar
 policy_proper m is =
     let few = is.sizes.agents_limit in
-    IsProper-bind (the_words (title_words (codes "policy"))) (λ title. behind_title m) (words_proper TooLarge (title_words (codes "policy")) (assumption, (assumption, (assumption, tt))))
-    (λ title. IsProper-bind (the_numbers horizon_form) (behind_horizon m) (numbers_proper TooLarge horizon_form (assumption, tt))
-    (λ zs. IsProper-bind (unless_passed (first_passed (horizon_limits m (first_plain zs)))) (λ kept. behind_limits m (first_plain zs)) (unless_proper (first_passed (horizon_limits m (first_plain zs))))
-    (λ kept. IsProper-bind (agent_rows (first_plain zs) 0 m.actions m.observations) (behind_agents (first_plain zs)) (agents_proper TooLarge (first_plain zs) 0 m.actions m.observations (omega (arith, few)))
-    (λ agents. IsProper-bind {L = TooLarge} {W = PolicyActions} (the_words end_words) (λ end. ends (record { horizon = first_plain zs; agents = agents })) (words_proper TooLarge end_words (assumption, tt)) (λ end. tt)))))
+    IsProper-bind (the_words (title_words (codes "policy"))) (λ title. behind_title m)
+    (words_proper TooLarge (title_words (codes "policy")) (assumption, (assumption, (assumption, tt))))
+    (λ title. IsProper-bind (the_numbers horizon_form) (behind_horizon m)
+    (numbers_proper TooLarge horizon_form (assumption, tt))
+    (λ zs. IsProper-bind (unless_passed (first_passed (horizon_limits m (first_plain zs))))
+    (λ kept. behind_limits m (first_plain zs)) (unless_proper (first_passed (horizon_limits m (first_plain zs))))
+    (λ kept. IsProper-bind (agent_rows (first_plain zs) 0 m.actions m.observations)
+    (behind_agents (first_plain zs)) (agents_proper TooLarge (first_plain zs) 0 m.actions m.observations
+    (omega (arith, few)))
+    (λ agents. IsProper-bind {L = TooLarge} {W = PolicyActions} (the_words end_words)
+    (λ end. ends (record { horizon = first_plain zs; agents = agents }))
+    (words_proper TooLarge end_words (assumption, tt)) (λ end. tt)))))

@@ -57,20 +57,28 @@ policy_fits m is bytes rest e =
     let s = split (the_words (title_words (codes "policy"))) (λ title. behind_title m) 1 bytes rest e in
     let t = split (the_numbers horizon_form) (behind_horizon m) s.mid.line s.mid.bytes rest s.behind in
     let horizon = line_is horizon_form s.mid.line s.mid.bytes t.mid (assumption, tt) t.front in
-    let u = split (unless_passed (first_passed (horizon_limits m (first_plain t.mid.value)))) (λ kept. behind_limits m (first_plain t.mid.value)) t.mid.line t.mid.bytes rest t.behind in
-    let v = split (agent_rows (first_plain t.mid.value) 0 m.actions m.observations) (behind_agents (first_plain t.mid.value)) u.mid.line u.mid.bytes rest u.behind in
-    let w = split (the_words end_words) (λ end. ends (record { horizon = first_plain t.mid.value; agents = v.mid.value })) v.mid.line v.mid.bytes rest v.behind in
-    let one : Rest PolicyActions = rest_at (record { horizon = first_plain t.mid.value; agents = v.mid.value }) w.mid.line w.mid.bytes in
+    let u = split (unless_passed (first_passed (horizon_limits m (first_plain t.mid.value))))
+    (λ kept. behind_limits m (first_plain t.mid.value)) t.mid.line t.mid.bytes rest t.behind in
+    let v = split (agent_rows (first_plain t.mid.value) 0 m.actions m.observations)
+    (behind_agents (first_plain t.mid.value)) u.mid.line u.mid.bytes rest u.behind in
+    let w = split (the_words end_words) (λ end. ends (record
+    { horizon = first_plain t.mid.value; agents = v.mid.value })) v.mid.line v.mid.bytes rest v.behind in
+    let one : Rest PolicyActions = rest_at (record { horizon = first_plain t.mid.value; agents = v.mid.value })
+    w.mid.line w.mid.bytes in
     let h = horizon_fits t.mid.value horizon.allowed in
     subst (λ (r : Rest PolicyActions). IsRead m r.value) (same_rest one rest w.behind) (record {
-      rows = agents_fit (first_plain t.mid.value) 0 m.actions m.observations u.mid.line u.mid.bytes v.mid (sym is.sizes.alike) (λ i lt. action_some m i is lt) v.front;
-      passes = none_passed (first_passed (horizon_limits m (first_plain t.mid.value))) t.mid.line t.mid.bytes u.mid u.front;
+      rows = agents_fit (first_plain t.mid.value) 0 m.actions m.observations u.mid.line u.mid.bytes v.mid
+          (sym is.sizes.alike) (λ i lt. action_some m i is lt) v.front;
+      passes = none_passed (first_passed (horizon_limits m (first_plain t.mid.value)))
+          t.mid.line t.mid.bytes u.mid u.front;
       some = h.0;
       wide = h.1;
     })
 
-pub read_fits : (m : Model) → IsModel m → (bytes : List ℕ) (p : PolicyActions) → text_from (policy_grammar m) 1 bytes ≡ Ok p → IsRead m p
-read_fits m is bytes p e = let w = whole_is (policy_grammar m) bytes p e in policy_fits m is bytes (rest_at p w.line []) w.front
+pub read_fits : (m : Model) → IsModel m → (bytes : List ℕ) (p : PolicyActions)
+    → text_from (policy_grammar m) 1 bytes ≡ Ok p → IsRead m p
+read_fits m is bytes p e = let w = whole_is (policy_grammar m) bytes p e in
+    policy_fits m is bytes (rest_at p w.line []) w.front
 
 -- ---- the trees of rows
 
@@ -85,10 +93,12 @@ trees_fit h (b ∷ bs) (n ∷ ns) (rows ∷ agents) are =
     and_agent (tree_of_actions b n h (action_in rows) are.0.actions).0 (trees_fit h bs ns agents are.1)
 
 -- the tree of rows has these rows
-own_rows : (b n h : ℕ) (rows : List (List ℕ)) → AreActionRows b n h rows → tree_rows n (tree_of_rows n h rows) 0 h ≡ rows
+own_rows : (b n h : ℕ) (rows : List (List ℕ)) → AreActionRows b n h rows
+    → tree_rows n (tree_of_rows n h rows) 0 h ≡ rows
 own_rows b n h rows are =
     sym (fill_by_all (row_actions n (tree_of_rows n h rows)) rows h [] are.stages
-    (λ t lt. fill_by_all (λ x. root_action (tree_at n (tree_of_rows n h rows) t x)) (get_or rows t []) (n ^ t) 0 (are.histories t lt)
+    (λ t lt. fill_by_all (λ x. root_action (tree_at n (tree_of_rows n h rows) t x)) (get_or rows t []) (n ^ t) 0
+    (are.histories t lt)
     (λ x in_row. sym (does-tree_doing n (action_in rows) h t x lt in_row))))
 
 all_rows : (h : ℕ) (bs ns : List ℕ) (agents : List (List (List ℕ))) → AreAgentsRows h bs ns agents
@@ -107,13 +117,16 @@ all_rows h (b ∷ bs) (n ∷ ns) (rows ∷ agents) are =
 abbrev pub said : Model → PolicyActions → SaidPolicy
 said m p = record { horizon = p.horizon; trees = trees_of_rows p.horizon m.observations p.agents }
 
-pub read_says : (m : Model) → IsModel m → (bytes : List ℕ) (p : PolicyActions) → text_from (policy_grammar m) 1 bytes ≡ Ok p
+pub read_says : (m : Model) → IsModel m → (bytes : List ℕ) (p : PolicyActions)
+    → text_from (policy_grammar m) 1 bytes ≡ Ok p
     → IsPolicyAnswer m bytes (Ok (said m p))
 read_says m is bytes p e =
     let fits = read_fits m is bytes p e in
-    let text = subst (IsAnswer (policy_grammar m) 1 bytes) e (read_answer (policy_grammar m) (policy_proper m is) 1 bytes) in
+    let text = subst (IsAnswer (policy_grammar m) 1 bytes) e
+    (read_answer (policy_grammar m) (policy_proper m is) 1 bytes) in
     let qs = trees_of_rows p.horizon m.observations p.agents in
-    let policy : IsPolicyOf m p.horizon (trees_of_rows p.horizon m.observations p.agents) = trees_fit p.horizon m.actions m.observations p.agents fits.rows in
+    let policy : IsPolicyOf m p.horizon (trees_of_rows p.horizon m.observations p.agents) =
+    trees_fit p.horizon m.actions m.observations p.agents fits.rows in
     let whole = policy_has_text m is p.horizon qs fits.some fits.wide policy in (
       record {
         policy = policy;
@@ -126,12 +139,16 @@ read_says m is bytes p e =
       fits.passes,
     )
 
-fault_says : (m : Model) → IsModel m → (bytes : List ℕ) (fault : Fault TooLarge) → text_from (policy_grammar m) 1 bytes ≡ Err fault
+fault_says : (m : Model) → IsModel m → (bytes : List ℕ) (fault : Fault TooLarge)
+    → text_from (policy_grammar m) 1 bytes ≡ Err fault
     → IsPolicyAnswer m bytes (Err fault)
-fault_says m is bytes (bad line why) e = subst (IsAnswer (policy_grammar m) 1 bytes) e (read_answer (policy_grammar m) (policy_proper m is) 1 bytes)
-fault_says m is bytes (limit passed) e = subst (IsAnswer (policy_grammar m) 1 bytes) e (read_answer (policy_grammar m) (policy_proper m is) 1 bytes)
+fault_says m is bytes (bad line why) e = subst (IsAnswer (policy_grammar m) 1 bytes) e
+    (read_answer (policy_grammar m) (policy_proper m is) 1 bytes)
+fault_says m is bytes (limit passed) e = subst (IsAnswer (policy_grammar m) 1 bytes) e
+    (read_answer (policy_grammar m) (policy_proper m is) 1 bytes)
 
-pub fails_says : (m : Model) → IsModel m → (bytes : List ℕ) (fault : PolicyFault) → Fails fault (text_from (policy_grammar m) 1 bytes)
+pub fails_says : (m : Model) → IsModel m → (bytes : List ℕ) (fault : PolicyFault)
+    → Fails fault (text_from (policy_grammar m) 1 bytes)
     → HasPolicyFault m bytes fault
 fails_says m is bytes (faults.At line why) e = fault_says m is bytes (bad line why) e
 fails_says m is bytes (faults.TooLarge passed) e = fault_says m is bytes (limit passed) e
@@ -139,17 +156,25 @@ fails_says m is bytes faults.Memory e = tt
 
 -- an answer is what is computed
 pub said_is_computed : (m : Model) → IsModel m → (bytes : List ℕ) (p : SaidPolicy) → IsPolicyAnswer m bytes (Ok p)
-    → text_from (policy_grammar m) 1 bytes ≡ Ok (record { horizon = p.horizon; agents = policy_actions p.horizon m.observations p.trees })
+    → text_from (policy_grammar m) 1 bytes ≡ Ok (record {
+      horizon = p.horizon;
+      agents = policy_actions p.horizon m.observations p.trees;
+    })
 said_is_computed m is bytes p answer =
-    one_answer (policy_grammar m) (policy_proper m is) 1 bytes _ (Ok (record { horizon = p.horizon; agents = policy_actions p.horizon m.observations p.trees }))
-    (read_answer (policy_grammar m) (policy_proper m is) 1 bytes) (policy_text_says m is bytes p.horizon p.trees answer.0 answer.1)
+    one_answer (policy_grammar m) (policy_proper m is) 1 bytes _
+    (Ok (record { horizon = p.horizon; agents = policy_actions p.horizon m.observations p.trees }))
+    (read_answer (policy_grammar m) (policy_proper m is) 1 bytes)
+    (policy_text_says m is bytes p.horizon p.trees answer.0 answer.1)
 
-pub fault_is_computed : (m : Model) → IsModel m → (bytes : List ℕ) (fault : Fault TooLarge) → IsPolicyAnswer m bytes (Err fault)
+pub fault_is_computed : (m : Model) → IsModel m → (bytes : List ℕ) (fault : Fault TooLarge)
+    → IsPolicyAnswer m bytes (Err fault)
     → text_from (policy_grammar m) 1 bytes ≡ Err fault
 fault_is_computed m is bytes (bad line why) answer =
-    one_answer (policy_grammar m) (policy_proper m is) 1 bytes _ (Err (bad line why)) (read_answer (policy_grammar m) (policy_proper m is) 1 bytes) answer
+    one_answer (policy_grammar m) (policy_proper m is) 1 bytes _ (Err (bad line why))
+    (read_answer (policy_grammar m) (policy_proper m is) 1 bytes) answer
 fault_is_computed m is bytes (limit passed) answer =
-    one_answer (policy_grammar m) (policy_proper m is) 1 bytes _ (Err (limit passed)) (read_answer (policy_grammar m) (policy_proper m is) 1 bytes) answer
+    one_answer (policy_grammar m) (policy_proper m is) 1 bytes _ (Err (limit passed))
+    (read_answer (policy_grammar m) (policy_proper m is) 1 bytes) answer
 
 -- ---- one answer
 
@@ -158,12 +183,14 @@ abbrev as_answer : Model → Result PolicyActions (Fault TooLarge) → Result Sa
 as_answer m (Ok p) = Ok (said m p)
 as_answer m (Err fault) = Err fault
 
-answers : (m : Model) → IsModel m → (bytes : List ℕ) (r : Result PolicyActions (Fault TooLarge)) → text_from (policy_grammar m) 1 bytes ≡ r
+answers : (m : Model) → IsModel m → (bytes : List ℕ) (r : Result PolicyActions (Fault TooLarge))
+    → text_from (policy_grammar m) 1 bytes ≡ r
     → IsPolicyAnswer m bytes (as_answer m r)
 answers m is bytes (Ok p) e = read_says m is bytes p e
 answers m is bytes (Err fault) e = fault_says m is bytes fault e
 
-no_other : (m : Model) → IsModel m → (bytes : List ℕ) (r : Result PolicyActions (Fault TooLarge)) → text_from (policy_grammar m) 1 bytes ≡ r
+no_other : (m : Model) → IsModel m → (bytes : List ℕ) (r : Result PolicyActions (Fault TooLarge))
+    → text_from (policy_grammar m) 1 bytes ≡ r
     → (s : Result SaidPolicy (Fault TooLarge)) → IsPolicyAnswer m bytes s → as_answer m r ≡ s
 no_other m is bytes (Ok p) e (Ok q) answer =
     let same = policy_text_injective m is bytes p.horizon q.horizon _ q.trees (read_says m is bytes p e).0 answer.0 in

@@ -39,7 +39,8 @@ record AreRowsFrom (b n t left : ℕ) (rows : List (List ℕ)) : Type 0 where
   actions : (k x : ℕ) → k < left → x < n ^ (t + k) → get_or (get_or rows k []) x 0 < b
 
 one_more : (b n t left : ℕ) (row : List ℕ) (rows : List (List ℕ)) → length row ≡ n ^ t
-    → ((x : ℕ) → x < n ^ t → get_or row x 0 < b) → AreRowsFrom b n (t + 1) left rows → AreRowsFrom b n t (suc left) (row ∷ rows)
+    → ((x : ℕ) → x < n ^ t → get_or row x 0 < b) → AreRowsFrom b n (t + 1) left rows
+    → AreRowsFrom b n t (suc left) (row ∷ rows)
 one_more b n t left row rows len below others = record {
   stages = ap suc others.stages;
   histories = λ k lt. by_place k lt;
@@ -59,15 +60,22 @@ stages_fit : (b n t left line : ℕ) (bytes : List ℕ) (rest : Rest (List (List
 stages_fit b n t zero line bytes rest some e =
     let one : Rest (List (List ℕ)) = rest_at [] line bytes in
     subst (λ (r : Rest (List (List ℕ))). AreRowsFrom b n t 0 r.value) (same_rest one rest e)
-    (record { stages = refl; histories = λ k lt. absurd (omega arith); actions = λ k x lt in_row. absurd (omega arith) })
+    (record {
+      stages = refl;
+      histories = λ k lt. absurd (omega arith);
+      actions = λ k x lt in_row. absurd (omega arith);
+    })
 stages_fit b n t (suc left) line bytes rest some e =
-    let s = split (the_numbers (row_form b n t)) (λ row. stage_rows b n (t + 1) left >>= λ others. ends (map unsigned_abs row ∷ others)) line bytes rest e in
+    let s = split (the_numbers (row_form b n t)) (λ row. stage_rows b n (t + 1) left >>= λ others. ends
+    (map unsigned_abs row ∷ others)) line bytes rest e in
     let row = line_is (row_form b n t) line bytes s.mid (replicate_items (n ^ t) 0 (b - 1)) s.front in
-    let u = split (stage_rows b n (t + 1) left) (λ others. ends (map unsigned_abs s.mid.value ∷ others)) s.mid.line s.mid.bytes rest s.behind in
+    let u = split (stage_rows b n (t + 1) left) (λ others. ends (map unsigned_abs s.mid.value ∷ others))
+    s.mid.line s.mid.bytes rest s.behind in
     let others = stages_fit b n (t + 1) left s.mid.line s.mid.bytes u.mid some u.front in
     let one : Rest (List (List ℕ)) = rest_at (map unsigned_abs s.mid.value ∷ u.mid.value) u.mid.line u.mid.bytes in
     subst (λ (r : Rest (List (List ℕ))). AreRowsFrom b n t (suc left) r.value) (same_rest one rest u.behind)
-    (one_more b n t left (map unsigned_abs s.mid.value) u.mid.value (row_length (n ^ t) (b - 1) s.mid.value row.allowed)
+    (one_more b n t left (map unsigned_abs s.mid.value) u.mid.value
+    (row_length (n ^ t) (b - 1) s.mid.value row.allowed)
     (λ x lt. let most = row_action (n ^ t) (b - 1) s.mid.value row.allowed x lt in omega arith) others)
 
 from_first : (b n h : ℕ) (rows : List (List ℕ)) → AreRowsFrom b n 0 h rows → AreActionRows b n h rows
@@ -88,11 +96,16 @@ agents_fit h agent [] [] line bytes rest alike some e =
 agents_fit h agent [] (n ∷ ns) line bytes rest alike some e = absurd (omega arith)
 agents_fit h agent (b ∷ bs) [] line bytes rest alike some e = absurd (omega arith)
 agents_fit h agent (b ∷ bs) (n ∷ ns) line bytes rest alike some e =
-    let s = split (the_words (agent_words agent)) (λ title. stage_rows b n 0 h >>= λ rows. agent_rows h (agent + 1) bs ns >>= λ others. ends (rows ∷ others)) line bytes rest e in
-    let u = split (stage_rows b n 0 h) (λ rows. agent_rows h (agent + 1) bs ns >>= λ others. ends (rows ∷ others)) s.mid.line s.mid.bytes rest s.behind in
+    let s = split (the_words (agent_words agent)) (λ title. stage_rows b n 0 h >>= λ rows. agent_rows h (agent + 1)
+    bs ns >>= λ others. ends (rows ∷ others)) line bytes rest e in
+    let u = split (stage_rows b n 0 h) (λ rows. agent_rows h (agent + 1) bs ns >>= λ others. ends (rows ∷ others))
+    s.mid.line s.mid.bytes rest s.behind in
     let rows = stages_fit b n 0 h s.mid.line s.mid.bytes u.mid (some 0 (omega arith)) u.front in
-    let v = split (agent_rows h (agent + 1) bs ns) (λ others. ends (u.mid.value ∷ others)) u.mid.line u.mid.bytes rest u.behind in
-    let others = agents_fit h (agent + 1) bs ns u.mid.line u.mid.bytes v.mid (omega arith) (λ i lt. some (suc i) (omega arith)) v.front in
+    let v = split (agent_rows h (agent + 1) bs ns) (λ others. ends (u.mid.value ∷ others))
+    u.mid.line u.mid.bytes rest u.behind in
+    let others = agents_fit h (agent + 1) bs ns u.mid.line u.mid.bytes v.mid (omega arith)
+    (λ i lt. some (suc i) (omega arith)) v.front in
     let one : Rest (List (List (List ℕ))) = rest_at (u.mid.value ∷ v.mid.value) v.mid.line v.mid.bytes in
-    subst (λ (r : Rest (List (List (List ℕ)))). AreAgentsRows h (b ∷ bs) (n ∷ ns) r.value) (same_rest one rest v.behind)
+    subst (λ (r : Rest (List (List (List ℕ)))). AreAgentsRows h (b ∷ bs) (n ∷ ns) r.value)
+    (same_rest one rest v.behind)
     (from_first b n h u.mid.value rows, others)

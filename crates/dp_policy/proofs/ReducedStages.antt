@@ -24,14 +24,17 @@ use Rattle.dp_policy.proofs.KindsOfRows.{goes_on, nexts_counted, nexts_inside}
 pub record IsReducedStage (stages : AgentRows) (h t : ℕ) (rows : List PolicyRow) (from to : List ℕ) : Type 0 where
   pub counted : length rows ≡ length from
   pub action : (j : ℕ) → j < length from → (get_or rows j no_row).action ≡ (row_at stages t (get_or from j 0)).action
-  pub nexts : (j : ℕ) → j < length from → length (get_or rows j no_row).next ≡ length (row_at stages t (get_or from j 0)).next
+  pub nexts : (j : ℕ) → j < length from
+      → length (get_or rows j no_row).next ≡ length (row_at stages t (get_or from j 0)).next
   pub below : (j o : ℕ) → j < length from → o < length (row_at stages t (get_or from j 0)).next
       → get_or (get_or rows j no_row).next o 0 < length to
   pub same : (j o : ℕ) → j < length from → o < length (row_at stages t (get_or from j 0)).next
-      → rows_tree stages (suc t) (get_or to (get_or (get_or rows j no_row).next o 0) 0) ≡ rows_tree stages (suc t) (get_or (row_at stages t (get_or from j 0)).next o 0)
+      → rows_tree stages (suc t) (get_or to (get_or (get_or rows j no_row).next o 0) 0) ≡ rows_tree stages (suc t)
+      (get_or (row_at stages t (get_or from j 0)).next o 0)
   pub in_order : AreInOrder 0 (all_nexts rows)
   pub read : read_after 0 (all_nexts rows) ≡ length to
-  pub apart : suc t < h → (x y : ℕ) → x < length to → y < length to → rows_tree stages (suc t) (get_or to x 0) ≡ rows_tree stages (suc t) (get_or to y 0) → x ≡ y
+  pub apart : suc t < h → (x y : ℕ) → x < length to → y < length to
+      → rows_tree stages (suc t) (get_or to x 0) ≡ rows_tree stages (suc t) (get_or to y 0) → x ≡ y
   pub inside : suc t < h → (x : ℕ) → x < length to → get_or to x 0 < row_count stages (suc t)
 
 -- the first t stages, with the rows that were reached at each
@@ -43,7 +46,8 @@ pub record AreReducedUpTo (stages : AgentRows) (h t : ℕ) (made : AgentRows) (r
   pub each : (u : ℕ) → u < t → IsReducedStage stages h u (get_or made u []) (met u) (met (suc u))
 
 pub reduced_first : (stages : AgentRows) (h : ℕ) → AreReducedUpTo stages h 0 [] (0 ∷ [])
-reduced_first stages h = record { met = λ u. 0 ∷ []; first = refl; now = refl; counted = refl; each = λ u lt. absurd (omega arith) }
+reduced_first stages h = record
+    { met = λ u. 0 ∷ []; first = refl; now = refl; counted = refl; each = λ u lt. absurd (omega arith) }
 
 module _ (b n h : ℕ) (stages : AgentRows) (are : AreAgentRows b n h stages) where
   -- rows that were reached are rows
@@ -53,19 +57,22 @@ module _ (b n h : ℕ) (stages : AgentRows) (are : AreAgentRows b n h stages) wh
       let e = sym so_far.first ∙ so_far.now in
       let one : j ≡ 0 = let count = ap length e in omega arith in
       let some : row_count stages 0 ≡ 1 = sym (first_count_is stages) ∙ are.one_first in
-      let at : get_or reached j 0 ≡ 0 = ap (λ (l : List ℕ). get_or l j 0) (sym e) ∙ ap (λ (z : ℕ). get_or (0 ∷ []) z 0) one in
+      let at : get_or reached j 0 ≡ 0 = ap (λ (l : List ℕ). get_or l j 0) (sym e)
+      ∙ ap (λ (z : ℕ). get_or (0 ∷ []) z 0) one in
       omega arith
   reached_inside (suc t) made reached lt so_far j lj =
       subst (λ (l : List ℕ). get_or l j 0 < row_count stages (suc t)) so_far.now
       ((so_far.each t (omega arith)).inside lt j (let e = ap length so_far.now in omega arith))
 
   -- a stage by its kinds
-  pub stage_by_kinds : (t : ℕ) → t < h → (nexts : ℕ) → nexts ≡ cond (nat_lt (suc t) h) n 0 → (kinds from to : List ℕ) (rows : List PolicyRow)
+  pub stage_by_kinds : (t : ℕ) → t < h → (nexts : ℕ) → nexts ≡ cond (nat_lt (suc t) h) n 0
+      → (kinds from to : List ℕ) (rows : List PolicyRow)
       → (suc t < h → AreKinds stages (suc t) kinds) → (h ≤ suc t → kinds ≡ [])
       → ((j : ℕ) → j < length from → get_or from j 0 < row_count stages t)
       → AreRenumbered stages t kinds (length from) from rows to
       → ((x : ℕ) → x < length to → get_or to x 0 < length kinds)
-      → ((x y : ℕ) → x < length to → y < length to → get_or kinds (get_or to x 0) 0 ≡ get_or kinds (get_or to y 0) 0 → x ≡ y)
+      → ((x y : ℕ) → x < length to → y < length to → get_or kinds (get_or to x 0) 0 ≡ get_or kinds (get_or to y 0) 0
+      → x ≡ y)
       → IsReducedStage stages h t rows from to
   stage_by_kinds t lt nexts is kinds from to rows next none inside made within apart = record {
     counted = made.counted;
@@ -80,7 +87,8 @@ module _ (b n h : ℕ) (stages : AgentRows) (are : AreAgentRows b n h stages) wh
         let x = get_or (get_or rows j no_row).next o 0 in
         let lx = made.below j o lj lo in
         let w = within x lx in
-        (K.same _ _ (omega arith) (nexts_inside b n h stages are t lt nexts is (get_or from j 0) o (inside j lj) (omega arith))).0 (made.same j o lj lo);
+        (K.same _ _ (omega arith) (nexts_inside b n h stages are t lt nexts is (get_or from j 0) o (inside j lj)
+        (omega arith))).0 (made.same j o lj lo);
     in_order = made.in_order;
     read = made.read;
     apart = λ step x y lx ly same.
@@ -93,7 +101,8 @@ module _ (b n h : ℕ) (stages : AgentRows) (are : AreAgentRows b n h stages) wh
   }
 
   -- one stage more
-  pub reduced_step : (t : ℕ) (made : AgentRows) (reached later : List ℕ) (rows : List PolicyRow) → AreReducedUpTo stages h t made reached
+  pub reduced_step : (t : ℕ) (made : AgentRows) (reached later : List ℕ) (rows : List PolicyRow)
+      → AreReducedUpTo stages h t made reached
       → IsReducedStage stages h t rows reached later → AreReducedUpTo stages h (suc t) (made ++ rows ∷ []) later
   reduced_step t made reached later rows so_far here = record {
     met = then;
@@ -103,14 +112,20 @@ module _ (b n h : ℕ) (stages : AgentRows) (are : AreAgentRows b n h stages) wh
     each = λ u lu. elim (cases_lt u t) [
       | inl early ↦
           let size = so_far.counted in
-          subst (λ (l : List ℕ). IsReducedStage stages h u (get_or (made ++ rows ∷ []) u []) l (then (suc u))) (sym (before u (omega arith)))
-          (subst (λ (l : List ℕ). IsReducedStage stages h u (get_or (made ++ rows ∷ []) u []) (so_far.met u) l) (sym (before (suc u) (omega arith)))
-          (subst (λ (r : List PolicyRow). IsReducedStage stages h u r (so_far.met u) (so_far.met (suc u))) (sym (get_or-append made (rows ∷ []) [] u (omega arith))) (so_far.each u early)))
+          subst (λ (l : List ℕ). IsReducedStage stages h u (get_or (made ++ rows ∷ []) u []) l (then (suc u)))
+          (sym (before u (omega arith)))
+          (subst (λ (l : List ℕ). IsReducedStage stages h u (get_or (made ++ rows ∷ []) u []) (so_far.met u) l)
+          (sym (before (suc u) (omega arith)))
+          (subst (λ (r : List PolicyRow). IsReducedStage stages h u r (so_far.met u) (so_far.met (suc u)))
+          (sym (get_or-append made (rows ∷ []) [] u (omega arith))) (so_far.each u early)))
       | inr late ↦
           let e : t ≡ u = omega arith in
-          let row : get_or (made ++ rows ∷ []) t [] ≡ rows = ap (λ (z : ℕ). get_or (made ++ rows ∷ []) z []) (sym so_far.counted) ∙ get_or-append_seam made rows [] [] in
+          let row : get_or (made ++ rows ∷ []) t [] ≡ rows =
+          ap (λ (z : ℕ). get_or (made ++ rows ∷ []) z []) (sym so_far.counted)
+          ∙ get_or-append_seam made rows [] [] in
           subst (λ (z : ℕ). IsReducedStage stages h z (get_or (made ++ rows ∷ []) z []) (then z) (then (suc z))) e
-          (subst (λ (l : List ℕ). IsReducedStage stages h t (get_or (made ++ rows ∷ []) t []) l (then (suc t))) (sym (before t (omega arith) ∙ so_far.now))
+          (subst (λ (l : List ℕ). IsReducedStage stages h t (get_or (made ++ rows ∷ []) t []) l (then (suc t)))
+          (sym (before t (omega arith) ∙ so_far.now))
           (subst (λ (l : List ℕ). IsReducedStage stages h t (get_or (made ++ rows ∷ []) t []) reached l) (sym last)
           (subst (λ (r : List PolicyRow). IsReducedStage stages h t r reached later) (sym row) here)))
     ];
@@ -151,13 +166,16 @@ module _ (b n h : ℕ) (stages : AgentRows) (are : AreAgentRows b n h stages) (s
       let e = all.first in
       let one : j ≡ 0 = let count = ap length e in omega arith in
       let rows : row_count stages 0 ≡ 1 = sym (first_count_is stages) ∙ are.one_first in
-      let at : get_or (all.met 0) j 0 ≡ 0 = ap (λ (l : List ℕ). get_or l j 0) e ∙ ap (λ (z : ℕ). get_or (0 ∷ []) z 0) one in
+      let at : get_or (all.met 0) j 0 ≡ 0 = ap (λ (l : List ℕ). get_or l j 0) e
+      ∙ ap (λ (z : ℕ). get_or (0 ∷ []) z 0) one in
       omega arith
   met_inside (suc t) lt j lj = (all.each t (omega arith)).inside lt j lj
 
   -- a reached row has as many next rows as there are observations
-  old_nexts : (t : ℕ) → suc t < h → (j : ℕ) → j < length (all.met t) → length (row_at stages t (get_or (all.met t) j 0)).next ≡ n
-  old_nexts t step j lj = let s = size in row_nexts b n stages are.rows t (get_or (all.met t) j 0) (omega arith) (met_inside t (omega arith) j lj)
+  old_nexts : (t : ℕ) → suc t < h → (j : ℕ) → j < length (all.met t)
+      → length (row_at stages t (get_or (all.met t) j 0)).next ≡ n
+  old_nexts t step j lj = let s = size in
+      row_nexts b n stages are.rows t (get_or (all.met t) j 0) (omega arith) (met_inside t (omega arith) j lj)
 
   some_met : (t : ℕ) → t < h → 0 < length (all.met t)
   some_met zero lt = let e = ap length all.first in omega arith
@@ -183,7 +201,8 @@ module _ (b n h : ℕ) (stages : AgentRows) (are : AreAgentRows b n h stages) (s
             let c = counts t (omega arith) in
             let inside : r < length (all.met t) = omega arith in
             let a = (all.each t (omega arith)).action r inside in
-            let acts = row_action_below b n stages are.rows t (get_or (all.met t) r 0) (met_inside t (omega arith) r inside) in
+            let acts = row_action_below b n stages are.rows t (get_or (all.met t) r 0)
+            (met_inside t (omega arith) r inside) in
             omega arith)
             (λ t r lt lr.
             let c = counts t (omega arith) in
@@ -198,23 +217,31 @@ module _ (b n h : ℕ) (stages : AgentRows) (are : AreAgentRows b n h stages) (s
             let c = counts t (omega arith) in
             let s = size in
             (all.each t (omega arith)).nexts r (omega arith)
-            ∙ ap length (last_row_nexts b n stages are.rows t (get_or (all.met t) r 0) (omega arith) (met_inside t (omega arith) r (omega arith))));
+            ∙ ap length (last_row_nexts b n stages are.rows t (get_or (all.met t) r 0) (omega arith)
+            (met_inside t (omega arith) r (omega arith))));
       }
 
   -- and their trees are those of the rows that were reached
-  made_trees : (k t : ℕ) → t + suc k ≡ h → (j : ℕ) → j < length (all.met t) → rows_tree made t j ≡ rows_tree stages t (get_or (all.met t) j 0)
+  made_trees : (k t : ℕ) → t + suc k ≡ h → (j : ℕ) → j < length (all.met t)
+      → rows_tree made t j ≡ rows_tree stages t (get_or (all.met t) j 0)
   made_trees zero t e j lj =
       let s = size in
       let stage = all.each t (omega arith) in
-      let none = last_row_nexts b n stages are.rows t (get_or (all.met t) j 0) (omega arith) (met_inside t (omega arith) j lj) in
-      let subs = trees_alike_in (rows_tree made (suc t)) (rows_tree stages (suc t)) (row_at made t j).next (row_at stages t (get_or (all.met t) j 0)).next (stage.nexts j lj)
+      let none = last_row_nexts b n stages are.rows t (get_or (all.met t) j 0) (omega arith)
+      (met_inside t (omega arith) j lj) in
+      let subs = trees_alike_in (rows_tree made (suc t)) (rows_tree stages (suc t)) (row_at made t j).next
+      (row_at stages t (get_or (all.met t) j 0)).next (stage.nexts j lj)
       (λ o lo. let l = ap length none in absurd (omega arith)) in
-      rows_tree_is made t j ∙ (λ i. node (stage.action j lj i) (subs i)) ∙ sym (rows_tree_is stages t (get_or (all.met t) j 0))
+      rows_tree_is made t j ∙ (λ i. node (stage.action j lj i) (subs i))
+      ∙ sym (rows_tree_is stages t (get_or (all.met t) j 0))
   made_trees (suc k) t e j lj =
       let stage = all.each t (omega arith) in
-      let subs = trees_alike_in (rows_tree made (suc t)) (rows_tree stages (suc t)) (row_at made t j).next (row_at stages t (get_or (all.met t) j 0)).next (stage.nexts j lj)
-      (λ o lo. made_trees k (suc t) (omega arith) (get_or (row_at made t j).next o 0) (stage.below j o lj lo) ∙ stage.same j o lj lo) in
-      rows_tree_is made t j ∙ (λ i. node (stage.action j lj i) (subs i)) ∙ sym (rows_tree_is stages t (get_or (all.met t) j 0))
+      let subs = trees_alike_in (rows_tree made (suc t)) (rows_tree stages (suc t)) (row_at made t j).next
+      (row_at stages t (get_or (all.met t) j 0)).next (stage.nexts j lj)
+      (λ o lo. made_trees k (suc t) (omega arith) (get_or (row_at made t j).next o 0) (stage.below j o lj lo)
+      ∙ stage.same j o lj lo) in
+      rows_tree_is made t j ∙ (λ i. node (stage.action j lj i) (subs i))
+      ∙ sym (rows_tree_is stages t (get_or (all.met t) j 0))
 
   met_apart : (t : ℕ) → t < h → (x y : ℕ) → x < length (all.met t) → y < length (all.met t)
       → rows_tree stages t (get_or (all.met t) x 0) ≡ rows_tree stages t (get_or (all.met t) y 0) → x ≡ y
@@ -226,8 +253,10 @@ module _ (b n h : ℕ) (stages : AgentRows) (are : AreAgentRows b n h stages) (s
     different = λ t r s lt lr ls same.
         let c = counts t lt in
         let k = rest_of t lt in
-        let trees : rows_tree made t r ≡ rows_tree made t s = rows_tree_is made t r ∙ ap (tree_of_row (rows_tree made (suc t))) same ∙ sym (rows_tree_is made t s) in
-        met_apart t lt r s (omega arith) (omega arith) (sym (made_trees k.0 t k.1 r (omega arith)) ∙ trees ∙ made_trees k.0 t k.1 s (omega arith));
+        let trees : rows_tree made t r ≡ rows_tree made t s = rows_tree_is made t r
+        ∙ ap (tree_of_row (rows_tree made (suc t))) same ∙ sym (rows_tree_is made t s) in
+        met_apart t lt r s (omega arith) (omega arith)
+        (sym (made_trees k.0 t k.1 r (omega arith)) ∙ trees ∙ made_trees k.0 t k.1 s (omega arith));
     in_order = λ t step. (all.each t (omega arith)).in_order;
     reached = λ t step. (all.each t (omega arith)).read ∙ sym (counts (suc t) step);
   }
@@ -253,7 +282,8 @@ module _ (stages : AgentRows) (h t : ℕ) (lists all : List (List ℕ)) (kinds :
       let place : length lists - suc (t + 1) ≡ h - suc (suc t) = omega arith in
       let at : kinds ≡ get_or all (h - suc (suc t)) [] = is (omega arith) ∙ (λ i. get_or (same i) (place i) []) in
       let back : h - suc (h - suc (suc t)) ≡ suc t = omega arith in
-      subst (λ (z : ℕ). AreKinds stages z kinds) back (subst (AreKinds stages (h - suc k)) (sym at) (each k (omega arith)))
+      subst (λ (z : ℕ). AreKinds stages z kinds) back
+      (subst (AreKinds stages (h - suc k)) (sym at) (each k (omega arith)))
 
   pub no_kinds : h ≤ suc t → kinds ≡ []
   no_kinds le = let count = ap length same in none (omega arith)
@@ -270,7 +300,8 @@ module _ (stages : AgentRows) (h t : ℕ) (lists all : List (List ℕ)) (kinds :
     | inr le ↦ let e = ap length (no_kinds le) in absurd (omega arith)
   ]
 
-  pub kinds_follow : (b n : ℕ) → AreAgentRows b n h stages → t < h → (r o : ℕ) → r < row_count stages t → o < length (row_at stages t r).next
+  pub kinds_follow : (b n : ℕ) → AreAgentRows b n h stages → t < h → (r o : ℕ) → r < row_count stages t
+      → o < length (row_at stages t r).next
       → get_or (row_at stages t r).next o 0 < length kinds
   kinds_follow b n are lt r o lr lo =
       let nexts = cond (nat_lt (suc t) h) n 0 in
@@ -287,15 +318,19 @@ module _ (stages : AgentRows) (h t : ℕ) (lists all : List (List ℕ)) (kinds :
 
 -- ---- all agents
 
-pub shared_agents_step : (ns : List ℕ) (p : SharedPolicy) (h i : ℕ) (done whole : SharedPolicy) (stages : AgentRows) → i < length ns → i < length p
-    → done ++ shared_rows_of (drop i ns) h (drop i (unfolded p)) ≡ whole → stages ≡ shared_rows (get_or ns i 0) h (unfolded_tree (get_or p i []) 0)
+pub shared_agents_step : (ns : List ℕ) (p : SharedPolicy) (h i : ℕ) (done whole : SharedPolicy) (stages : AgentRows)
+    → i < length ns → i < length p
+    → done ++ shared_rows_of (drop i ns) h (drop i (unfolded p)) ≡ whole
+    → stages ≡ shared_rows (get_or ns i 0) h (unfolded_tree (get_or p i []) 0)
     → (done ++ stages ∷ []) ++ shared_rows_of (drop (suc i) ns) h (drop (suc i) (unfolded p)) ≡ whole
 shared_agents_step ns p h i done whole stages ln lp so_far here =
-    append_assoc done (stages ∷ []) _ ∙ ap (λ (s : AgentRows). done ++ s ∷ shared_rows_of (drop (suc i) ns) h (drop (suc i) (unfolded p))) here
+    append_assoc done (stages ∷ []) _
+    ∙ ap (λ (s : AgentRows). done ++ s ∷ shared_rows_of (drop (suc i) ns) h (drop (suc i) (unfolded p))) here
     ∙ (λ j. done ++ shared_rows_of (sym (drop-cons ns i 0 ln) j) h (sym (next_tree p i lp) j))
     ∙ so_far
   where
-    next_tree : (p : SharedPolicy) (i : ℕ) → i < length p → drop i (unfolded p) ≡ unfolded_tree (get_or p i []) 0 ∷ drop (suc i) (unfolded p)
+    next_tree : (p : SharedPolicy) (i : ℕ) → i < length p
+        → drop i (unfolded p) ≡ unfolded_tree (get_or p i []) 0 ∷ drop (suc i) (unfolded p)
     next_tree [] i lt = absurd (omega arith)
     next_tree (stages ∷ p) zero lt = refl
     next_tree (stages ∷ p) (suc i) lt = next_tree p i (omega arith)
@@ -303,15 +338,19 @@ shared_agents_step ns p h i done whole stages ln lp so_far here =
 pub shared_end : (ns : List ℕ) (qs : List PolicyTree) (h i : ℕ) (done whole : SharedPolicy) → length ns ≤ i
     → done ++ shared_rows_of (drop i ns) h (drop i qs) ≡ whole → done ≡ whole
 shared_end ns qs h i done whole le so_far =
-    sym (append_none done) ∙ ap (λ (xs : List ℕ). done ++ shared_rows_of xs h (drop i qs)) (sym (drop_all ns i le)) ∙ so_far
+    sym (append_none done) ∙ ap (λ (xs : List ℕ). done ++ shared_rows_of xs h (drop i qs)) (sym (drop_all ns i le))
+    ∙ so_far
   where
     append_none : (p : SharedPolicy) → p ++ [] ≡ p
     append_none [] = refl
     append_none (stages ∷ p) = ap (λ (l : SharedPolicy). stages ∷ l) (append_none p)
 
-pub shared_form_made : (m : Model) (h : ℕ) (qs : List PolicyTree) → shared_rows_of m.observations h qs ≡ shared_form m h qs
+pub shared_form_made : (m : Model) (h : ℕ) (qs : List PolicyTree)
+    → shared_rows_of m.observations h qs ≡ shared_form m h qs
 unfolding shared_form
 shared_form_made m h qs = refl
 
-pub shared_form_kept : (m : Model) → IsModel m → (h : ℕ) → h ≤ 24 → (p : SharedPolicy) → IsSharedOf m h p → AreKept h (shared_form m h (unfolded p))
-shared_form_kept m is h limit p shared = kept_rows m is h limit _ (shared_form_is m h p is (some_step m is h p shared) shared).0
+pub shared_form_kept : (m : Model) → IsModel m → (h : ℕ) → h ≤ 24 → (p : SharedPolicy) → IsSharedOf m h p
+    → AreKept h (shared_form m h (unfolded p))
+shared_form_kept m is h limit p shared =
+    kept_rows m is h limit _ (shared_form_is m h p is (some_step m is h p shared) shared).0

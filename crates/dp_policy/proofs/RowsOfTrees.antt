@@ -64,7 +64,8 @@ module _ (n h : ℕ) (q : PolicyTree) (t : ℕ) (trees : List (Bor PTree)) (at :
       ];
     }
 
-    pub next_trees : suc t < h → (subs : List (Bor PTree)) → AreSubtrees nexts trees subs → AreTreesAt n q (suc t) subs
+    pub next_trees : suc t < h → (subs : List (Bor PTree)) → AreSubtrees nexts trees subs
+        → AreTreesAt n q (suc t) subs
     next_trees more subs after =
         let all : nexts ≡ n = is ∙ more_nexts n h t more in
         let sub : AreSubtrees n trees subs = subst (λ (k : ℕ). AreSubtrees k trees subs) all after in
@@ -73,10 +74,12 @@ module _ (n h : ℕ) (q : PolicyTree) (t : ℕ) (trees : List (Bor PTree)) (at :
           counted = sub.counted ∙ sym size;
           each = λ x lt d.
               let inside : x < n ^ t * n = omega (arith, lt, pow-suc n t) in
-              sub.each x (omega (arith, lt, size)) d ∙ ap (λ (p : PolicyTree). subtree p (x % n)) (at.each (x / n) (part_below (n ^ t) n x inside) d);
+              sub.each x (omega (arith, lt, size)) d
+              ∙ ap (λ (p : PolicyTree). subtree p (x % n)) (at.each (x / n) (part_below (n ^ t) n x inside) d);
         }
 
-    made_rows : (rows : List PolicyRow) → AreRowsOfTrees n nexts trees rows → rows ≡ map (plain_row n h q t) (range_with_len 0 (n ^ t))
+    made_rows : (rows : List PolicyRow) → AreRowsOfTrees n nexts trees rows
+        → rows ≡ map (plain_row n h q t) (range_with_len 0 (n ^ t))
     made_rows rows made =
         fill_by_all (plain_row n h q t) rows (n ^ t) no_row (made.counted ∙ at.counted)
         (λ k lt.
@@ -102,25 +105,29 @@ module _ (n h : ℕ) (q : PolicyTree) (t : ℕ) (trees : List (Bor PTree)) (at :
 
 -- ---- all agents
 
-pub plain_agents_step : (ns : List ℕ) (qs : List PolicyTree) (h i : ℕ) (done whole : SharedPolicy) (stages : AgentRows) → i < length ns → i < length qs
+pub plain_agents_step : (ns : List ℕ) (qs : List PolicyTree) (h i : ℕ) (done whole : SharedPolicy)
+    (stages : AgentRows) → i < length ns → i < length qs
     → done ++ plain_rows_of (drop i ns) h (drop i qs) ≡ whole → stages ≡ plain_rows (get_or ns i 0) h (tree_of qs i)
     → (done ++ stages ∷ []) ++ plain_rows_of (drop (suc i) ns) h (drop (suc i) qs) ≡ whole
 plain_agents_step ns qs h i done whole stages ln lq so_far here =
     let d : PolicyTree = node 0 no_trees in
-    append_assoc done (stages ∷ []) _ ∙ ap (λ (s : AgentRows). done ++ s ∷ plain_rows_of (drop (suc i) ns) h (drop (suc i) qs)) here
+    append_assoc done (stages ∷ []) _
+    ∙ ap (λ (s : AgentRows). done ++ s ∷ plain_rows_of (drop (suc i) ns) h (drop (suc i) qs)) here
     ∙ (λ j. done ++ plain_rows_of (sym (drop-cons ns i 0 ln) j) h (sym (drop-cons qs i d lq) j))
     ∙ so_far
 
 pub plain_end : (ns : List ℕ) (qs : List PolicyTree) (h i : ℕ) (done whole : SharedPolicy) → length ns ≤ i
     → done ++ plain_rows_of (drop i ns) h (drop i qs) ≡ whole → done ≡ whole
 plain_end ns qs h i done whole le so_far =
-    sym (append_none done) ∙ ap (λ (xs : List ℕ). done ++ plain_rows_of xs h (drop i qs)) (sym (drop_all ns i le)) ∙ so_far
+    sym (append_none done) ∙ ap (λ (xs : List ℕ). done ++ plain_rows_of xs h (drop i qs)) (sym (drop_all ns i le))
+    ∙ so_far
   where
     append_none : (p : SharedPolicy) → p ++ [] ≡ p
     append_none [] = refl
     append_none (stages ∷ p) = ap (λ (l : SharedPolicy). stages ∷ l) (append_none p)
 
-pub plain_form_made : (m : Model) (h : ℕ) (qs : List PolicyTree) → plain_rows_of m.observations h qs ≡ plain_form m h qs
+pub plain_form_made : (m : Model) (h : ℕ) (qs : List PolicyTree)
+    → plain_rows_of m.observations h qs ≡ plain_form m h qs
 unfolding plain_form
 plain_form_made m h qs = refl
 
@@ -129,7 +136,8 @@ module _ (m : Model) (is : IsModel m) (h : ℕ) (within : IsWithinLimits m h) (q
   pub plain_form_kept : AreKept h (plain_form m h qs)
   plain_form_kept =
       let few = within.horizon in
-      kept_rows m is h (omega arith) (plain_form m h qs) (plain_form_is m h qs is within.some_step within.stage_cells policy).0
+      kept_rows m is h (omega arith) (plain_form m h qs)
+      (plain_form_is m h qs is within.some_step within.stage_cells policy).0
 
   -- no stage of an agent has many rows
   pub stage_limit : (i : ℕ) → i < length qs → (t : ℕ) → t < h → get_or m.observations i 0 ^ t ≤ 2 ^ 22

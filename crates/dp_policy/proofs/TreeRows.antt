@@ -19,12 +19,14 @@ use Rattle.dp_policy.proofs.TreeValues.{policy_tree_is}
 -- ---- from rows to trees
 
 -- trees in a list are trees one after the other
-pub made_trees : (g : ℕ → PolicyTree) (a c : ℕ) → policy_trees (map g (range_with_len a c)) ≡ trees_from c (λ o. g (a + o))
+pub made_trees : (g : ℕ → PolicyTree) (a c : ℕ) → policy_trees (map g (range_with_len a c))
+    ≡ trees_from c (λ o. g (a + o))
 made_trees g a zero = refl
 made_trees g a (suc c) =
     let first : a ≡ a + 0 = omega arith in
     let later : (o : ℕ) → a + 1 + o ≡ a + suc o = λ o. omega arith in
-    ap (λ ks. more_trees (g a) ks) (made_trees g (a + 1) c) ∙ (λ i. more_trees (g (first i)) (trees_from c (λ o. g (later o i))))
+    ap (λ ks. more_trees (g a) ks) (made_trees g (a + 1) c) ∙ (λ i. more_trees (g (first i))
+    (trees_from c (λ o. g (later o i))))
 
 -- a tree at the last stage, and one before it
 pub last_tree : (n : ℕ) (act : ℕ → ℕ → ℕ) (r t x a : ℕ) → r ≡ 1 → a ≡ act t x
@@ -46,7 +48,8 @@ earlier_tree n act r s t x a qs steps is kids =
 
 -- the actions below a node are those of its trees, one step less deep
 pub actions_at_root : (s : ℕ) (t : PTree) → s ≢ 0
-    → actions_of_all (s - 1) (policy_trees (map policy_tree (out-PTree t).kids.items)) ≡ actions_below s (policy_tree t)
+    → actions_of_all (s - 1) (policy_trees (map policy_tree (out-PTree t).kids.items))
+    ≡ actions_below s (policy_tree t)
 actions_at_root zero t some = absurd (some refl)
 actions_at_root (suc s) t some =
     let less : suc s - 1 ≡ s = omega arith in
@@ -54,7 +57,8 @@ actions_at_root (suc s) t some =
     ∙ ap (actions_below (suc s)) (sym (policy_tree_is t))
 
 -- ranges one after the other
-ranges : (f : ℕ → ℕ) (a c d : ℕ) → map f (range_with_len a (c + d)) ≡ map f (range_with_len a c) ++ map f (range_with_len (a + c) d)
+ranges : (f : ℕ → ℕ) (a c d : ℕ) → map f (range_with_len a (c + d)) ≡ map f (range_with_len a c)
+    ++ map f (range_with_len (a + c) d)
 ranges f a zero d =
     let none : 0 + d ≡ d = omega arith in
     let e : a ≡ a + 0 = omega arith in
@@ -70,7 +74,8 @@ pub shifted : {X : Type 0} (f g : ℕ → X) (a b c : ℕ) → ((x : ℕ) → x 
     → map f (range_with_len a c) ≡ map g (range_with_len b c)
 shifted f g a b zero same = refl
 shifted f g a b (suc c) same =
-    let here : f a ≡ g b = (let e : a + 0 ≡ a = omega arith in let e' : b + 0 ≡ b = omega arith in ap f (sym e) ∙ same 0 (omega arith) ∙ ap g e') in
+    let here : f a ≡ g b = (let e : a + 0 ≡ a = omega arith in let e' : b + 0 ≡ b = omega arith in ap f (sym e)
+    ∙ same 0 (omega arith) ∙ ap g e') in
     let later = shifted f g (a + 1) (b + 1) c (λ x lt.
     let e : a + 1 + x ≡ a + suc x = omega arith in
     let e' : b + suc x ≡ b + 1 + x = omega arith in
@@ -97,8 +102,10 @@ first_observation n q (suc t) o y seen lt =
 
 -- the actions below trees are the rows of the tree that goes on with them
 mutual
-  pub actions_are_row : (b n h t : ℕ) (q : PolicyTree) → t < h → IsPolicyTree b n h q → actions_below t q ≡ row_actions n q t
-  actions_are_row b n h zero q lt is = ap (λ k. map (λ x. root_action (tree_at n q 0 x)) (range_with_len 0 k)) (sym (pow-zero n))
+  pub actions_are_row : (b n h t : ℕ) (q : PolicyTree) → t < h → IsPolicyTree b n h q
+      → actions_below t q ≡ row_actions n q t
+  actions_are_row b n h zero q lt is = ap (λ k. map (λ x. root_action (tree_at n q 0 x)) (range_with_len 0 k))
+      (sym (pow-zero n))
   actions_are_row b n zero (suc t) q lt is = absurd (omega arith)
   actions_are_row b n (suc zero) (suc t) q lt is = absurd (omega arith)
   actions_are_row b n (suc (suc h)) (suc t) (node a ks) lt is =
@@ -120,7 +127,8 @@ mutual
       let f : ℕ → ℕ = λ x. root_action (tree_at n q (suc t) x) in
       let first : o + 0 ≡ o = omega arith in
       let this : k ≡ subtree q o = same 0 (omega arith) ∙ ap (subtree q) first in
-      let row : actions_below t k ≡ map (λ x. root_action (tree_at n q (suc t) x)) (range_with_len (o * n ^ t) (n ^ t)) =
+      let row : actions_below t k ≡ map (λ x. root_action (tree_at n q (suc t) x))
+      (range_with_len (o * n ^ t) (n ^ t)) =
       actions_are_row b n (suc h) t k lt are.0
       ∙ shifted (λ y. root_action (tree_at n k t y)) f 0 (o * n ^ t) (n ^ t)
       (λ y below.
@@ -129,7 +137,8 @@ mutual
       ∙ ap root_action (sym (first_observation n q t o y (omega arith) below))) in
       let next : (o + 1) * n ^ t ≡ o * n ^ t + n ^ t = omega arith in
       let size : n ^ t + c * n ^ t ≡ suc c * n ^ t = omega arith in
-      let others : actions_of_all t ks ≡ map (λ x. root_action (tree_at n q (suc t) x)) (range_with_len (o * n ^ t + n ^ t) (c * n ^ t)) =
+      let others : actions_of_all t ks ≡ map (λ x. root_action (tree_at n q (suc t) x))
+      (range_with_len (o * n ^ t + n ^ t) (c * n ^ t)) =
       actions_are_rows b n h t q (o + 1) c ks lt (omega arith) are.1
       (λ i below. let at : o + suc i ≡ o + 1 + i = omega arith in same (suc i) (omega arith) ∙ ap (subtree q) at)
       ∙ ap (λ a. map f (range_with_len a (c * n ^ t))) next in
@@ -138,6 +147,7 @@ mutual
       ∙ ap (λ k. map f (range_with_len (o * n ^ t) k)) size
 
 -- a tree that is put together of an action and trees
-pub put_together : (t : PTree-F PTree) → policy_tree (roll-PTree t) ≡ node t.action (policy_trees (map policy_tree t.kids.items))
+pub put_together : (t : PTree-F PTree) → policy_tree (roll-PTree t)
+    ≡ node t.action (policy_trees (map policy_tree t.kids.items))
 unfolding policy_tree
 put_together t = fold-roll-PTree PolicyTree policy_tree_node t

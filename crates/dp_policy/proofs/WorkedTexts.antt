@@ -24,16 +24,19 @@ out_of_range : read (codes "decplan policy 1\nhorizon 2\nagent 0\n0\n0 3\nagent 
 unfolding is_plain plain_of signed_of item_numbers items_behind numbers_at are_typed are_in_range line_at lines_at digits
 out_of_range = refl
 
-one_too_many : read (codes "decplan policy 1\nhorizon 2\nagent 0\n0 0\n0 0\nagent 1\n0\n0 0\nend\n") ≡ Err (bad 4 Shape)
+one_too_many : read (codes "decplan policy 1\nhorizon 2\nagent 0\n0 0\n0 0\nagent 1\n0\n0 0\nend\n")
+    ≡ Err (bad 4 Shape)
 unfolding is_plain plain_of signed_of item_numbers items_behind numbers_at are_typed are_in_range line_at lines_at digits
 one_too_many = refl
 
-too_large : read (codes "decplan policy 1\nhorizon 2\nagent 0\n4294967296\n0 0\nagent 1\n0\n0 0\nend\n") ≡ Err (bad 4 Number)
+too_large : read (codes "decplan policy 1\nhorizon 2\nagent 0\n4294967296\n0 0\nagent 1\n0\n0 0\nend\n")
+    ≡ Err (bad 4 Number)
 unfolding is_plain plain_of signed_of item_numbers items_behind numbers_at are_typed are_in_range line_at lines_at digits
 too_large = refl
 
 -- a number that is too large comes before one that is out of range
-number_first : read (codes "decplan policy 1\nhorizon 2\nagent 0\n0\n3 4294967296\nagent 1\n0\n0 0\nend\n") ≡ Err (bad 5 Number)
+number_first : read (codes "decplan policy 1\nhorizon 2\nagent 0\n0\n3 4294967296\nagent 1\n0\n0 0\nend\n")
+    ≡ Err (bad 5 Number)
 unfolding is_plain plain_of signed_of item_numbers items_behind numbers_at are_typed are_in_range line_at lines_at digits
 number_first = refl
 

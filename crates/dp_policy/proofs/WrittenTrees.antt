@@ -17,10 +17,12 @@ use Rattle.dp_policy.proofs.WrittenBytes.{written_for}
 rows_bytes-append : (xs ys : List (List ℕ)) → rows_bytes (xs ++ ys) ≡ rows_bytes xs ++ rows_bytes ys
 rows_bytes-append [] ys = refl
 rows_bytes-append (x ∷ xs) ys =
-    ap (λ l. row_bytes x ++ l) (rows_bytes-append xs ys) ∙ sym (append_assoc (row_bytes x) (rows_bytes xs) (rows_bytes ys))
+    ap (λ l. row_bytes x ++ l) (rows_bytes-append xs ys) ∙ sym
+    (append_assoc (row_bytes x) (rows_bytes xs) (rows_bytes ys))
 
 -- one row more is written
-pub row_written : (old now later row : List ℕ) (f : ℕ → List ℕ) (t : ℕ) → now ≡ old ++ rows_bytes (map f (range_with_len 0 t))
+pub row_written : (old now later row : List ℕ) (f : ℕ → List ℕ) (t : ℕ)
+    → now ≡ old ++ rows_bytes (map f (range_with_len 0 t))
     → later ≡ now ++ row_bytes row → row ≡ f t → later ≡ old ++ rows_bytes (map f (range_with_len 0 (t + 1)))
 row_written old now later row f t so_far grown is =
     let rows = map f (range_with_len 0 t) in
@@ -36,7 +38,8 @@ rows_are : (h : ℕ) (bs ns : List ℕ) (qs : List PolicyTree) → IsJointPolicy
     → map (λ q. map (λ t. actions_below t q) (range_with_len 0 h)) qs ≡ policy_actions h ns qs
 rows_are h _ _ _ no_agents = refl
 rows_are h (b ∷ bs) (n ∷ ns) (q ∷ qs) (and_agent is iss) =
-    let own = shifted (λ t. actions_below t q) _ 0 0 h (λ t lt. let none : 0 + t ≡ t = omega arith in let lt' : 0 + t < h = omega arith in actions_are_row b n h (0 + t) q lt' is) in
+    let own = shifted (λ t. actions_below t q) _ 0 0 h (λ t lt. let none : 0 + t ≡ t = omega arith in
+    let lt' : 0 + t < h = omega arith in actions_are_row b n h (0 + t) q lt' is) in
     λ i. own i ∷ rows_are h bs ns qs iss i
 
 pub trees_written : (h : ℕ) (qs : List PolicyTree) (bytes : List ℕ)
@@ -50,5 +53,12 @@ pub text_says : (h : ℕ) (qs : List PolicyTree) (bytes : List ℕ) → 0 < h �
     → (m : Model) → IsModel m → IsPolicyOf m h qs → PassesNone m h
     → IsPolicyAnswer m bytes (Ok (record { horizon = h; trees = qs }))
 text_says h qs bytes some wide e m is policy passes =
-    let whole = policy_has_text m is h qs some wide policy in
-    (record { policy = policy; allowed = whole.allowed; text = trees_written h qs bytes e m.actions m.observations policy }, passes)
+    let whole = policy_has_text m is h qs some wide policy in (
+      record {
+        policy = policy;
+        allowed = whole.allowed;
+        text =
+            trees_written h qs bytes e m.actions m.observations policy;
+      },
+      passes,
+    )

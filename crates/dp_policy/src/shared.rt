@@ -63,6 +63,14 @@ impl Shared {
         self.horizon
     }
 
+    /// The rows of all agents, stage by stage.
+    #[inline]
+    pub fn all_rows(&self) -> &[Vec<Vec<Row>>]
+        ensures { map (λ s. map (λ r. r.items) s.items) result.now ≡ self.now.rows }
+    {
+        self.rows.as_slice()
+    }
+
     // The rows of a stage of an agent.
     #[inline]
     fn stage(&self, agent: u32, stage: u32) -> &[Row]

@@ -33,7 +33,8 @@ are_trees (suc n) ts [] e le each = absurd (omega arith)
 are_trees (suc n) [] (q ∷ qs) e le each = absurd (omega arith)
 are_trees (suc n) (t ∷ ts) (q ∷ qs) e le each =
     let here : policy_tree t.now ≡ q = each 0 (omega arith) t in
-    let rest : first_trees n ts ≡ qs = are_trees n ts qs (omega arith) (omega arith) (λ i lt. each (suc i) (omega arith)) in
+    let rest : first_trees n ts ≡ qs =
+    are_trees n ts qs (omega arith) (omega arith) (λ i lt. each (suc i) (omega arith)) in
     (λ j. here j ∷ rest j)
 
 -- ---- the joint action
@@ -46,10 +47,12 @@ actions_are (suc n) xs [] e le each = absurd (omega arith)
 actions_are (suc n) [] (q ∷ qs) e le each = absurd (omega arith)
 actions_are (suc n) (x ∷ xs) (q ∷ qs) e le each =
     let here : x ≡ root_action q = each 0 (omega arith) in
-    let rest : take n xs ≡ map root_action qs = actions_are n xs qs (omega arith) (omega arith) (λ i lt. each (suc i) (omega arith)) in
+    let rest : take n xs ≡ map root_action qs =
+    actions_are n xs qs (omega arith) (omega arith) (λ i lt. each (suc i) (omega arith)) in
     (λ j. here j ∷ rest j)
 
-roots_below : {r : ℕ} {bs ns : List ℕ} {qs : List PolicyTree} → IsJointPolicy (suc r) bs ns qs → (i : ℕ) → i < length bs
+roots_below : {r : ℕ} {bs ns : List ℕ} {qs : List PolicyTree} → IsJointPolicy (suc r) bs ns qs → (i : ℕ)
+    → i < length bs
     → get_or (map root_action qs) i 0 < get_or bs i 0
 roots_below no_agents i lt = absurd (omega arith)
 roots_below (and_agent one others) zero lt = root_action_below _ _ _ _ one
@@ -68,18 +71,21 @@ module _ (m : Model) (r : ℕ) (qs : List PolicyTree) (policy : IsPolicyOf m (su
   pub root_actions : take (length m.actions) xs ≡ map root_action qs
   root_actions = actions
 
-pub root_is : (m : Model) (qs : List PolicyTree) (xs : List ℕ) (a : ℕ) → a ≡ joint_number m.actions xs → xs ≡ map root_action qs
+pub root_is : (m : Model) (qs : List PolicyTree) (xs : List ℕ) (a : ℕ) → a ≡ joint_number m.actions xs
+    → xs ≡ map root_action qs
     → a ≡ joint_root_action m qs
 unfolding joint_root_action
 root_is m qs xs a is same = is ∙ ap (joint_number m.actions) same
 
-pub root_below : (m : Model) (r : ℕ) (qs : List PolicyTree) → IsPolicyOf m (suc r) qs → joint_root_action m qs < joint_actions m
+pub root_below : (m : Model) (r : ℕ) (qs : List PolicyTree) → IsPolicyOf m (suc r) qs
+    → joint_root_action m qs < joint_actions m
 unfolding joint_root_action joint_actions
 root_below m r qs policy = joint_root_action_below policy
 
 -- ---- after a joint observation
 
-subtrees_counted : (qs : List PolicyTree) (os : List ℕ) → length os ≡ length qs → length (subtrees_at qs os) ≡ length qs
+subtrees_counted : (qs : List PolicyTree) (os : List ℕ) → length os ≡ length qs
+    → length (subtrees_at qs os) ≡ length qs
 subtrees_counted [] os e = refl
 subtrees_counted (q ∷ qs) [] e = absurd (omega arith)
 subtrees_counted (q ∷ qs) (o ∷ os) e = ap suc (subtrees_counted qs os (omega arith))
@@ -101,16 +107,20 @@ module _ (m : Model) (r : ℕ) (qs : List PolicyTree) (policy : IsPolicyOf m (su
   unfolding joint_observations
   has_subtree i some lo li =
       let e = trees_alike policy in
-      let below = below_at i m.observations (parts_of m.observations o) (omega arith) (parts_below m.observations o lo) in
-      let count = observations_counted _ _ (suc r) (tree_of qs i) (omega arith) (tree_of_agent policy i (omega arith)) in
+      let below = below_at i m.observations (parts_of m.observations o) (omega arith)
+      (parts_below m.observations o lo) in
+      let count = observations_counted _ _ (suc r) (tree_of qs i) (omega arith)
+      (tree_of_agent policy i (omega arith)) in
       omega arith
 
   -- an array holds the trees after it where it does by agent
   pub are_after : (ts : List (Bor PTree)) → length m.actions ≤ length ts
-      → ((i : ℕ) → i < length m.actions → (d : Bor PTree) → policy_tree (get_or ts i d).now ≡ subtree (tree_of qs i) (part_of m.observations o i))
+      → ((i : ℕ) → i < length m.actions → (d : Bor PTree)
+      → policy_tree (get_or ts i d).now ≡ subtree (tree_of qs i) (part_of m.observations o i))
       → first_trees (length m.actions) ts ≡ trees_after m qs o
   unfolding trees_after
   are_after ts le each =
       let e = trees_alike policy in
-      are_trees (length m.actions) ts (subtrees_at qs (parts_of m.observations o)) (subtrees_counted qs (parts_of m.observations o) parts ∙ e) le
+      are_trees (length m.actions) ts (subtrees_at qs (parts_of m.observations o))
+      (subtrees_counted qs (parts_of m.observations o) parts ∙ e) le
       (λ i lt d. each i lt d ∙ sym (subtree_at qs (parts_of m.observations o) i parts (omega arith)))

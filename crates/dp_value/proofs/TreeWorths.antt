@@ -34,26 +34,33 @@ taken_at (x ∷ xs) zero s lt = absurd (omega arith)
 taken_at (x ∷ xs) (suc n) zero lt = refl
 taken_at (x ∷ xs) (suc n) (suc s) lt = taken_at xs n s (omega arith)
 
-pub recursion_alike : (A : Arithmetic) (m : Model) (r : ℕ) (v w : ℕ → Span) (qs : List PolicyTree) → ((s : ℕ) → s < m.states → v s ≡ w s)
+pub recursion_alike : (A : Arithmetic) (m : Model) (r : ℕ) (v w : ℕ → Span) (qs : List PolicyTree)
+    → ((s : ℕ) → s < m.states → v s ≡ w s)
     → recursive_worth_in A m r v qs ≡ recursive_worth_in A m r w qs
 recursion_alike A m zero v w qs alike = refl
 recursion_alike A m (suc r) v w qs alike =
     let a = joint_root_action m qs in
     let reward = rewarded_alike A m r v w a alike in
-    let after = span_sum_ext (joint_observations m) (λ o. recursive_worth_in A m r (weights_after_in A m v a o) (trees_after m qs o))
+    let after = span_sum_ext (joint_observations m)
+    (λ o. recursive_worth_in A m r (weights_after_in A m v a o) (trees_after m qs o))
     (λ o. recursive_worth_in A m r (weights_after_in A m w a o) (trees_after m qs o))
-    (λ o lo. recursion_alike A m r (weights_after_in A m v a o) (weights_after_in A m w a o) (trees_after m qs o) (λ s ls. updated_alike A m v w a o s alike)) in
+    (λ o lo. recursion_alike A m r (weights_after_in A m v a o) (weights_after_in A m w a o) (trees_after m qs o)
+    (λ s ls. updated_alike A m v w a o s alike)) in
     (λ i. span_add (reward i) (after i))
 
-none_rewarded : (A : Arithmetic) → KeepsZero A → (m : Model) (r : ℕ) (w : ℕ → Span) (a : ℕ) → ((s : ℕ) → s < m.states → w s ≡ nothing)
+none_rewarded : (A : Arithmetic) → KeepsZero A → (m : Model) (r : ℕ) (w : ℕ → Span) (a : ℕ)
+    → ((s : ℕ) → s < m.states → w s ≡ nothing)
     → weighted_reward_in A m r w a ≡ nothing
 unfolding weighted_reward_in
 none_rewarded A z m r w a none =
-    span_sum_none m.states _ (λ s ls. span_sum_none m.states _ (λ t lt. span_sum_none (joint_observations m) _ (λ o lo.
+    span_sum_none m.states _ (λ s ls. span_sum_none m.states _
+    (λ t lt. span_sum_none (joint_observations m) _ (λ o lo.
     ap (λ (x : Span). A.gain (A.chance x (trans_at m a s t) (obs_at m a t o)) (reward_at m a s t o) r) (none s ls)
-    ∙ ap (λ (x : Span). A.gain x (reward_at m a s t o) r) (z.no_weight (trans_at m a s t) (obs_at m a t o)) ∙ z.gain (reward_at m a s t o) r)))
+    ∙ ap (λ (x : Span). A.gain x (reward_at m a s t o) r) (z.no_weight (trans_at m a s t) (obs_at m a t o))
+    ∙ z.gain (reward_at m a s t o) r)))
 
-none_updated : (A : Arithmetic) → KeepsZero A → (m : Model) (w : ℕ → Span) (a o t : ℕ) → ((s : ℕ) → s < m.states → w s ≡ nothing)
+none_updated : (A : Arithmetic) → KeepsZero A → (m : Model) (w : ℕ → Span) (a o t : ℕ)
+    → ((s : ℕ) → s < m.states → w s ≡ nothing)
     → weights_after_in A m w a o t ≡ nothing
 unfolding weights_after_in
 none_updated A z m w a o t none =
@@ -68,19 +75,23 @@ none_earned A z m zero w qs none = refl
 none_earned A z m (suc r) w qs none =
     let a = joint_root_action m qs in
     let reward = none_rewarded A z m r w a none in
-    let after = span_sum_none (joint_observations m) (λ o. recursive_worth_in A m r (weights_after_in A m w a o) (trees_after m qs o))
-    (λ o lo. none_earned A z m r (weights_after_in A m w a o) (trees_after m qs o) (λ s ls. none_updated A z m w a o s none)) in
+    let after = span_sum_none (joint_observations m)
+    (λ o. recursive_worth_in A m r (weights_after_in A m w a o) (trees_after m qs o))
+    (λ o lo. none_earned A z m r (weights_after_in A m w a o) (trees_after m qs o)
+    (λ s ls. none_updated A z m w a o s none)) in
     (λ i. span_add (reward i) (after i)) ∙ span_add_none nothing
 
 -- ---- what is earned
 
 -- from joint observation o on
 abbrev pub after_part : Arithmetic → Model → ℕ → (ℕ → Span) → List PolicyTree → ℕ → Span
-after_part A m r ws qs o = recursive_worth_in A m r (weights_after_in A m ws (joint_root_action m qs) o) (trees_after m qs o)
+after_part A m r ws qs o = recursive_worth_in A m r (weights_after_in A m ws (joint_root_action m qs) o)
+    (trees_after m qs o)
 
 -- now, and from the first k joint observations on
 abbrev pub earned_after : Arithmetic → Model → ℕ → (ℕ → Span) → List PolicyTree → ℕ → Span
-earned_after A m r ws qs k = span_add (weighted_reward_in A m r ws (joint_root_action m qs)) (span_sum k (after_part A m r ws qs))
+earned_after A m r ws qs k = span_add (weighted_reward_in A m r ws (joint_root_action m qs))
+    (span_sum k (after_part A m r ws qs))
 
 module _ (A : Arithmetic) (m : Model) (r : ℕ) (ws : ℕ → Span) (qs : List PolicyTree) where
   -- at first only what is earned now
@@ -92,7 +103,8 @@ module _ (A : Arithmetic) (m : Model) (r : ℕ) (ws : ℕ → Span) (qs : List P
       → span_add total part ≡ earned_after A m r ws qs (suc k)
   earned_step k total part so_far here =
       (λ i. span_add (so_far i) (here i))
-      ∙ span_add_assoc (weighted_reward_in A m r ws (joint_root_action m qs)) (span_sum k (after_part A m r ws qs)) (after_part A m r ws qs k)
+      ∙ span_add_assoc (weighted_reward_in A m r ws (joint_root_action m qs)) (span_sum k (after_part A m r ws qs))
+      (after_part A m r ws qs k)
 
   pub skipped_step : (k : ℕ) (total : Span) → total ≡ earned_after A m r ws qs k → after_part A m r ws qs k ≡ nothing
       → total ≡ earned_after A m r ws qs (suc k)
@@ -103,7 +115,8 @@ module _ (A : Arithmetic) (m : Model) (r : ℕ) (ws : ℕ → Span) (qs : List P
       → total ≡ recursive_worth_in A m (suc r) ws qs
   earned_last e total is =
       let none = span_sum_none (joint_observations m) (after_part A m r ws qs)
-      (λ o lo. ap (λ (k : ℕ). recursive_worth_in A m k (weights_after_in A m ws (joint_root_action m qs) o) (trees_after m qs o)) e) in
+      (λ o lo. ap (λ (k : ℕ). recursive_worth_in A m k (weights_after_in A m ws (joint_root_action m qs) o)
+      (trees_after m qs o)) e) in
       is ∙ sym (span_add_none _) ∙ ap (span_add (weighted_reward_in A m r ws (joint_root_action m qs))) (sym none)
 
   pub earned_all : (k : ℕ) (total : Span) → total ≡ earned_after A m r ws qs k → k ≡ joint_observations m
@@ -142,7 +155,8 @@ module _ (A : Arithmetic) (C : Calls) (m : Model) (r : ℕ) (ws : ℕ → Span) 
       let f = λ (o : ℕ). worth_size A m r (weights_after_in A m ws a o) (trees_after m qs o) in
       let now = reward_size_le A m r ws a in
       let sum = span_sum_size k (after_part A m r ws qs) in
-      let parts = nat_sum_le k (λ o. size (after_part A m r ws qs o)) f (λ o lo. worth_size_le A m r (weights_after_in A m ws a o) (trees_after m qs o)) in
+      let parts = nat_sum_le k (λ o. size (after_part A m r ws qs o)) f
+      (λ o lo. worth_size_le A m r (weights_after_in A m ws a o) (trees_after m qs o)) in
       let most = nat_sum_part k O f le in
       let both = size_add (weighted_reward_in A m r ws a) (span_sum k (after_part A m r ws qs)) in
       omega arith
@@ -163,15 +177,18 @@ module _ (A : Arithmetic) (C : Calls) (m : Model) (r : ℕ) (ws : ℕ → Span) 
         evaluate = is.evaluate;
         time = suc is.time;
         left = omega arith;
-        weights = weights_alike A.is_exact m (suc is.time) v (weights_after_in A m ws (joint_root_action m qs) o) alike
-            (is.update.updated is.time ws (joint_root_action m qs) o (omega arith) is.weights (root_below m r qs is.policy) lo);
+        weights = weights_alike A.is_exact m (suc is.time) v
+            (weights_after_in A m ws (joint_root_action m qs) o) alike
+            (is.update.updated is.time ws (joint_root_action m qs) o (omega arith) is.weights
+            (root_below m r qs is.policy) lo);
         policy = subst (λ (k : ℕ). IsPolicyOf m k (trees_after m qs o)) (sym e) (subtrees_fit o lo is.policy);
       }
 
 -- ---- from the start
 
 -- the same with weights that are alike, of trees and steps that are the same
-pub same_evaluable : (A : Arithmetic) (C : Calls) (m : Model) (h k : ℕ) (ws v : ℕ → Span) (qs ps : List PolicyTree) → IsEvaluable A C m h ws qs
+pub same_evaluable : (A : Arithmetic) (C : Calls) (m : Model) (h k : ℕ) (ws v : ℕ → Span) (qs ps : List PolicyTree)
+    → IsEvaluable A C m h ws qs
     → ((s : ℕ) → s < m.states → v s ≡ ws s) → h ≡ k → qs ≡ ps → IsEvaluable A C m k v ps
 same_evaluable A C m h k ws v qs ps is alike steps trees = record {
   model = is.model;
@@ -202,7 +219,8 @@ trees_held m h p ts policy is =
     let same : length m.actions ≡ length p.trees = sym (sym (length-map p.trees policy_tree) ∙ trees_alike policy) in
     ap (λ (n : ℕ). first_trees n ts) same ∙ is
 
-pub some_trees : (m : Model) → IsModel m → (h : ℕ) (p : HorizonTrees) → IsPolicyOf m h (joint_policy p) → 0 < length p.trees
+pub some_trees : (m : Model) → IsModel m → (h : ℕ) (p : HorizonTrees) → IsPolicyOf m h (joint_policy p)
+    → 0 < length p.trees
 some_trees m is h p policy =
     let e = trees_alike policy in
     let n = length-map p.trees policy_tree in

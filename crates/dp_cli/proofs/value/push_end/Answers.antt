@@ -11,10 +11,12 @@ pub returns : goal.returns
 returns c =
     let t1 = c.extend_from_slice.new.self.items in
     let t3 = c.push.new.self.items in
-    let number = c.as_bytes.ensures.value ∙ c.format.ensures.text ∙ ap signed_decimal (to_z-of_z w128 c.args.number c.ranges.number) in
+    let number = c.as_bytes.ensures.value ∙ c.format.ensures.text
+    ∙ ap signed_decimal (to_z-of_z w128 c.args.number c.ranges.number) in
     let top = to_z-of_z w128 c.args.number c.ranges.number in
     let bottom = to_z-of_z w128 c.args.unit c.ranges.unit in
-    let fraction = c.as_bytes-2.ensures.value ∙ c.in_ok-fraction.ensures ∙ (λ i. fraction_text (top i) (unsigned_abs (bottom i)) c.args.up) in
+    let fraction = c.as_bytes-2.ensures.value ∙ c.in_ok-fraction.ensures
+    ∙ (λ i. fraction_text (top i) (unsigned_abs (bottom i)) c.args.up) in
     end_pushed c.args.text.now.items c.extend_from_slice.new.self.items c.extend_from_slice-2.new.self.items
     c.push.new.self.items c.extend_from_slice-3.new.self.items c.push-2.new.self.items c.args.word.now
     (signed_decimal c.args.number) (fraction_text c.args.number (unsigned_abs c.args.unit) c.args.up)

@@ -13,7 +13,8 @@ returns c =
     let t5 = c.extend_from_slice-5.new.self.items in
     let repaired = c.as_bytes.ensures.value ∙ c.format.ensures.text in
     let mode = c.as_bytes-2.ensures.value ∙ c.mode_word.ensures in
-    let unit = c.as_bytes-3.ensures.value ∙ c.format-2.ensures.text ∙ ap signed_decimal (to_z-of_z w128 c.args.unit c.ranges.unit) in
+    let unit = c.as_bytes-3.ensures.value ∙ c.format-2.ensures.text
+    ∙ ap signed_decimal (to_z-of_z w128 c.args.unit c.ranges.unit) in
     head_pushed c.args.text.now.items c.extend_from_slice.new.self.items c.extend_from_slice-2.new.self.items
     c.extend_from_slice-3.new.self.items c.extend_from_slice-4.new.self.items c.extend_from_slice-5.new.self.items
     c.extend_from_slice-6.new.self.items c.push.new.self.items

@@ -23,7 +23,8 @@ returns-in_err-text g c =
 pub returns : goal.returns
 returns g c =
     has_model _ c.in_ok-read.read refl c.in_ok-read.ensures
-    (λ text means. works_on (record { name = c.args.job.now.policy; role = Second }) c.in_ok-text.text c.value_of.result
+    (λ text means. works_on (record { name = c.args.job.now.policy; role = Second })
+    c.in_ok-text.text c.value_of.result
     (ap (λ (meant : Meaning). model_fault (λ m. None) meant) means) c.in_ok-text.ensures.fetched c.deref.ensures.value
     (gives_of_model text (policy_fault c.deref.result.now) c.value_of.result means
     (λ t worth. record { read = _; meant = means; worth = worth }) c.value_of.ensures))

@@ -14,4 +14,5 @@ returns-then-steps-eq0 t c =
     ∙ ap (λ k. row ++ actions_below k (policy_tree tree)) (sym c.if-steps-eq0.true)
 
 pub loop-kid-init : goal.loop-kid-init
-loop-kid-init t c = ap (λ l. c.args.row.now.items ++ l) (actions_at_root c.args.steps c.args.tree.now c.if-steps-eq0.false)
+loop-kid-init t c = ap (λ l. c.args.row.now.items ++ l) (actions_at_root c.args.steps c.args.tree.now
+    c.if-steps-eq0.false)

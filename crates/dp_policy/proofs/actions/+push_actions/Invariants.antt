@@ -10,5 +10,6 @@ decreases-push_actions l = l.steps
 -- what is written and what is still to be are all
 abbrev pub invariant-loop-kid : goal.invariant-loop-kid
 invariant-loop-kid l =
-    l.row.items ++ actions_of_all (l.steps - 1) (policy_trees (map policy_tree (drop l.kid-index (out-PTree l.tree).kids.items)))
+    l.row.items ++ actions_of_all (l.steps - 1) (policy_trees
+    (map policy_tree (drop l.kid-index (out-PTree l.tree).kids.items)))
     ≡ l.fn.row.items ++ actions_below l.steps (policy_tree l.tree)

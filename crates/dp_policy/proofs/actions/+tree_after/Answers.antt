@@ -15,13 +15,15 @@ use Rattle.dp_policy.proofs.actions.+tree_after.Goals as goal
 
 pub overflow_mul-history : goal.overflow_mul-history
 overflow_mul-history t c =
-    let child = next_history_below c.args.history c.args.observations c.args.stage c.loop-seen.seen c.requires.history c.loop-seen-test.true in
+    let child = next_history_below c.args.history c.args.observations c.args.stage c.loop-seen.seen
+    c.requires.history c.loop-seen-test.true in
     let few = c.requires.few (suc c.args.stage) (omega (arith, c.if-stage-rows.true)) in
     omega (arith, child, few)
 
 pub overflow_add-history : goal.overflow_add-history
 overflow_add-history t c =
-    let child = next_history_below c.args.history c.args.observations c.args.stage c.loop-seen.seen c.requires.history c.loop-seen-test.true in
+    let child = next_history_below c.args.history c.args.observations c.args.stage c.loop-seen.seen
+    c.requires.history c.loop-seen-test.true in
     let few = c.requires.few (suc c.args.stage) (omega (arith, c.if-stage-rows.true)) in
     omega (arith, child, few)
 
@@ -29,7 +31,8 @@ pub loop-seen-preserved : goal.loop-seen-preserved
 loop-seen-preserved t c =
     let a = c.args in
     let act = action_in (map (λ row. row.items) a.rows.now) in
-    let f : ℕ → PolicyTree = λ o. tree_doing_after a.observations act (length a.rows.now - (a.stage + 1)) (a.stage + 1) (a.history * a.observations + o) in
+    let f : ℕ → PolicyTree = λ o. tree_doing_after a.observations act (length a.rows.now - (a.stage + 1))
+    (a.stage + 1) (a.history * a.observations + o) in
     ap (map policy_tree) c.in_ok-push.ensures.items
     ∙ map-append policy_tree c.loop-seen.kids.items (c.in_ok-kid.kid ∷ [])
     ∙ (λ i. c.loop-seen.invariant i ++ (c.in_ok-kid.ensures i ∷ []))
@@ -53,11 +56,14 @@ returns t c =
     ∙ (elim c.if-stage-rows.branch [
       | then-stage-rows+else-loop-seen-test w ↦
           let all : w.loop-seen.seen ≡ n = omega (arith, w.loop-seen-test.false, w.loop-seen.auto.seen-end) in
-          let rest : length a.rows.now - (a.stage + 1) ≡ suc (length a.rows.now - (a.stage + 2)) = omega (arith, w.if-stage-rows.true) in
-          let steps : length a.rows.now - a.stage ≡ suc (suc (length a.rows.now - (a.stage + 2))) = omega (arith, w.if-stage-rows.true) in
+          let rest : length a.rows.now - (a.stage + 1) ≡ suc (length a.rows.now - (a.stage + 2)) = omega
+          (arith, w.if-stage-rows.true) in
+          let steps : length a.rows.now - a.stage ≡ suc (suc (length a.rows.now - (a.stage + 2))) = omega
+          (arith, w.if-stage-rows.true) in
           earlier_tree n act _ (length a.rows.now - (a.stage + 2)) a.stage a.history _ _ steps action
           (ap (λ kids. map policy_tree kids.items) w.kids-is ∙ w.loop-seen.invariant
-          ∙ (λ i. map (λ o. tree_doing_after n act (rest i) (a.stage + 1) (a.history * n + o)) (range_with_len 0 (all i))))
+          ∙ (λ i. map (λ o. tree_doing_after n act (rest i) (a.stage + 1) (a.history * n + o))
+          (range_with_len 0 (all i))))
       | else-stage-rows w ↦
           let steps : length a.rows.now - a.stage ≡ 1 = omega (arith, c.requires.stage, w.if-stage-rows.false) in
           ap (λ kids. node c.index.result.now (policy_trees (map policy_tree kids.items))) w.kids-is

@@ -12,5 +12,6 @@ decreases-tree_after l = length l.rows.now - l.stage
 abbrev pub invariant-loop-seen : goal.invariant-loop-seen
 invariant-loop-seen l =
     map policy_tree l.kids.items
-    ≡ map (λ o. tree_doing_after l.observations (action_in (map (λ row. row.items) l.rows)) (length l.rows - (l.stage + 1)) (l.stage + 1) (l.history * l.observations + o))
+    ≡ map (λ o. tree_doing_after l.observations (action_in (map (λ row. row.items) l.rows))
+    (length l.rows - (l.stage + 1)) (l.stage + 1) (l.history * l.observations + o))
     (range_with_len 0 l.seen)

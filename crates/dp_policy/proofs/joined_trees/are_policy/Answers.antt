@@ -17,8 +17,16 @@ returns-then-not-is_tree c =
     let qs = map policy_tree c.args.trees.now in
     let i = c.loop-agent.agent in
     let counted = length-map c.args.trees.now policy_tree in
-    let inside : i < length c.args.trees.now = omega (arith, c.agents.ensures.is, c.agents-agent-end.ensures.is, c.if-trees-agents.false, c.loop-agent-test.true) in
-    let e = mapped_at policy_tree c.args.trees.now i (node 0 no_trees) c.index-trees-agent.result inside c.index-trees-agent.is in
+    let inside : i < length c.args.trees.now =
+    omega (
+      arith,
+      c.agents.ensures.is,
+      c.agents-agent-end.ensures.is,
+      c.if-trees-agents.false,
+      c.loop-agent-test.true,
+    ) in
+    let e = mapped_at policy_tree c.args.trees.now i
+    (node 0 no_trees) c.index-trees-agent.result inside c.index-trees-agent.is in
     is_not (tree_fails c.args.horizon m.actions m.observations qs i (omega (arith, counted, inside))
     (λ one. not_true (c.if-not-is_tree.ensures.1 (rw (c.actions.ensures, c.observations.ensures, sym e) one))))
 
@@ -29,11 +37,21 @@ loop-agent-preserved c =
     let i = c.loop-agent.agent in
     let counted = length-map c.args.trees.now policy_tree in
     let alike = c.invariant.ensures.model.sizes.alike in
-    let inside : i < length c.args.trees.now = omega (arith, c.agents.ensures.is, c.agents-agent-end.ensures.is, c.if-trees-agents.false, c.loop-agent-test.true) in
-    let e = mapped_at policy_tree c.args.trees.now i (node 0 no_trees) c.index-trees-agent.result inside c.index-trees-agent.is in
+    let inside : i < length c.args.trees.now =
+    omega (
+      arith,
+      c.agents.ensures.is,
+      c.agents-agent-end.ensures.is,
+      c.if-trees-agents.false,
+      c.loop-agent-test.true,
+    ) in
+    let e = mapped_at policy_tree c.args.trees.now i
+    (node 0 no_trees) c.index-trees-agent.result inside c.index-trees-agent.is in
     rw add-one
     (tree_step c.args.horizon m.actions m.observations qs i
-    (omega (arith, c.agents-agent-end.ensures.is, c.loop-agent-test.true)) (omega (arith, alike, c.agents-agent-end.ensures.is, c.loop-agent-test.true)) (omega (arith, counted, inside)) c.loop-agent.invariant
+    (omega (arith, c.agents-agent-end.ensures.is, c.loop-agent-test.true))
+    (omega (arith, alike, c.agents-agent-end.ensures.is, c.loop-agent-test.true))
+    (omega (arith, counted, inside)) c.loop-agent.invariant
     (rw (e, ← c.actions.ensures, ← c.observations.ensures) (c.if-not-is_tree.ensures.0 refl)))
 
 pub returns : goal.returns
@@ -44,5 +62,12 @@ returns c =
     is_so (trees_end c.args.horizon m.actions m.observations (map policy_tree c.args.trees.now) c.loop-agent.agent
     (omega (arith, c.agents-agent-end.ensures.is, c.loop-agent-test.false))
     (omega (arith, alike, c.agents-agent-end.ensures.is, c.loop-agent-test.false))
-    (omega (arith, counted, c.agents.ensures.is, c.agents-agent-end.ensures.is, c.if-trees-agents.false, c.loop-agent-test.false))
+    (omega (
+      arith,
+      counted,
+      c.agents.ensures.is,
+      c.agents-agent-end.ensures.is,
+      c.if-trees-agents.false,
+      c.loop-agent-test.false,
+    ))
     c.loop-agent.invariant)

@@ -15,4 +15,5 @@ pub returns-clause-is : goal.returns-clause-is
 returns-clause-is c =
     let f = λ (r : ℕ). (row_at (get_or c.args.policy.now.rows c.args.agent []) c.args.stage r).action in
     let all = c.rows-row-end.ensures.is in
-    c.loop-row.invariant ∙ ap (λ (k : ℕ). map f (range_with_len 0 k)) (omega (arith, all, c.loop-row-test.false, c.loop-row.auto.row-end))
+    c.loop-row.invariant ∙ ap (λ (k : ℕ). map f (range_with_len 0 k))
+    (omega (arith, all, c.loop-row-test.false, c.loop-row.auto.row-end))

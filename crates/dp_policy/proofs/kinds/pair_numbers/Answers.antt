@@ -12,7 +12,8 @@ loop-place-preserved c =
     let old = λ (q : ℕ). get nat_cmp c.loop-place.known q in
     let next = λ (q : ℕ). get nat_cmp c.number_in.new.known q in
     let z = c.in_ok-number_in.field-0 in
-    let is : c.from.result * 2 ^ 32 + c.from-in-loop-place.result ≡ key k = (λ j. number_of_pair (c.from.ensures j) (c.from-in-loop-place.ensures j)) in
+    let is : c.from.result * 2 ^ 32 + c.from-in-loop-place.result ≡ key k =
+    (λ j. number_of_pair (c.from.ensures j) (c.from-in-loop-place.ensures j)) in
     rw (add-one, c.in_ok-push.ensures.items)
     (numbered_step key k old next c.loop-place.numbers.items z c.loop-place.invariant
     (subst (λ (q : ℕ). (old q ≡ Some z) ⊎ ((old q ≡ None) × (z ≡ k))) is c.in_ok-number_in.ensures.old)
@@ -21,5 +22,7 @@ loop-place-preserved c =
 
 pub returns : goal.returns
 returns c =
-    numbered_all c.args.left.now c.args.right.now c.loop-place.place (λ q. get nat_cmp c.loop-place.known q) c.loop-place.numbers.items c.loop-place.invariant
-    (omega (arith, c.loop-place-test.false, c.loop-place.auto.place-end)) (λ i. let fits = c.type_inv.right i in omega arith)
+    numbered_all c.args.left.now c.args.right.now c.loop-place.place
+    (λ q. get nat_cmp c.loop-place.known q) c.loop-place.numbers.items c.loop-place.invariant
+    (omega (arith, c.loop-place-test.false, c.loop-place.auto.place-end))
+    (λ i. let fits = c.type_inv.right i in omega arith)

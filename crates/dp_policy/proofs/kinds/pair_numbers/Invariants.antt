@@ -7,4 +7,5 @@ use Rattle.dp_policy.proofs.kinds.pair_numbers.Given as goal
 
 abbrev pub invariant-loop-place : goal.invariant-loop-place
 invariant-loop-place l =
-    AreNumbered (λ i. number_of_pair (get_or l.left i 0) (get_or l.right i 0)) l.place (λ q. get nat_cmp l.known q) l.numbers.items
+    AreNumbered (λ i. number_of_pair (get_or l.left i 0) (get_or l.right i 0)) l.place
+    (λ q. get nat_cmp l.known q) l.numbers.items

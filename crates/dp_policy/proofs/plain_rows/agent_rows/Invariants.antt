@@ -8,6 +8,7 @@ use Rattle.dp_policy.proofs.plain_rows.agent_rows.Given as goal
 abbrev pub invariant-loop-stage : goal.invariant-loop-stage
 invariant-loop-stage l = record {
   rows : map (λ r. r.items) l.stages.items
-      ≡ map (λ t. map (plain_row l.observations l.horizon (policy_tree l.root) t) (range_with_len 0 (l.observations ^ t))) (range_with_len 0 l.stage);
+      ≡ map (λ t. map (plain_row l.observations l.horizon (policy_tree l.root) t)
+      (range_with_len 0 (l.observations ^ t))) (range_with_len 0 l.stage);
   trees : l.stage < l.horizon → AreTreesAt l.observations (policy_tree l.root) l.stage l.trees.items;
 }

@@ -8,5 +8,6 @@ abbrev pub invariant-loop-place : goal.invariant-loop-place
 invariant-loop-place l = record {
   counted : length l.all.items ≡ l.place;
   each : (x : ℕ) → x < l.place → (d : Bor PTree)
-      → policy_tree (get_or l.all.items x d).now ≡ subtree (policy_tree (get_or l.trees (x / l.observations) d).now) (x % l.observations);
+      → policy_tree (get_or l.all.items x d).now ≡ subtree (policy_tree (get_or l.trees (x / l.observations) d).now)
+      (x % l.observations);
 }

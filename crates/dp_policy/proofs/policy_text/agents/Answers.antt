@@ -15,17 +15,21 @@ returns-in_err-named c =
     let p = err_from_is_err_and c.from_residual-in_err-named.result c.from_residual-in_err-named.ensures.1 in
     let inside : l.agent < length m.actions = omega arith in
     let seen : l.agent < length m.observations = omega (arith, c.invariant.ensures.model.sizes.alike) in
-    let title = c.in_err-named.ensures (agent_words l.agent) (agent_words_are l.agent (omega arith)) (c.as_slice.ensures.value ∙ c.in_ok-line.ensures.ok) in
+    let title = c.in_err-named.ensures (agent_words l.agent) (agent_words_are l.agent (omega arith))
+    (c.as_slice.ensures.value ∙ c.in_ok-line.ensures.ok) in
     rw (p.1, p.2) (fails_also _ _ _ (λ fault e.
-    sym l.invariant ∙ agents_stop_at_title TooLarge c.args.horizon m.actions m.observations l.agent (agents_of l.agents) l.at.line l.at.rest.now fault inside seen e)
+    sym l.invariant ∙ agents_stop_at_title TooLarge c.args.horizon m.actions m.observations l.agent
+    (agents_of l.agents) l.at.line l.at.rest.now fault inside seen e)
     title)
 
 pub stages-requires-clause-some : goal.stages-requires-clause-some
-stages-requires-clause-some c = rw c.actions.ensures (action_some c.args.model.now.model c.loop-agent.agent c.invariant.ensures.model (omega arith))
+stages-requires-clause-some c = rw c.actions.ensures (action_some c.args.model.now.model c.loop-agent.agent
+    c.invariant.ensures.model (omega arith))
 
 pub stages-requires-clause-few : goal.stages-requires-clause-few
 stages-requires-clause-few c = λ t in_time.
-    rw c.observations.ensures (histories_few c.args.model.now.model.observations c.args.horizon c.loop-agent.agent t c.requires.own_histories (omega (arith, c.invariant.ensures.model.sizes.alike)) in_time)
+    rw c.observations.ensures (histories_few c.args.model.now.model.observations c.args.horizon c.loop-agent.agent
+    t c.requires.own_histories (omega (arith, c.invariant.ensures.model.sizes.alike)) in_time)
 
 pub returns-in_err-rows : goal.returns-in_err-rows
 returns-in_err-rows c =
@@ -34,10 +38,13 @@ returns-in_err-rows c =
     let p = err_from_is_err_and c.from_residual-in_err-rows.result c.from_residual-in_err-rows.ensures.1 in
     let inside : l.agent < length m.actions = omega arith in
     let seen : l.agent < length m.observations = omega (arith, c.invariant.ensures.model.sizes.alike) in
-    let title = c.in_ok-named.ensures (agent_words l.agent) (agent_words_are l.agent (omega arith)) (c.as_slice.ensures.value ∙ c.in_ok-line.ensures.ok) in
+    let title = c.in_ok-named.ensures (agent_words l.agent) (agent_words_are l.agent (omega arith))
+    (c.as_slice.ensures.value ∙ c.in_ok-line.ensures.ok) in
     let rows = rw (c.actions.ensures, c.observations.ensures) at c.in_err-rows.ensures in
     rw (p.1, p.2) (fails_also _ _ _ (λ fault e.
-    sym l.invariant ∙ agents_stop_at_rows TooLarge c.args.horizon m.actions m.observations l.agent (agents_of l.agents) l.at.line c.in_ok-named.named.line l.at.rest.now c.in_ok-named.named.rest.now fault inside seen title e)
+    sym l.invariant ∙ agents_stop_at_rows TooLarge c.args.horizon m.actions m.observations l.agent
+    (agents_of l.agents) l.at.line c.in_ok-named.named.line l.at.rest.now c.in_ok-named.named.rest.now fault
+    inside seen title e)
     rows)
 
 pub loop-agent-preserved : goal.loop-agent-preserved
@@ -46,9 +53,12 @@ loop-agent-preserved c =
     let m = c.args.model.now.model in
     let inside : l.agent < length m.actions = omega arith in
     let seen : l.agent < length m.observations = omega (arith, c.invariant.ensures.model.sizes.alike) in
-    let title = c.in_ok-named.ensures (agent_words l.agent) (agent_words_are l.agent (omega arith)) (c.as_slice.ensures.value ∙ c.in_ok-line.ensures.ok) in
+    let title = c.in_ok-named.ensures (agent_words l.agent) (agent_words_are l.agent (omega arith))
+    (c.as_slice.ensures.value ∙ c.in_ok-line.ensures.ok) in
     let rows = rw (c.actions.ensures, c.observations.ensures) at c.in_ok-rows.ensures in
     let grown : agents_of c.push.new.self ≡ agents_of l.agents ++ rows_of c.in_ok-rows.rows ∷ [] =
     ap (map rows_of) c.in_ok-push.ensures.items ∙ map-append rows_of l.agents.items (c.in_ok-rows.rows ∷ []) in
-    rw grown (sym (agents_further TooLarge c.args.horizon m.actions m.observations l.agent (agents_of l.agents) l.at.line c.in_ok-named.named.line c.in_ok-rows.behind.line l.at.rest.now c.in_ok-named.named.rest.now c.in_ok-rows.behind.rest.now
+    rw grown (sym (agents_further TooLarge c.args.horizon m.actions m.observations l.agent (agents_of l.agents)
+    l.at.line c.in_ok-named.named.line c.in_ok-rows.behind.line l.at.rest.now c.in_ok-named.named.rest.now
+    c.in_ok-rows.behind.rest.now
     (rows_of c.in_ok-rows.rows) inside seen title rows) ∙ l.invariant)

@@ -27,13 +27,15 @@ of-requires c =
 pub returns-in_err-rows-clause-err : goal.returns-in_err-rows-clause-err
 returns-in_err-rows-clause-err c =
     let p = err_from_is_err_and c.from_residual.result c.from_residual.ensures.1 in
-    rw (p.1, p.2) (fails_says c.args.model.now.model c.invariant.ensures.model c.args.bytes.now _ c.in_err-rows.ensures.gives)
+    rw (p.1, p.2) (fails_says c.args.model.now.model c.invariant.ensures.model c.args.bytes.now _
+    c.in_err-rows.ensures.gives)
 
 pub returns-clause-ok : goal.returns-clause-ok
 returns-clause-ok c =
     let m = c.args.model.now.model in
     let h = c.in_ok-rows.rows.horizon in
-    let trees : said m (record { horizon = h; agents = agents_of c.in_ok-rows.rows.agents }) ≡ record { horizon = h; trees = map policy_tree c.in_ok-trees.trees.items } =
+    let trees : said m (record { horizon = h; agents = agents_of c.in_ok-rows.rows.agents })
+    ≡ record { horizon = h; trees = map policy_tree c.in_ok-trees.trees.items } =
     λ i. record { horizon = h; trees = sym c.in_ok-trees.ensures i } in
     subst (λ (s : SaidPolicy). IsPolicyAnswer m c.args.bytes.now (Ok s)) (trees ∙ ap said_by (sym c.of.ensures))
     (read_says m c.invariant.ensures.model c.args.bytes.now _ c.in_ok-rows.ensures.gives)

@@ -13,10 +13,14 @@ loop-place-preserved c =
     let reached = c.args.reached.now in
     let row : PolicyRow = record { action = c.action.result; next = c.of.result } in
     let old = (row_at S t (get_or reached k 0)).next in
-    let news = subst (λ (l : List ℕ). AreNumberedAfter kinds (length l) l c.loop-place.later.items c.renumbered_nexts.new.later.items c.in_ok-next.next.items) c.nexts_of-nexts.ensures.is c.in_ok-next.ensures.news in
+    let news = subst (λ (l : List ℕ). AreNumberedAfter kinds
+    (length l) l c.loop-place.later.items c.renumbered_nexts.new.later.items c.in_ok-next.next.items)
+    c.nexts_of-nexts.ensures.is c.in_ok-next.ensures.news in
     record {
       numbering = c.in_ok-next.ensures.numbering;
       rows = rw (add-one, c.in_ok-push.ensures.items)
-          (renumbered_step S t kinds k reached c.loop-place.rows.items c.loop-place.later.items c.renumbered_nexts.new.later.items row c.loop-place.invariant.rows c.action.ensures
-          (subst (AreNumberedAfter kinds (length old) old c.loop-place.later.items c.renumbered_nexts.new.later.items) (sym c.of.ensures) news));
+          (renumbered_step S t kinds k reached c.loop-place.rows.items c.loop-place.later.items
+          c.renumbered_nexts.new.later.items row c.loop-place.invariant.rows c.action.ensures
+          (subst (AreNumberedAfter kinds
+          (length old) old c.loop-place.later.items c.renumbered_nexts.new.later.items) (sym c.of.ensures) news));
     }

@@ -8,6 +8,7 @@ returns-then-stage-kinds-clause-is c =
     let kinds = c.args.kinds.now in
     let n = length kinds in
     let inside : n - 1 - c.args.stage < n = omega (arith, lt) in
-    let at = mapped_at (λ s. s.items) kinds (n - 1 - c.args.stage) [] c.index-kinds-kinds.result inside c.index-kinds-kinds.is in
+    let at = mapped_at (λ s. s.items) kinds
+    (n - 1 - c.args.stage) [] c.index-kinds-kinds.result inside c.index-kinds-kinds.is in
     let e : n - 1 - c.args.stage ≡ n - suc c.args.stage = omega arith in
     c.deref.ensures.value ∙ sym at ∙ ap (λ (k : ℕ). get_or (map (λ s. s.items) kinds) k []) e

@@ -11,7 +11,8 @@ pub loop-agent-init : goal.loop-agent-init
 loop-agent-init c =
     let m = c.args.model.now.model in
     let qs = unfolded c.args.policy.now.rows in
-    ap (λ l. map (λ s. map (λ r. r.items) s.items) l ++ shared_rows_of m.observations c.horizon-horizon.result qs) c.new-rows.ensures.items
+    ap (λ l. map (λ s. map (λ r. r.items) s.items) l ++ shared_rows_of m.observations c.horizon-horizon.result qs)
+    c.new-rows.ensures.items
     ∙ shared_form_made m c.horizon-horizon.result qs
 
 pub loop-agent-preserved : goal.loop-agent-preserved
@@ -23,11 +24,15 @@ loop-agent-preserved c =
     let i = c.loop-agent.agent in
     let alike = c.invariant.ensures.model.sizes.alike in
     let rows = rows_alike c.requires.agents in
-    let more = ap (map (λ s. map (λ r. r.items) s.items)) c.in_ok-push.ensures.items ∙ map-append (λ s. map (λ r. r.items) s.items) c.loop-agent.rows.items (c.in_ok-agent_rows.field-0 ∷ []) in
+    let more = ap (map (λ s. map (λ r. r.items) s.items)) c.in_ok-push.ensures.items
+    ∙ map-append (λ s. map (λ r. r.items) s.items) c.loop-agent.rows.items (c.in_ok-agent_rows.field-0 ∷ []) in
     ap (λ (l : SharedPolicy). l ++ shared_rows_of (drop (i + 1) m.observations) h (drop (i + 1) qs)) more
     ∙ rw add-one (shared_agents_step m.observations p h i _ _ _
-    (omega (arith, alike, rows, c.agents-agent-end.ensures.is, c.loop-agent-test.true)) (omega (arith, c.agents-agent-end.ensures.is, c.loop-agent-test.true)) c.loop-agent.invariant
-    (c.in_ok-agent_rows.ensures ∙ ap (λ (k : ℕ). shared_rows (get_or m.observations i 0) k (unfolded_tree (get_or p i []) 0)) (sym c.horizon-horizon.ensures.is)))
+    (omega (arith, alike, rows, c.agents-agent-end.ensures.is, c.loop-agent-test.true))
+    (omega (arith, c.agents-agent-end.ensures.is, c.loop-agent-test.true)) c.loop-agent.invariant
+    (c.in_ok-agent_rows.ensures ∙ ap
+    (λ (k : ℕ). shared_rows (get_or m.observations i 0) k (unfolded_tree (get_or p i []) 0))
+    (sym c.horizon-horizon.ensures.is)))
 
 pub of-requires : goal.of-requires
 of-requires c =
@@ -36,10 +41,12 @@ of-requires c =
     let h = c.horizon-horizon.result in
     let alike = c.invariant.ensures.model.sizes.alike in
     let rows = rows_alike c.requires.agents in
-    let le : length m.observations ≤ c.loop-agent.agent = omega (arith, alike, rows, c.agents-agent-end.ensures.is, c.loop-agent-test.false) in
+    let le : length m.observations ≤ c.loop-agent.agent =
+    omega (arith, alike, rows, c.agents-agent-end.ensures.is, c.loop-agent-test.false) in
     let is = shared_end m.observations (unfolded p) h c.loop-agent.agent _ _ le c.loop-agent.invariant in
     let e = c.horizon-horizon.ensures.is in
-    let kept = shared_form_kept m c.invariant.ensures.model c.args.policy.now.horizon (omega (arith, e, c.horizon-horizon.ensures.limit)) p c.requires in
+    let kept = shared_form_kept m c.invariant.ensures.model c.args.policy.now.horizon
+    (omega (arith, e, c.horizon-horizon.ensures.limit)) p c.requires in
     subst (AreKept h) (sym is) (subst (λ (k : ℕ). AreKept k (shared_form m k (unfolded p))) (sym e) kept)
 
 pub returns : goal.returns
@@ -49,7 +56,8 @@ returns c =
     let h = c.horizon-horizon.result in
     let alike = c.invariant.ensures.model.sizes.alike in
     let rows = rows_alike c.requires.agents in
-    let le : length m.observations ≤ c.loop-agent.agent = omega (arith, alike, rows, c.agents-agent-end.ensures.is, c.loop-agent-test.false) in
+    let le : length m.observations ≤ c.loop-agent.agent =
+    omega (arith, alike, rows, c.agents-agent-end.ensures.is, c.loop-agent-test.false) in
     let is = shared_end m.observations (unfolded p) h c.loop-agent.agent _ _ le c.loop-agent.invariant in
     let e = c.horizon-horizon.ensures.is in
     c.of.ensures ∙ (λ j. record { horizon = e j; rows = (is ∙ ap (λ (k : ℕ). shared_form m k (unfolded p)) e) j })

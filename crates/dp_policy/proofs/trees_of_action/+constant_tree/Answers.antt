@@ -12,8 +12,10 @@ returns t c =
     ∙ elim c.if-steps-gt1.branch [
       | then-steps-gt1+else-loop-seen-test w ↦
           ap (λ v. node c.args.action (policy_trees (map policy_tree v.items))) w.kids-is
-          ∙ constant_node c.args.observations c.args.steps c.args.action w.loop-seen._seen _ w.if-steps-gt1.true w.loop-seen.invariant (omega (arith, w.loop-seen-test.false, w.loop-seen.auto._seen-end))
+          ∙ constant_node c.args.observations c.args.steps c.args.action w.loop-seen._seen _ w.if-steps-gt1.true
+          w.loop-seen.invariant (omega (arith, w.loop-seen-test.false, w.loop-seen.auto._seen-end))
       | else-steps-gt1 w ↦
           ap (λ v. node c.args.action (policy_trees (map policy_tree v.items))) w.kids-is
-          ∙ constant_leaf c.args.observations c.args.steps c.args.action _ w.if-steps-gt1.false (ap (map policy_tree) c.new-kids.ensures.items)
+          ∙ constant_leaf c.args.observations c.args.steps c.args.action _ w.if-steps-gt1.false
+          (ap (map policy_tree) c.new-kids.ensures.items)
     ]

@@ -7,4 +7,5 @@ abbrev pub decreases-constant_tree : goal.decreases-constant_tree
 decreases-constant_tree l = l.steps
 
 abbrev pub invariant-loop-seen : goal.invariant-loop-seen
-invariant-loop-seen l = map policy_tree l.kids.items ≡ replicate l._seen (constant_tree l.observations (l.steps - 1) l.action)
+invariant-loop-seen l = map policy_tree l.kids.items ≡ replicate l._seen
+    (constant_tree l.observations (l.steps - 1) l.action)

@@ -11,4 +11,5 @@ loop-stage-preserved c =
     row_written c.args.text.now.items c.loop-stage.text.items c.push_row.new.text.items row
     (λ t. actions_below t (policy_tree c.args.tree.now)) c.loop-stage.stage c.loop-stage.invariant
     (c.in_ok-push_row.ensures ∙ ap (λ l. c.loop-stage.text.items ++ row_bytes l) c.as_slice.ensures.value)
-    (c.in_ok-push_actions.ensures ∙ ap (λ l. l ++ actions_below c.loop-stage.stage (policy_tree c.args.tree.now)) c.clear.ensures.items)
+    (c.in_ok-push_actions.ensures ∙ ap (λ l. l ++ actions_below c.loop-stage.stage (policy_tree c.args.tree.now))
+    c.clear.ensures.items)

@@ -8,4 +8,5 @@ use Rattle.dp_policy.proofs.write_text.push_rows.Given as goal
 -- the rows so far
 abbrev pub invariant-loop-stage : goal.invariant-loop-stage
 invariant-loop-stage l =
-    l.text.items ≡ l.fn.text.items ++ rows_bytes (map (λ t. actions_below t (policy_tree l.tree)) (range_with_len 0 l.stage))
+    l.text.items ≡ l.fn.text.items ++ rows_bytes (map (λ t. actions_below t (policy_tree l.tree))
+    (range_with_len 0 l.stage))

@@ -8,5 +8,7 @@ use Rattle.dp_policy.proofs.write_text.written.Given as goal
 -- what is written and what is still to be are all
 abbrev pub invariant-loop-agent : goal.invariant-loop-agent
 invariant-loop-agent l =
-    l.text.items ++ (agents_bytes l.agent (map (λ q. map (λ t. actions_below t q) (range_with_len 0 l.policy.horizon)) (drop l.agent (joint_policy l.policy))) ++ codes "end\n")
-    ≡ policy_bytes l.policy.horizon (map (λ q. map (λ t. actions_below t q) (range_with_len 0 l.policy.horizon)) (joint_policy l.policy))
+    l.text.items ++ (agents_bytes l.agent (map (λ q. map (λ t. actions_below t q)
+    (range_with_len 0 l.policy.horizon)) (drop l.agent (joint_policy l.policy))) ++ codes "end\n")
+    ≡ policy_bytes l.policy.horizon (map (λ q. map (λ t. actions_below t q) (range_with_len 0 l.policy.horizon))
+    (joint_policy l.policy))

@@ -11,8 +11,10 @@ subtree-requires c =
     let n = length m.actions in
     let i = c.loop-agent.agent in
     let li : i < n = omega (arith, c.agents-agent-end.ensures.is, c.loop-agent-test.true) in
-    let is = tree_in n c.args.trees.now i c.index-trees-agent.result li (omega (arith, c.type_inv.trees, c.agents-agent-end.ensures.limit, c.loop-agent-test.true)) in
-    let has = has_subtree m c.args.rest (first_trees n c.args.trees.now) c.requires.policy (sym c.invariant.ensures.model.sizes.alike) c.args.seen i c.requires.some c.requires.seen li in
+    let is = tree_in n c.args.trees.now i c.index-trees-agent.result li
+    (omega (arith, c.type_inv.trees, c.agents-agent-end.ensures.limit, c.loop-agent-test.true)) in
+    let has = has_subtree m c.args.rest (first_trees n c.args.trees.now) c.requires.policy
+    (sym c.invariant.ensures.model.sizes.alike) c.args.seen i c.requires.some c.requires.seen li in
     rw (is, c.local_obs.ensures) has
 
 pub loop-agent-preserved : goal.loop-agent-preserved
@@ -26,10 +28,14 @@ loop-agent-preserved c =
     record {
       all = length-set c.loop-agent.after i c.subtree.result ∙ all;
       are = below_more _ _
-          (λ k lt d. let ne : k ≢ c.loop-agent.agent = omega (arith, lt) in rw get_or-set_other (c.loop-agent.invariant.are k lt d))
-          (λ d. let lt : c.loop-agent.agent < length c.loop-agent.after = omega (arith, all, few, c.loop-agent-test.true) in
+          (λ k lt d. let ne : k ≢ c.loop-agent.agent = omega (arith, lt) in
+          rw get_or-set_other (c.loop-agent.invariant.are k lt d))
+          (λ d. let lt : c.loop-agent.agent < length c.loop-agent.after =
+          omega (arith, all, few, c.loop-agent-test.true) in
           rw get_or-set_same (c.subtree.ensures
-          ∙ (λ j. subtree (tree_in n c.args.trees.now i c.index-trees-agent.result li (omega (arith, c.type_inv.trees, c.agents-agent-end.ensures.limit, c.loop-agent-test.true)) j) (c.local_obs.ensures j))));
+          ∙ (λ j. subtree (tree_in n c.args.trees.now i c.index-trees-agent.result li
+          (omega (arith, c.type_inv.trees, c.agents-agent-end.ensures.limit, c.loop-agent-test.true)) j)
+          (c.local_obs.ensures j))));
     }
 
 pub returns : goal.returns
@@ -38,6 +44,7 @@ returns c =
     let n = length m.actions in
     let few = c.agents-agent-end.ensures.limit in
     let end = c.agents-agent-end.ensures.is in
-    are_after m c.args.rest (first_trees n c.args.trees.now) c.requires.policy (sym c.invariant.ensures.model.sizes.alike) c.args.seen c.loop-agent.after
+    are_after m c.args.rest (first_trees n c.args.trees.now) c.requires.policy
+    (sym c.invariant.ensures.model.sizes.alike) c.args.seen c.loop-agent.after
     (omega (arith, c.loop-agent.invariant.all, few, end))
     (λ i lt d. c.loop-agent.invariant.are i (omega (arith, lt, end, c.loop-agent-test.false)) d)

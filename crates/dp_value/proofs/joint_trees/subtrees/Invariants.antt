@@ -11,5 +11,6 @@ abbrev pub invariant-loop-agent : goal.invariant-loop-agent
 invariant-loop-agent l = record {
   all : length l.after ≡ 6;
   are : (i : ℕ) → i < l.agent → (d : Bor PTree)
-      → policy_tree (get_or l.after i d).now ≡ subtree (tree_of (first_trees (length l.model.model.actions) l.trees) i) (part_of l.model.model.observations l.seen i);
+      → policy_tree (get_or l.after i d).now ≡ subtree
+      (tree_of (first_trees (length l.model.model.actions) l.trees) i) (part_of l.model.model.observations l.seen i);
 }

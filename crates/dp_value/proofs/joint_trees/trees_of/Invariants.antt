@@ -7,5 +7,6 @@ use Rattle.dp_value.proofs.joint_trees.trees_of.Given as goal
 abbrev pub invariant-loop-agent : goal.invariant-loop-agent
 invariant-loop-agent l = record {
   all : length l.trees ≡ 6;
-  are : (i : ℕ) → i < l.agent → (d : Bor PTree) → policy_tree (get_or l.trees i d).now ≡ tree_of (joint_policy l.policy) i;
+  are : (i : ℕ) → i < l.agent → (d : Bor PTree)
+      → policy_tree (get_or l.trees i d).now ≡ tree_of (joint_policy l.policy) i;
 }

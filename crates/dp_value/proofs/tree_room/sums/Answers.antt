@@ -13,8 +13,10 @@ worth_from-requires-clause-sizes g c =
     let p = c.args.policy.now in
     let steps : p.horizon ≡ suc (c.horizon.result - 1) = omega (arith, c.horizon.ensures.is, c.requires.some) in
     let trees = trees_held m p.horizon p c.trees_of-trees.result c.requires.sizes.policy c.trees_of-trees.ensures in
-    same_evaluable A (g.A.Arith.calls c.args.arith.now) m p.horizon (suc (c.horizon.result - 1)) (λ s. A.start (start_at m s)) (weights_of c.start_weights.new.weights)
-    (joint_policy p) (first_trees (length m.actions) c.trees_of-trees.result) c.requires.sizes c.start_weights.ensures steps (sym trees)
+    same_evaluable A (g.A.Arith.calls c.args.arith.now) m p.horizon (suc (c.horizon.result - 1))
+    (λ s. A.start (start_at m s)) (weights_of c.start_weights.new.weights)
+    (joint_policy p) (first_trees (length m.actions) c.trees_of-trees.result) c.requires.sizes
+    c.start_weights.ensures steps (sym trees)
 
 pub returns : goal.returns
 returns g c =
@@ -23,5 +25,6 @@ returns g c =
     let p = c.args.policy.now in
     let steps : suc (c.horizon.result - 1) ≡ p.horizon = omega (arith, c.horizon.ensures.is, c.requires.some) in
     let trees = trees_held m p.horizon p c.trees_of-trees.result c.requires.sizes.policy c.trees_of-trees.ensures in
-    worth_from_start A m p.horizon (suc (c.horizon.result - 1)) (weights_of c.start_weights.new.weights) (joint_policy p) (first_trees (length m.actions) c.trees_of-trees.result)
+    worth_from_start A m p.horizon (suc (c.horizon.result - 1)) (weights_of c.start_weights.new.weights)
+    (joint_policy p) (first_trees (length m.actions) c.trees_of-trees.result)
     c.worth_from.result c.worth_from.ensures c.start_weights.ensures steps trees

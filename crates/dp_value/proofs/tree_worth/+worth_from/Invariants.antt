@@ -9,4 +9,5 @@ decreases-worth_from g l = l.rest
 
 abbrev pub invariant-loop-seen : goal.invariant-loop-seen
 invariant-loop-seen g l =
-    l.total ≡ earned_after (g.A.Arith.operations l.arith) l.model.model l.rest (weights_of l.fn.weights) (first_trees (length l.model.model.actions) l.trees) l.seen
+    l.total ≡ earned_after (g.A.Arith.operations l.arith) l.model.model l.rest (weights_of l.fn.weights)
+    (first_trees (length l.model.model.actions) l.trees) l.seen

@@ -7,7 +7,8 @@ use Rattle.dp_policy.proofs.policy.Policy.action_at.Given as goal
 
 abbrev pub invariant-loop-seen : goal.invariant-loop-seen
 invariant-loop-seen l = record {
-  whole : IsPolicyTree (2 ^ 32) (observations_of (joint_policy l.self) l.agent) (l.self.horizon - l.seen-index) (policy_tree l.here);
+  whole : IsPolicyTree (2 ^ 32) (observations_of (joint_policy l.self) l.agent) (l.self.horizon - l.seen-index)
+      (policy_tree l.here);
   reached : remaining_after (tree_of (joint_policy l.self) l.agent) l.history
       ≡ remaining_after (policy_tree l.here) (drop l.seen-index l.history);
 }
