@@ -1,7 +1,8 @@
 -- Each command is sound: its own proof has it.
 use Rattle.dp_words.specs.declared.job.Job.{Job}
-use Rattle.dp_words.specs.declared.job.Job.TheVariants.{Plan, Value}
+use Rattle.dp_words.specs.declared.job.Job.TheVariants.{Check, Plan, Value}
 use Rattle.dp_cli.specs.Commands.{command_of}
+use Rattle.dp_cli.proofs.CheckIsSound.{check_is_sound}
 use Rattle.dp_cli.proofs.PlanIsSound.{plan_is_sound}
 use Rattle.dp_cli.proofs.Sound.{IsSound}
 use Rattle.dp_cli.proofs.ValueIsSound.{value_is_sound}
@@ -9,3 +10,4 @@ use Rattle.dp_cli.proofs.ValueIsSound.{value_is_sound}
 pub command_is_sound : (job : Job) → IsSound (command_of job)
 command_is_sound (Plan job) = plan_is_sound job
 command_is_sound (Value job) = value_is_sound job
+command_is_sound (Check job) = check_is_sound job

@@ -15,3 +15,7 @@ mod WorthSizes
 mod PolicyLimits
 mod Policies
 mod ValueTexts
+mod CertificateLimits
+mod CertificateSizes
+mod CheckIsSound
+mod Checks

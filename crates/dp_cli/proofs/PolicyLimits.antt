@@ -14,12 +14,12 @@ use Rattle.dp_policy.proofs.PolicyParts.{behind_limits, behind_agents}
 use Rattle.dp_cli.proofs.FileLimits.{IsOther, horizon_is_other, is_of_file}
 
 -- no limit of the grammar is one on the bytes of a file
-abbrev AreOther : {V : Type 0} → Grammar TooLarge V → Type 0
+abbrev pub AreOther : {V : Type 0} → Grammar TooLarge V → Type 0
 AreOther (ends x) = Unit {0}
 AreOther (passes passed) = is_of_file passed.what ≡ false
 AreOther (next forms after) = (k : ℕ) (zs : List ℤ) → AreOther (after k zs)
 
-AreOther-bind : {V W : Type 0} (g : Grammar TooLarge V) (f : V → Grammar TooLarge W) → AreOther g
+pub AreOther-bind : {V W : Type 0} (g : Grammar TooLarge V) (f : V → Grammar TooLarge W) → AreOther g
     → ((v : V) → AreOther (f v)) → AreOther (g >>= f)
 AreOther-bind (ends x) f here behind = behind x
 AreOther-bind (passes passed) f here behind = here
@@ -42,7 +42,7 @@ front_limit {V = V} (next forms after) line bytes passed are e =
     by (Ok found) rest e = rest found.k found.zs found.more e
     by (Err why) rest e = absurd cc
 
-text_limit : {V : Type 0} (g : Grammar TooLarge V) (bytes : List ℕ) (passed : TooLarge) → AreOther g
+pub text_limit : {V : Type 0} (g : Grammar TooLarge V) (bytes : List ℕ) (passed : TooLarge) → AreOther g
     → text_from g 1 bytes ≡ Err (limit passed) → is_of_file passed.what ≡ false
 text_limit {V = V} g bytes passed are e = by (front_of g 1 bytes) refl e
   where

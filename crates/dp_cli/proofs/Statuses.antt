@@ -39,6 +39,7 @@ fault_apart (job_faults.TooLarge passed) = record {
   read = λ e. cc;
   limit = λ e. (passed, refl);
 }
+fault_apart (job_faults.Rejected reason) = record { done = λ e. cc; usage = λ e. cc; read = λ e. cc; limit = λ e. cc }
 fault_apart (job_faults.Unbuilt part) = record { done = λ e. cc; usage = λ e. cc; read = λ e. cc; limit = λ e. cc }
 
 -- the status of an answer

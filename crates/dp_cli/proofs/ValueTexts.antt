@@ -2,7 +2,7 @@
 use Rattle.std.proofs.Common.{◌≡◌, ℕ, List, [], ◌∷◌, ◌++◌, ap, ◌∙◌, append_assoc}
 
 -- what is appended, and more after it
-and_then : (before here after first more : List ℕ) → here ≡ before ++ first → after ≡ here ++ more
+pub and_then : (before here after first more : List ℕ) → here ≡ before ++ first → after ≡ here ++ more
     → after ≡ before ++ (first ++ more)
 and_then before here after first more e f = f ∙ ap (λ l. l ++ more) e ∙ append_assoc before first more
 

@@ -1,6 +1,7 @@
 -- The command of each job.
 use Rattle.dp_words.specs.declared.job.Job.{Job}
-use Rattle.dp_words.specs.declared.job.Job.TheVariants.{Plan, Value}
+use Rattle.dp_words.specs.declared.job.Job.TheVariants.{Check, Plan, Value}
+use Rattle.dp_cli.specs.CheckCommand.{check_command}
 use Rattle.dp_cli.specs.Command.{Command}
 use Rattle.dp_cli.specs.PlanCommand.{plan_command}
 use Rattle.dp_cli.specs.ValueCommand.{value_command}
@@ -8,3 +9,4 @@ use Rattle.dp_cli.specs.ValueCommand.{value_command}
 abbrev pub command_of : Job → Command
 command_of (Plan job) = plan_command job
 command_of (Value job) = value_command job
+command_of (Check job) = check_command job

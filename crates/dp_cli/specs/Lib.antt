@@ -1,12 +1,14 @@
 pub mod Answer
 pub mod Causes
 pub mod Certified
+pub mod CheckCommand
 pub mod Command
 pub mod Commands
 pub mod ModelText
 pub mod PlanCommand
 pub mod Planned
 pub mod Put
+pub mod ReasonLines
 pub mod Refusal
 pub mod Run
 pub mod Status

@@ -10,6 +10,8 @@ use Rattle.dp_model.specs.declared.limit.TooLarge.{TooLarge}
 use Rattle.dp_model.specs.Limits.{greatest_allowed, limit_word}
 use Rattle.dp_meaning.specs.declared.why.Why.{Why}
 use Rattle.dp_meaning.specs.Faults.{why_word}
+use Rattle.dp_cert.specs.declared.fault.CertFault.{CertFault}
+use Rattle.dp_cert.specs.declared.fault.CertFault.TheVariants as certificate_faults
 use Rattle.dp_policy.specs.declared.fault.PolicyFault.{PolicyFault}
 use Rattle.dp_policy.specs.declared.fault.PolicyFault.TheVariants as policy_faults
 use Rattle.dp_reader.specs.declared.fault.ModelFault.{ModelFault}
@@ -25,6 +27,7 @@ use Rattle.dp_cli.specs.declared.refusal.UnbuiltPart.TheVariants.{Horizon, Outwa
 use Rattle.dp_cli.specs.declared.refusal.Refusal.{Refusal}
 use Rattle.dp_cli.specs.declared.refusal.Refusal.TheVariants as refusals
 use Rattle.dp_cli.specs.declared.status.Status.{Status}
+use Rattle.dp_cli.specs.ReasonLines.{reason_line}
 use Rattle.dp_cli.specs.declared.status.Status.TheVariants as statuses
 
 -- the limit that a file of each role passes where it is longer than it may be
@@ -63,11 +66,18 @@ policy_refusal (policy_faults.At line why) = refusals.Fault (job_faults.BadFile 
 policy_refusal (policy_faults.TooLarge passed) = refusals.Fault (job_faults.TooLarge passed)
 policy_refusal policy_faults.Memory = refusals.Memory
 
+-- bytes that are no certificate
+abbrev pub certificate_refusal : CertFault → Refusal
+certificate_refusal (certificate_faults.At line why) = refusals.Fault (job_faults.BadFile line why)
+certificate_refusal (certificate_faults.TooLarge passed) = refusals.Fault (job_faults.TooLarge passed)
+certificate_refusal certificate_faults.Memory = refusals.Memory
+
 -- the exit status of what is wrong with the texts of a job
 abbrev pub fault_status : JobFault → Status
 fault_status (job_faults.BadModel line column why) = statuses.BadModel
 fault_status (job_faults.BadFile line why) = statuses.BadFile
 fault_status (job_faults.TooLarge passed) = statuses.TooLarge
+fault_status (job_faults.Rejected reason) = statuses.Rejected
 fault_status (job_faults.Unbuilt part) = statuses.Unbuilt
 
 -- the exit status of each refusal
@@ -112,6 +122,7 @@ abbrev pub fault_line : JobFault → List ℕ
 fault_line (job_faults.BadModel line column why) = model_line line column why
 fault_line (job_faults.BadFile line why) = file_line line why
 fault_line (job_faults.TooLarge passed) = large_line passed
+fault_line (job_faults.Rejected reason) = reason_line reason
 fault_line (job_faults.Unbuilt part) = unbuilt_line part
 
 -- the line that a refusal prints

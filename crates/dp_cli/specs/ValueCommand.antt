@@ -26,7 +26,7 @@ use Rattle.dp_cli.specs.ModelText.{model_fault, model_of_text}
 -- ---- what may be wrong
 
 -- what is wrong with a second file by what its lines say
-abbrev pub lines_fault : Result PolicyActions (Fault TooLarge) → Option JobFault
+abbrev pub lines_fault : {V : Type 0} → Result V (Fault TooLarge) → Option JobFault
 lines_fault (Ok said) = None
 lines_fault (Err (bad line why)) = Some (job_faults.BadFile line why)
 lines_fault (Err (limit passed)) = Some (job_faults.TooLarge passed)

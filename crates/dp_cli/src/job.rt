@@ -5,6 +5,7 @@ ghost use Rattle.dp_cli.specs.Run.{Replies};
 ghost use Rattle.dp_cli.specs.Steps.{answer_of};
 
 use crate::Refusal;
+use crate::check::check;
 use crate::plan::plan;
 use crate::value::value;
 use dp_io::Shelf;
@@ -32,5 +33,6 @@ fn do_job<S: Shelf>(alloc: Global, job: &Job, shelf: &mut S) -> Result<Vec<u8>, 
     match job {
         Job::Plan(job) => plan(alloc, job, shelf),
         Job::Value(job) => value(alloc, job, shelf),
+        Job::Check(job) => check(alloc, job, shelf),
     }
 }

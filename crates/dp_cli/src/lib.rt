@@ -8,10 +8,12 @@ ghost use Rattle.dp_cli.specs.Causes.{files_of, first_refusal, IsCertified, Logs
 ghost use Rattle.dp_cli.specs.Put.{PutsOrMemory};
 ghost use Rattle.dp_cli.specs.Run.{IsFound, Runs, RunsAsTold};
 
+mod check;
 mod fetch;
 mod job;
 mod plan;
 mod put;
+mod reason;
 mod refusal;
 mod status;
 mod value;
@@ -47,7 +49,9 @@ pub fn run<S: Shelf, W: Sink>(alloc: Global, words: &[String], shelf: &mut S, ou
     // the model of the file's bytes, the value of its policy lies in its interval, and no joint policy is
     // worth more than the upper end; where it is closed and exact, its ends are equal and its policy is
     // optimal. Of `value`: the bytes of the second file are the text of a joint policy for the model of
-    // the first, and the two numbers of the text are its value, or hold it between them.
+    // the first, and the two numbers of the text are its value, or hold it between them. Of `check`: the
+    // bytes of the second file are the text of a certificate that is valid for the model of the first, what
+    // it claims is so, as of a plan's, and the three words tell whether it is closed, lean and merged.
     ensures certified { result ≡ Status.Done → IsCertified (job_of (map string_bytes words.now))
         (S.view shelf.old) (S.view shelf.new) (W.view out.old) (W.view out.new) }
 

@@ -5,6 +5,7 @@ ghost use Rattle.dp_cli.specs.Answer.{refused};
 ghost use Rattle.dp_cli.specs.Put.{PutsAnswer};
 ghost use Rattle.dp_cli.specs.Steps.{PutsOutcome, PutsRefusal};
 
+use crate::reason::line_of_reason;
 use crate::{JobFault, Refusal, Status};
 use dp_base::Memory;
 use dp_io::Sink;
@@ -63,6 +64,7 @@ fn line_of_fault(alloc: Global, fault: JobFault) -> Result<String, Memory>
         JobFault::BadModel { line, column, why } => line_of_model(alloc, line, column, why),
         JobFault::BadFile { line, why } => line_of_file(alloc, line, why),
         JobFault::TooLarge(passed) => line_of_limit(alloc, passed),
+        JobFault::Rejected(reason) => line_of_reason(alloc, reason),
         JobFault::Unbuilt(part) => Ok(String::from_str(alloc, part.line())?),
     }
 }

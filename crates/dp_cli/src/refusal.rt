@@ -3,6 +3,8 @@ ghost use Rattle.dp_cli.specs.Refusal.{word_refusal, fetch_refusal};
 
 use crate::Status;
 use dp_base::Memory;
+use dp_cert::CertFault;
+use dp_check::Reason;
 use dp_io::FetchFault;
 use dp_lines::FileWhy;
 use dp_meaning::Why;
@@ -38,6 +40,8 @@ pub enum JobFault {
     BadFile { line: u32, why: FileWhy },
     /// A limit is passed.
     TooLarge(TooLarge),
+    /// The second file is the text of a certificate that is not valid, for this first reason.
+    Rejected(Reason),
     /// The job needs what is not built yet.
     Unbuilt(UnbuiltPart),
 }
@@ -106,6 +110,20 @@ impl From<PolicyFault> for Refusal {
     }
 }
 
+impl From<CertFault> for Refusal {
+    ghost use Rattle.dp_cli.specs.Refusal.{certificate_refusal};
+
+    ghost from_gives = { λ fault refusal. refusal ≡ certificate_refusal fault };
+
+    fn from(fault: CertFault) -> Refusal {
+        match fault {
+            CertFault::At { line, why } => Refusal::Fault(JobFault::BadFile { line, why }),
+            CertFault::TooLarge(passed) => Refusal::Fault(JobFault::TooLarge(passed)),
+            CertFault::Memory => Refusal::Memory,
+        }
+    }
+}
+
 impl From<JobFault> for Refusal {
     ghost use Rattle.dp_cli.specs.declared.refusal.Refusal.TheVariants as refusals;
 
@@ -138,6 +156,7 @@ impl JobFault {
             JobFault::BadModel { .. } => Status::BadModel,
             JobFault::BadFile { .. } => Status::BadFile,
             JobFault::TooLarge(_) => Status::TooLarge,
+            JobFault::Rejected(_) => Status::Rejected,
             JobFault::Unbuilt(_) => Status::Unbuilt,
         }
     }

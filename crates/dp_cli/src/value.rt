@@ -74,7 +74,7 @@ fn push_head(text: &mut Vec<u8>, repaired: u32, exact: bool, unit: i128) -> Resu
 }
 
 // The line of an end, with what it is over the unit, rounded down, or up.
-fn push_end(
+pub(crate) fn push_end(
     alloc: Global,
     text: &mut Vec<u8>,
     word: &[u8],
@@ -98,7 +98,7 @@ fn push_end(
 }
 
 // The word of a mode.
-fn mode_word(exact: bool) -> &'static str
+pub(crate) fn mode_word(exact: bool) -> &'static str
     ensures { result.now ≡ mode_word exact }
 {
     if exact { "exact" } else { "outward" }

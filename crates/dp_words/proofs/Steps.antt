@@ -64,7 +64,7 @@ required (m ∷ ms) v n is all =
 -- one entry for each command of the table
 commands_have : (v : Values) → holds v (number_option horizon) ≡ true → EachHas v commands
 commands_have v holds =
-    ((λ off files ok. (horizon_of plan_row.options plan_row.required refl off files ok, (omega arith, omega arith))), (λ off files ok. (tt, tt), tt))
+    ((λ off files ok. (horizon_of plan_row.options plan_row.required refl off files ok, (omega arith, omega arith))), (λ off files ok. (tt, tt), (λ off files ok. (tt, tt), tt)))
   where
     horizon_of : (options names : List Text) → is_in (codes "horizon") names ≡ true
         → (off : Bool) (files : List Text) → fits options names v off ≡ true

@@ -7,7 +7,7 @@ use Rattle.std.specs.List.{starts_with, list_all, list_any}
 use Rattle.dp_base.specs.DecimalShape.{is_index}
 use Rattle.dp_words.specs.Line.{Given, Text, is_given, is_well_given, may_be_value, options_of, plain_of, value_in}
 use Rattle.dp_words.specs.declared.job.Job.{Job}
-use Rattle.dp_words.specs.declared.job.Job.TheVariants.{Plan, Value}
+use Rattle.dp_words.specs.declared.job.Job.TheVariants.{Check, Plan, Value}
 use Rattle.dp_words.specs.declared.job.OrderWord.TheVariants.{First}
 use Rattle.dp_words.specs.declared.job.WordFault.{WordFault}
 use Rattle.dp_words.specs.declared.job.WordFault.TheVariants as faults
@@ -112,9 +112,13 @@ plan_row = command_row (codes "plan") 1 (codes "horizon" ∷ []) (codes "horizon
 abbrev pub value_row : CommandRow
 value_row = command_row (codes "value") 2 [] [] (λ read file. Value (record { model = file 0; policy = file 1 }))
 
+-- `check MODEL CERT`
+abbrev pub check_row : CommandRow
+check_row = command_row (codes "check") 2 [] [] (λ read file. Check (record { model = file 0; cert = file 1 }))
+
 -- the table of commands
 abbrev pub commands : List CommandRow
-commands = plan_row ∷ value_row ∷ []
+commands = plan_row ∷ value_row ∷ check_row ∷ []
 
 -- ---- the job
 
@@ -169,8 +173,10 @@ IsReadAs job (Err faults.Memory) = Unit {0}
 abbrev pub HasSomeStep : Job → Type 0
 HasSomeStep (Plan job) = 1 ≤ job.horizon
 HasSomeStep (Value job) = Unit {0}
+HasSomeStep (Check job) = Unit {0}
 
 -- the look of a plan is from 1 to 16
 abbrev pub HasLook : Job → Type 0
 HasLook (Plan job) = (1 ≤ job.look) × (job.look ≤ 16)
 HasLook (Value job) = Unit {0}
+HasLook (Check job) = Unit {0}

@@ -8,6 +8,8 @@ pub enum Job {
     Plan(PlanJob),
     /// The value of a joint policy.
     Value(ValueJob),
+    /// The check of a certificate.
+    Check(CheckJob),
 }
 
 /// A plan for the model: the version of its certificate's text, its horizon, the budget of inner
@@ -29,6 +31,13 @@ pub struct PlanJob {
 pub struct ValueJob {
     pub model: Name,
     pub policy: Name,
+}
+
+/// The check of the certificate of a second file against the model of a model file.
+#[derive(Drop)]
+pub struct CheckJob {
+    pub model: Name,
+    pub cert: Name,
 }
 
 /// The place of a front at which a plan's search branches.

@@ -1,9 +1,9 @@
 // The job of the words.
 ghost use Rattle.std.specs.Prelude.{◌≡◌, ◌∷◌, IfOk, map, true, string_bytes};
-ghost use Rattle.dp_words.specs.Words.{HasLook, HasSomeStep, IsReadAs, all_hold, command_job, job_of, job_of_values, plan_row, row_job, value_row};
+ghost use Rattle.dp_words.specs.Words.{HasLook, HasSomeStep, IsReadAs, all_hold, check_row, command_job, job_of, job_of_values, plan_row, row_job, value_row};
 ghost use Rattle.dp_words.specs.Command.{merging_off, plain_words, values_of};
 
-use crate::job::{Job, OrderWord, PlanJob, ValueJob, WordFault};
+use crate::job::{CheckJob, Job, OrderWord, PlanJob, ValueJob, WordFault};
 use crate::line::{Setting, all_hold, fits, merging_off, value_of};
 use crate::name::Name;
 use crate::parse::parsed;
@@ -80,6 +80,23 @@ fn value(alloc: Global, given: &ArgMatches<'_>, files: &[&str]) -> Result<Job, W
     }))
 }
 
+// `check MODEL CERT`
+fn check(alloc: Global, given: &ArgMatches<'_>, files: &[&str]) -> Result<Job, WordFault>
+    ensures { IsReadAs (row_job (values_of given.now) (merging_off given.now) (map (λ f. f.now) files.now)
+        check_row) result }
+{
+    let [model, cert] = files else {
+        return Err(WordFault::Usage);
+    };
+    if !fits(given, NONE.as_slice(), NONE.as_slice()) {
+        return Err(WordFault::Usage);
+    }
+    Ok(Job::Check(CheckJob {
+        model: Name::of(alloc, model)?,
+        cert: Name::of(alloc, cert)?,
+    }))
+}
+
 // The job of a command.
 fn command_job(
     alloc: Global,
@@ -94,6 +111,7 @@ fn command_job(
     match command {
         "plan" => plan(alloc, given, files),
         "value" => value(alloc, given, files),
+        "check" => check(alloc, given, files),
         _ => Err(WordFault::Usage),
     }
 }
@@ -122,7 +140,8 @@ fn matches_job(alloc: Global, given: &ArgMatches<'_>) -> Result<Job, WordFault>
 /// command's, is given twice or has no value in its range, or one that it requires is missing.
 ///
 /// Today the commands are `plan MODEL --horizon H`, where H is from 1 to 4,294,967,295, in digits
-/// that do not begin with 0, and `value MODEL POLICY`. All that the words do not say has its default.
+/// that do not begin with 0, `value MODEL POLICY`, and `check MODEL CERT`. All that the words do not say
+/// has its default.
 pub fn read_words(alloc: Global, words: &[String]) -> Result<Job, WordFault>
     ensures read { IsReadAs (job_of (map string_bytes words.now)) result }
     ensures some_step { IfOk result HasSomeStep }
