@@ -1,18 +1,17 @@
 -- Certificate texts have one answer.
-use Rattle.std.proofs.Common.{◌≡◌, ℕ, zero, suc, ◌+◌, ◌*◌, ◌-◌, ◌^◌, ◌<◌, Bool, true, false, cond, List, [], ◌∷◌, length, map, Result, Ok, Err, refl, subst, arith}
+use Rattle.std.proofs.Common.{◌≡◌, ℕ, zero, suc, ◌+◌, ◌^◌, ◌<◌, Bool, true, false, cond, List, [], ◌∷◌, length, map, Result, Ok, Err, refl, subst, arith}
 use Rattle.std.specs.Prelude.{ℤ, Option, Some, None, replicate, codes, unsigned_abs, ◌==◌}
 use Rattle.std.specs.Fmt.{decimal}
 use Rattle.std.proofs.lemmas.Fmt.{decimal_digit}
 use Rattle.dp_spec.specs.BoundTree.{BoundTree, branch, merge, more_bound_trees}
-use Rattle.dp_spec.specs.Certificate.{Certificate}
-use Rattle.dp_spec.specs.Model.{Model, IsModel}
+use Rattle.dp_spec.specs.Model.{Model}
 use Rattle.dp_spec.specs.PlainForm.{observations_after}
 use Rattle.dp_spec.specs.PolicyText.{horizon_form, row_form, title_form}
 use Rattle.dp_spec.specs.SharedRows.{counts_form, products, shared_row_form}
 use Rattle.dp_spec.specs.TextLines.{Item, plain}
-use Rattle.dp_spec.specs.CertificateText.{look_form, mode_form, signed_form, inner_form}
+use Rattle.dp_spec.specs.CertificateText.{look_form, signed_form, inner_form}
 use Rattle.dp_model.specs.declared.limit.TooLarge.{TooLarge}
-use Rattle.dp_lines.specs.Grammar.{Grammar, ends, ◌>>=◌, IsAnswer}
+use Rattle.dp_lines.specs.Grammar.{ends, ◌>>=◌, IsAnswer}
 use Rattle.dp_lines.specs.Lines.{AreWords}
 use Rattle.dp_lines.specs.Scanning.{text_from}
 use Rattle.dp_lines.proofs.SpelledLines.{HasItems}
@@ -21,11 +20,11 @@ use Rattle.dp_lines.proofs.FirstLines.{AreProper, are_apart}
 use Rattle.dp_lines.proofs.OneAnswer.{IsProper, IsProper-bind, read_answer, one_answer}
 use Rattle.dp_cert.specs.declared.fault.CertFault.{CertFault}
 use Rattle.dp_cert.specs.declared.fault.CertFault.TheVariants as faults
-use Rattle.dp_cert.specs.CertificateGrammar.{Head, branch_below, certificate_from, certificate_grammar, head_grammar, horizon_grammar, horizon_passed, interval_grammar, leaf_only, merge_below, node_below, node_forms, repeated, title_grammar, tree_grammar, tree_lines}
+use Rattle.dp_cert.specs.CertificateGrammar.{branch_below, certificate_grammar, head_grammar, horizon_grammar, horizon_passed, leaf_only, merge_below, node_below, node_forms, repeated, title_grammar, tree_grammar, tree_lines}
 use Rattle.dp_cert.specs.CertificateLaws.{EachCertificateTextHasOneAnswer}
 use Rattle.dp_cert.specs.PolicyGrammar.{agent_words, cells_passed, counts_grammar, first_of_counts, nexts_before, plain_agent, plain_agents, plain_stage, plain_stages, policy_grammar, row_line, row_of, rows_from, rows_of_form, shared_agents, shared_stages}
 use Rattle.dp_cert.specs.Reading.{Gives, Answers}
-use Rattle.dp_cert.specs.TextSteps.{Text, and_then, first_number, first_plain, one_of, the_numbers, the_words, unless_passed}
+use Rattle.dp_cert.specs.TextSteps.{Text, and_then, first_plain, the_numbers, the_words, unless_passed}
 use Rattle.dp_cert.proofs.AgentWords.{agent_words_are}
 use Rattle.dp_cert.proofs.CertificateParts.{behind_head, behind_horizon, behind_policy, behind_tree, behind_version}
 use Rattle.dp_cert.proofs.FixedLines.{one_is_word, two_is_word}
@@ -46,7 +45,7 @@ and_proper : {A : Type 0} (g : Text A) (G : Text (List A)) → IsProper g → Is
 and_proper g G p q =
     IsProper-bind g (λ x. G >>= λ xs. ends (x ∷ xs)) p (λ x. IsProper-bind G (λ xs. ends (x ∷ xs)) q (λ xs. tt))
 
-replicate_items : (k low high : ℕ) → HasItems (replicate k (plain low high))
+pub replicate_items : (k low high : ℕ) → HasItems (replicate k (plain low high))
 replicate_items zero low high = tt
 replicate_items (suc k) low high = replicate_items k low high
 
@@ -71,7 +70,7 @@ plain_proper h agent (b ∷ bs) (n ∷ ns) few =
     (words_proper (agent_words agent) (agent_words_are agent (omega arith))) (λ t. stages_proper b n h 0 h))
     (plain_proper h (agent + 1) bs ns (omega arith))
 
-counts_items : (h : ℕ) → HasItems (counts_form h)
+pub counts_items : (h : ℕ) → HasItems (counts_form h)
 counts_items zero = (assumption, tt)
 counts_items (suc later) = (assumption, replicate_items later 1 (2 ^ 22))
 
@@ -121,7 +120,7 @@ repeated_proper tree (suc left) p =
     IsProper-bind tree (λ first. repeated tree left >>= λ others. ends (more_bound_trees first others)) p
     (λ first. IsProper-bind (repeated tree left) (λ others. ends (more_bound_trees first others)) (repeated_proper tree left p) (λ others. tt))
 
-forms_proper : AreProper node_forms
+pub forms_proper : AreProper node_forms
 forms_proper = ((assumption, tt), (refl, (refl, tt)), ((assumption, tt), (refl, tt), ((assumption, tt), tt, tt)))
 
 only_proper : (k : ℕ) (zs : List ℤ) → IsProper (leaf_only k zs)
@@ -168,7 +167,7 @@ titles_apart =
     let two : decimal 2 ≡ 50 ∷ [] = decimal_digit 2 (omega arith) in
     rw (one, two) refl
 
-title_proper : IsProper title_grammar
+pub title_proper : IsProper title_grammar
 title_proper = ((words_have_items (codes "decplan" ∷ codes "certificate" ∷ decimal 1 ∷ []) one_is_word, (titles_apart, tt), (words_have_items (codes "decplan" ∷ codes "certificate" ∷ decimal 2 ∷ []) two_is_word, tt, tt)), λ k zs. tt)
 
 horizon_proper : (m : Model) (version : ℕ) → IsProper (horizon_grammar m version)
