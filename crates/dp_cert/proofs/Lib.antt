@@ -19,3 +19,4 @@ pub mod ReadSharedRows
 pub mod ReadPlainRows
 pub mod ReadHeads
 pub mod ReadCertificates
+pub mod ReadTexts

@@ -147,7 +147,7 @@ policy_read m is version h line bytes rest some kept e = by_version (version == 
 -- ---- the tree
 
 -- the lines behind the policy
-abbrev tree_part_lines : BoundTree → List Line
+abbrev pub tree_part_lines : BoundTree → List Line
 tree_part_lines T = fixed_line (fixed (codes "tree") ∷ []) ∷ (node_lines T ++ fixed_line end_form ∷ [])
 
 record IsTreeRead (T : BoundTree) (bytes more : List ℕ) : Type 0 where
