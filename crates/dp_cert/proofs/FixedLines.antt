@@ -1,14 +1,13 @@
 -- A line of fixed words is never bad but by its shape.
-use Rattle.std.proofs.Common.{◌≡◌, ℕ, Bool, true, false, List, [], ◌∷◌, Result, Ok, Err, refl, sym, ap, ◌∙◌, arith}
+use Rattle.std.proofs.Common.{◌≡◌, ℕ, true, List, [], ◌∷◌, Err, refl, arith}
 use Rattle.std.specs.Prelude.{ℤ, Option, Some, None, codes}
 use Rattle.std.specs.Fmt.{decimal}
 use Rattle.std.specs.List.{join_with_byte}
 use Rattle.std.proofs.lemmas.Fmt.{decimal_digit}
-use Rattle.dp_spec.specs.TextLines.{Item, fixed}
 use Rattle.dp_lines.specs.declared.why.FileWhy.{FileWhy}
-use Rattle.dp_lines.specs.declared.why.FileWhy.TheVariants.{Shape, Number, Range}
+use Rattle.dp_lines.specs.declared.why.FileWhy.TheVariants.{Shape}
 use Rattle.dp_lines.specs.Lines.{AreWords, fixed_form}
-use Rattle.dp_lines.specs.Scanning.{line_at, numbers_at, are_typed, are_in_range, judged, judged_line}
+use Rattle.dp_lines.specs.Scanning.{line_at, numbers_at, are_typed, are_in_range, judged_line}
 
 words_typed : (ws : List (List ℕ)) (zs : List ℤ) → are_typed (fixed_form ws) zs ≡ true
 unfolding are_typed

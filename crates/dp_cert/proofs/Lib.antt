@@ -13,3 +13,10 @@ pub mod StageParts
 pub mod CertificateParts
 pub mod CertificateAnswers
 pub mod WrittenTrees
+pub mod ReadLines
+pub mod ReadTrees
+pub mod ReadSharedRows
+pub mod ReadPlainRows
+pub mod ReadHeads
+pub mod ReadCertificates
+pub mod ReadTexts

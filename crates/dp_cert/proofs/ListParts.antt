@@ -1,5 +1,5 @@
 -- One after the other: what is read of a list.
-use Rattle.std.proofs.Common.{◌≡◌, ℕ, List, [], ◌∷◌, ◌++◌, Result, Ok, Err, ap, ◌∙◌}
+use Rattle.std.proofs.Common.{◌≡◌, ℕ, List, [], ◌∷◌, ◌++◌, Result, Ok, ap, ◌∙◌}
 use Rattle.dp_lines.specs.Grammar.{ends, ◌>>=◌, Fault}
 use Rattle.dp_lines.specs.Scanning.{Rest, front_of}
 use Rattle.dp_model.specs.declared.limit.TooLarge.{TooLarge}

@@ -1,18 +1,17 @@
 -- The line of a node, by its first byte.
-use Rattle.std.proofs.Common.{◌≡◌, ℕ, suc, ◌+◌, ◌<◌, Bool, true, false, cond, List, [], ◌∷◌, length, get_or, map, Result, Ok, Err, refl, sym, ap, subst, ◌∙◌, arith}
-use Rattle.std.specs.Prelude.{ℤ, pos, Option, Some, None, IfOk}
+use Rattle.std.proofs.Common.{◌≡◌, ℕ, suc, ◌+◌, ◌<◌, Bool, true, false, cond, List, [], ◌∷◌, length, get_or, Result, Ok, Err, refl, sym, ap, subst, ◌∙◌, arith}
+use Rattle.std.specs.Prelude.{pos, Some, IfOk}
 use Rattle.std.proofs.lemmas.List.{length-append}
-use Rattle.dp_spec.specs.TextLines.{Item, fixed, plain, signed}
+use Rattle.dp_spec.specs.TextLines.{Item, fixed, signed}
 use Rattle.dp_spec.specs.CertificateText.{leaf_form, branch_form, merge_form}
 use Rattle.dp_lines.specs.declared.why.FileWhy.TheVariants.{Shape, Number, Range}
 use Rattle.dp_lines.specs.declared.line.LineFault.{LineFault}
 use Rattle.dp_lines.specs.declared.line.LineFault.TheVariants as line_faults
-use Rattle.dp_lines.specs.Forms.{AreSpelled, AreInRange}
+use Rattle.dp_lines.specs.Forms.{AreInRange}
 use Rattle.dp_lines.specs.Lines.{GivesLine}
 use Rattle.dp_lines.proofs.FirstLines.{IsLineAnswer, lines_answer}
-use Rattle.dp_lines.specs.Scanning.{Found, is_break, item_of, numbers_at, are_typed, are_in_range, judged_line, line_at, lines_at}
-use Rattle.dp_lines.proofs.SpelledLines.{ItemSays, first_spelled, numbers_at-says}
-use Rattle.dp_lines.proofs.LineAnswers.{word_is_not, judged_ok}
+use Rattle.dp_lines.specs.Scanning.{Found, is_break, item_of, line_at, lines_at}
+use Rattle.dp_lines.proofs.LineAnswers.{word_is_not}
 use Rattle.dp_cert.specs.declared.tree_text.Node.{Node}
 use Rattle.dp_cert.specs.declared.tree_text.Node.TheVariants as nodes
 use Rattle.dp_cert.specs.CertificateGrammar.{node_forms}

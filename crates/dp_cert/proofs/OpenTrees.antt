@@ -1,10 +1,10 @@
 -- What open nodes make of a node's line and of a finished child.
-use Rattle.std.proofs.Common.{◌≡◌, ℕ, zero, suc, ◌+◌, ◌-◌, ◌<◌, ◌≤◌, List, [], ◌∷◌, ◌++◌, length, map, Result, Ok, Err, refl, sym, ap, subst, ◌∙◌, arith}
-use Rattle.std.specs.Prelude.{ℤ, pos, reverse, Option, Some, None}
+use Rattle.std.proofs.Common.{◌≡◌, ℕ, zero, suc, ◌-◌, ◌<◌, List, [], ◌∷◌, ◌++◌, length, map, Result, Ok, Err, refl, sym, ap, subst, ◌∙◌, arith}
+use Rattle.std.specs.Prelude.{ℤ, pos, reverse}
 use Rattle.std.proofs.lemmas.List.{reverse-append, length-append}
-use Rattle.dp_spec.specs.BoundTree.{BoundTree, BoundTrees, leaf, branch, merge, no_bound_trees, more_bound_trees}
+use Rattle.dp_spec.specs.BoundTree.{BoundTree, BoundTrees, leaf, branch, merge, more_bound_trees}
 use Rattle.dp_lines.specs.declared.why.FileWhy.{FileWhy}
-use Rattle.dp_lines.specs.Grammar.{ends, next, ◌>>=◌, Fault, bad, limit}
+use Rattle.dp_lines.specs.Grammar.{ends, ◌>>=◌, Fault, bad, limit}
 use Rattle.dp_lines.specs.Scanning.{Found, lines_at, Rest, front_of}
 use Rattle.dp_model.specs.declared.limit.TooLarge.{TooLarge}
 use Rattle.dp_tree.specs.declared.tree.Tree.{Tree}
@@ -17,7 +17,7 @@ use Rattle.dp_cert.specs.declared.tree_text.Open.{Open}
 use Rattle.dp_cert.specs.declared.tree_text.Given.{Given}
 use Rattle.dp_cert.specs.declared.tree_text.Given.TheVariants as given
 use Rattle.dp_cert.specs.CertificateGrammar.{deepest, leaf_only, node_below, node_forms, repeated, tree_lines}
-use Rattle.dp_cert.specs.NodeLines.{NodeFails, found_of, kind_of, numbers_of}
+use Rattle.dp_cert.specs.NodeLines.{NodeFails, found_of}
 use Rattle.dp_cert.specs.OpenNodes.{Frame, branch_frame, merge_frame, frame_of, frames_of, Run, given_to, behind_children, closed, opened, left_below, after_line, behind_node, IsBranchWith, IsGiven, Places}
 use Rattle.dp_cert.specs.Reading.{Fails, rest_at}
 use Rattle.dp_cert.specs.TextSteps.{Text}

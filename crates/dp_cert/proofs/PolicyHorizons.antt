@@ -1,5 +1,5 @@
 -- The horizon of a shared policy is that over which its rows are one.
-use Rattle.std.proofs.Common.{◌≡◌, ℕ, ◌<◌, [], length, get_or, sym, ◌∙◌, arith}
+use Rattle.std.proofs.Common.{◌≡◌, ℕ, ◌<◌, length, sym, ◌∙◌, arith}
 use Rattle.dp_spec.specs.Model.{Model, IsModel}
 use Rattle.dp_spec.specs.SharedPolicy.{SharedPolicy, IsSharedOf}
 use Rattle.dp_policy.specs.SharedRows.{AreKept}

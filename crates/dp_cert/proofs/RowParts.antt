@@ -1,20 +1,19 @@
 -- Rows, cells and ranges, one after the other.
-use Rattle.std.proofs.Common.{◌≡◌, ℕ, zero, suc, ◌+◌, ◌*◌, ◌-◌, ◌^◌, ◌<◌, ◌≤◌, Bool, true, false, cond, List, [], ◌∷◌, ◌++◌, length, drop, get_or, map, refl, sym, ap, subst, ◌∙◌, append_assoc, add-one, arith}
-use Rattle.std.specs.Prelude.{ℤ, pos, unsigned_abs, replicate, nat_lt, Option, Some, None, option_map, codes}
-use Rattle.std.specs.List.{AllByRecursion, range_with_len}
+use Rattle.std.proofs.Common.{◌≡◌, ℕ, zero, suc, ◌+◌, ◌*◌, ◌^◌, ◌<◌, ◌≤◌, Bool, true, false, cond, List, [], ◌∷◌, ◌++◌, length, drop, get_or, map, refl, sym, ap, ◌∙◌, append_assoc, add-one, arith}
+use Rattle.std.specs.Prelude.{pos, unsigned_abs, replicate, nat_lt, Option, Some, None, option_map}
+use Rattle.std.specs.List.{AllByRecursion}
 use Rattle.std.proofs.Math.Seq.{drop-cons}
-use Rattle.std.proofs.lemmas.Bool.{ltb-true, cases_lt}
 use Rattle.std.proofs.lemmas.Bool.Decides.{nat_tests}
 use Rattle.std.proofs.lemmas.List.{map-append, drop_all, append-nil}
 use Rattle.dp_model.specs.declared.limit.Limit.TheVariants.{PolicyCells}
 use Rattle.dp_model.specs.declared.limit.TooLarge.{TooLarge}
-use Rattle.dp_spec.specs.TextLines.{fixed, plain}
+use Rattle.dp_spec.specs.TextLines.{plain}
 use Rattle.dp_spec.specs.SharedPolicy.{PolicyRow}
-use Rattle.dp_spec.specs.SharedRows.{counts_form, first_past, products, shared_row_form}
+use Rattle.dp_spec.specs.SharedRows.{counts_form, first_past, products}
 use Rattle.dp_lines.specs.declared.line.PlainRange.{PlainRange}
 use Rattle.dp_lines.specs.Forms.{AreInRange}
 use Rattle.dp_lines.specs.Lines.{plain_form}
-use Rattle.dp_cert.specs.PolicyGrammar.{cells_passed, first_of_counts, nexts_before, row_of, rows_from}
+use Rattle.dp_cert.specs.PolicyGrammar.{cells_passed, row_of, rows_from}
 
 -- ---- lists
 

@@ -1,6 +1,5 @@
 -- What the functions that read parts of a certificate text answer.
-use Rattle.std.specs.Prelude.{◌≡◌, ℕ, suc, ℤ, pos, List, [], ◌∷◌, ◌++◌, map, Result, Ok, Err, Vec}
-use Rattle.std.specs.declared.alloc.Global.{Global}
+use Rattle.std.specs.Prelude.{◌≡◌, ℕ, List, ◌++◌, Result, Ok, Err}
 use Rattle.dp_model.specs.declared.limit.TooLarge.{TooLarge}
 use Rattle.dp_lines.specs.Grammar.{Grammar, IsText, IsFirstBad, PassesLimit, Fault, bad, limit}
 use Rattle.dp_lines.specs.Scanning.{Rest}

@@ -1,5 +1,7 @@
 //! Certificate texts read.
-ghost use Rattle.std.specs.Prelude.{◌≡◌, ◌≤◌, ◌^◌, None, length, map};
+ghost use Rattle.std.specs.Prelude.{◌≡◌, ◌≤◌, ◌^◌, IfOk, None, length, map};
+ghost use Rattle.dp_spec.specs.Certificate.{IsCertificateOf};
+ghost use Rattle.dp_spec.specs.CertificateText.{IsCertificateText};
 ghost use Rattle.dp_lines.specs.Scanning.{front_of, text_from};
 ghost use Rattle.dp_tree.specs.TreeValue.{bound_tree};
 ghost use Rattle.dp_cert.specs.CertificateGrammar.{certificate_from, certificate_grammar, horizon_passed, tree_grammar};
@@ -25,9 +27,13 @@ use std::alloc::Global;
 /// limits that may come before such a line are those of the horizon in the version of the text, then, in
 /// version 2, `policy-cells` at the line of an agent's counts, with the first product of states and joint
 /// rows that is too large, and `depth`, with 2049, at the line of the 2,049th branch or merge on a path.
+/// The bytes are the one text of what is read, and that can be a certificate for the model, as `fits` asks.
+/// `Memory` is for want of memory alone.
 pub fn read_cert(alloc: Global, bytes: &[u8], model: &Model) -> Result<Certificate, CertFault>
     requires { length bytes.now ≤ 2 ^ 28 }
-    ensures { Answers certificate_of result (certificate_grammar model.now.model) bytes.now }
+    ensures answers { Answers certificate_of result (certificate_grammar model.now.model) bytes.now }
+    ensures text { IfOk result (λ c. IsCertificateText model.now.model bytes.now (certificate_of c)) }
+    ensures fits { IfOk result (λ c. IsCertificateOf model.now.model (certificate_of c)) }
 {
     model.invariant();
     read(alloc, bytes, model)
@@ -107,11 +113,12 @@ fn policy<'a>(
     ensures { Gives (λ x. rest_at x.0.rows x.1.line x.1.rest.now) result
         (front_of (policy_grammar model.now.model version horizon) from.entry.line from.entry.rest.now) }
 {
+    model.invariant();
     let (rows, at) = policy_rows(alloc, from, model, version, horizon)?;
-    match join_rows(rows, model, horizon) {
-        Some(policy) => Ok((policy, at)),
-        None => Err(CertFault::Memory),
-    }
+    let Some(policy) = join_rows(rows, model, horizon) else {
+        unreachable!()
+    };
+    Ok((policy, at))
 }
 
 // The rows of the policy.

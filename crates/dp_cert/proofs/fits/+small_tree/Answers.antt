@@ -1,5 +1,5 @@
-use Rattle.std.proofs.Common.{rules, ◌≡◌, ◌+◌, ◌-◌, [], ◌∷◌, suc, map, length, drop, refl, sym, ap, subst, ◌∙◌, add-one, arith}
-use Rattle.dp_spec.specs.BoundTree.{BoundTree, branch, merge, leaf, node_count}
+use Rattle.std.proofs.Common.{rules, suc, map, drop, refl, sym, ap, subst, ◌∙◌, add-one, arith}
+use Rattle.dp_spec.specs.BoundTree.{branch}
 use Rattle.dp_tree.specs.TreeValue.{bound_tree, bound_trees}
 use Rattle.dp_tree.proofs.TreeValues.{bound_tree_leaf, bound_tree_branch, bound_tree_merge}
 use Rattle.dp_cert.specs.TreeSizes.{IsSmallTree}

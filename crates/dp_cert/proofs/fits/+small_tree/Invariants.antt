@@ -1,6 +1,5 @@
-use Rattle.std.proofs.Common.{◌≡◌, ◌+◌, ◌-◌, ◌≤◌, ◌<◌, drop, map}
-use Rattle.dp_tree.specs.TreeValue.{bound_tree, bound_trees}
-use Rattle.dp_spec.specs.BoundTree.{node_counts}
+use Rattle.std.proofs.Common.{drop, map}
+use Rattle.dp_tree.specs.TreeValue.{bound_tree}
 use Rattle.dp_cert.proofs.TreeSizeSteps.{AreSmallFrom}
 use Rattle.dp_cert.proofs.fits.+small_tree.Given as goal
 

@@ -1,11 +1,10 @@
-use Rattle.std.proofs.Common.{[], ◌∷◌, ◌+◌, refl, ap, ◌∙◌, Ok}
+use Rattle.std.proofs.Common.{[], ◌∷◌, ◌+◌, refl, ◌∙◌}
 use Rattle.std.specs.Prelude.{codes}
 use Rattle.std.specs.Fmt.{decimal}
 use Rattle.std.proofs.lemmas.Result.{err_from_is_err_and}
 use Rattle.dp_spec.specs.PolicyText.{title_form}
 use Rattle.dp_lines.specs.Grammar.{ends}
 use Rattle.dp_cert.specs.TextSteps.{one_of}
-use Rattle.dp_cert.specs.Reading.{rest_at}
 use Rattle.dp_cert.proofs.FixedLines.{one_is_word, two_is_word, one_joined, two_joined}
 use Rattle.dp_cert.proofs.TextParts.{bind_ok, fails_then}
 use Rattle.dp_cert.proofs.head.title.Goals as goal

@@ -1,6 +1,6 @@
-use Rattle.std.proofs.Common.{map, ◌∷◌, []}
+use Rattle.std.proofs.Common.{map, ◌∷◌}
 use Rattle.std.specs.Prelude.{pos}
-use Rattle.dp_spec.specs.TextLines.{fixed, signed}
+use Rattle.dp_spec.specs.TextLines.{fixed}
 use Rattle.dp_lines.specs.Lines.{plain_form}
 use Rattle.dp_lines.proofs.LineAnswers.{line_shorter}
 use Rattle.dp_cert.proofs.LineCounts.{line_inside, numbers_count}

@@ -1,4 +1,4 @@
-use Rattle.std.proofs.Common.{ap, sym, subst, ◌∙◌, Err}
+use Rattle.std.proofs.Common.{ap, ◌∙◌, Err}
 use Rattle.dp_lines.specs.Lines.{fixed_form}
 use Rattle.dp_cert.proofs.FixedLines.{only_shape}
 use Rattle.dp_cert.proofs.TextParts.{first_to, second_to, neither_bad}

@@ -1,4 +1,3 @@
-use Rattle.std.proofs.Common.{◌+◌, arith}
 use Rattle.std.specs.List.{range_with_len}
 use Rattle.dp_cert.proofs.RowParts.{first_step, rows_step}
 use Rattle.dp_cert.proofs.plain_text.plain_rows.Goals as goal

@@ -1,6 +1,6 @@
-use Rattle.std.proofs.Common.{◌∷◌, ◌≡◌, [], List, map, refl, sym, ap, subst, ◌∙◌}
+use Rattle.std.proofs.Common.{◌∷◌, List, map, sym, ap, subst, ◌∙◌}
 use Rattle.std.specs.Prelude.{codes, pos}
-use Rattle.dp_spec.specs.SharedRows.{counts_form, products}
+use Rattle.dp_spec.specs.SharedRows.{products}
 use Rattle.dp_spec.specs.TextLines.{Item, fixed}
 use Rattle.dp_lines.specs.Forms.{AreInRange}
 use Rattle.dp_lines.specs.Lines.{plain_form}

@@ -1,15 +1,12 @@
-use Rattle.std.proofs.Common.{◌+◌, ◌++◌, ◌∷◌, ◌≡◌, [], List, ℕ, length, get_or, drop, map, sym, ap, subst, ◌∙◌, arith}
+use Rattle.std.proofs.Common.{◌+◌, ◌∷◌, [], length, get_or, drop, map, sym, ap, ◌∙◌, arith}
 use Rattle.std.proofs.lemmas.List.{map-append}
 use Rattle.std.proofs.lemmas.Result.{err_from_is_err_and}
 use Rattle.dp_spec.specs.SharedRows.{products}
-use Rattle.dp_lines.specs.Grammar.{◌>>=◌}
 use Rattle.dp_lines.specs.Scanning.{front_of}
 use Rattle.dp_cert.specs.PolicyGrammar.{counts_grammar, shared_agents, shared_stages}
-use Rattle.dp_cert.specs.Reading.{onto}
 use Rattle.dp_cert.specs.TextSteps.{and_then}
 use Rattle.dp_cert.proofs.ListParts.{more_fails, more_read, part_fails, part_read}
 use Rattle.dp_cert.proofs.StageParts.{action_some, shared_agents_at}
-use Rattle.dp_cert.proofs.TextParts.{fails_also}
 use Rattle.dp_cert.proofs.shared_text.shared_agents.Goals as goal
 
 pub shared_stages-requires-clause-actions : goal.shared_stages-requires-clause-actions

@@ -1,4 +1,4 @@
-use Rattle.std.proofs.Common.{◌-◌, suc, refl, arith}
+use Rattle.std.proofs.Common.{◌-◌, refl, arith}
 use Rattle.dp_tree.proofs.TreeValues.{bound_tree_branch}
 use Rattle.dp_cert.proofs.tree_text.branch_with.Goals as goal
 

@@ -1,9 +1,8 @@
-use Rattle.std.proofs.Common.{◌-◌, ◌+◌, ◌∷◌, [], List, ap, subst, ◌∙◌, refl, map, arith}
-use Rattle.dp_spec.specs.BoundTree.{BoundTree}
+use Rattle.std.proofs.Common.{◌-◌, ◌∷◌, ap, subst, ◌∙◌, refl, map, arith}
 use Rattle.dp_tree.specs.TreeValue.{bound_tree}
 use Rattle.dp_cert.specs.declared.tree_text.Node.{Node}
 use Rattle.dp_cert.specs.NodeLines.{HasChild}
-use Rattle.dp_cert.specs.OpenNodes.{Frame, branch_frame, behind_node, frames_of}
+use Rattle.dp_cert.specs.OpenNodes.{branch_frame, behind_node, frames_of}
 use Rattle.dp_cert.proofs.OpenTrees.{frames_length, place_branch, place_merge}
 use Rattle.dp_cert.proofs.tree_text.place.Goals as goal
 

@@ -1,4 +1,4 @@
-use Rattle.std.proofs.Common.{rules, List, ap, subst, ◌∙◌, arith}
+use Rattle.std.proofs.Common.{subst, ◌∙◌, arith}
 use Rattle.std.specs.Prelude.{Option}
 use Rattle.std.proofs.lemmas.Result.{err_from_is_err_and}
 use Rattle.dp_tree.specs.declared.tree.Tree.{Tree}

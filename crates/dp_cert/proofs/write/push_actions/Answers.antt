@@ -1,4 +1,4 @@
-use Rattle.std.proofs.Common.{◌∷◌, ◌++◌, ◌≡◌, [], List, suc, add-one, drop, map, true, sym, ap, subst, ◌∙◌}
+use Rattle.std.proofs.Common.{◌∷◌, ◌++◌, ◌≡◌, [], List, suc, add-one, drop, map, true, ap, subst, ◌∙◌}
 use Rattle.dp_spec.specs.SharedPolicy.{AgentRows, PolicyRow}
 use Rattle.dp_cert.specs.CertificateBytes.{actions_bytes, row_tail}
 use Rattle.dp_cert.proofs.TreeSizeSteps.{mapped_drop}

@@ -1,4 +1,4 @@
-use Rattle.std.proofs.Common.{◌≡◌, ◌++◌, drop, map, length, true, false}
+use Rattle.std.proofs.Common.{◌≡◌, ◌++◌, drop, map}
 use Rattle.dp_cert.specs.CertificateBytes.{actions_bytes}
 use Rattle.dp_cert.proofs.write.push_actions.Given as goal
 

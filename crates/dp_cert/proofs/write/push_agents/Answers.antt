@@ -1,8 +1,4 @@
-use Rattle.std.proofs.Common.{◌≡◌, ◌++◌, ℕ, List, cond, map, true, false, sym, ap, ◌∙◌, arith}
-use Rattle.std.specs.Prelude.{◌==◌}
-use Rattle.std.proofs.lemmas.Bool.Decides.{nat_tests}
-use Rattle.dp_cert.specs.CertificateBytes.{actions_bytes, agents_bytes, counted_bytes}
-use Rattle.dp_cert.proofs.WrittenTrees.{is_other, on_ok}
+use Rattle.dp_cert.proofs.WrittenTrees.{is_other}
 use Rattle.dp_cert.proofs.write.push_agents.Goals as goal
 
 pub returns-then-version-eq1 : goal.returns-then-version-eq1

@@ -1,4 +1,4 @@
-use Rattle.std.proofs.Common.{◌≡◌, ◌++◌, drop, map, length, true, false}
+use Rattle.std.proofs.Common.{◌≡◌, ◌++◌, drop, map, length, false}
 use Rattle.dp_cert.specs.CertificateBytes.{row_tail}
 use Rattle.dp_cert.proofs.write.push_counts.Given as goal
 

@@ -1,4 +1,4 @@
-use Rattle.std.proofs.Common.{rules, ◌≡◌, arith}
+use Rattle.std.proofs.Common.{rules}
 use Rattle.dp_cert.proofs.PolicyHorizons.{one_horizon}
 use Rattle.dp_cert.proofs.certificate.Certificate.has_policy_of_version.Goals as goal
 
