@@ -1,15 +1,14 @@
 -- The ends of a valid certificate are at most 2^126 in magnitude.
 use Rattle.std.proofs.Common.{◌≡◌, ℕ, zero, suc, ◌+◌, ◌-◌, ◌*◌, ◌^◌, ◌<◌, ◌≤◌, Bool, true, false, unsigned_abs, List, refl, sym, ap, subst, ◌∙◌, ⊎_elim, arith}
-use Rattle.std.specs.Prelude.{ℤ, pos, ◌+ℤ◌, ◌≤ℤ◌}
+use Rattle.std.specs.Prelude.{ℤ, ◌+ℤ◌, ◌≤ℤ◌}
 use Rattle.std.specs.Int.{int_min}
 use Rattle.std.proofs.Math.Nat.{le-mul_of_pos_right, mul-le-mul_right, pow-zero}
 use Rattle.std.proofs.lemmas.Int.{clamps, ints}
 use Rattle.dp_base.proofs.Ring.{zle_of, zle_trans}
-use Rattle.dp_spec.specs.declared.span.Span.{Span}
 use Rattle.dp_base.specs.Sums.{greatest, int_sum}
 use Rattle.dp_base.proofs.NaturalSumLaws.{nat_sum_le, nat_sum_most}
 use Rattle.dp_spec.proofs.ModelLaws.{some_state}
-use Rattle.dp_spec.specs.Arithmetic.{Arithmetic, arithmetic, exact, outward, point}
+use Rattle.dp_spec.specs.Arithmetic.{Arithmetic, arithmetic, exact, outward}
 use Rattle.dp_spec.specs.Bound.{agreeing_actions}
 use Rattle.dp_spec.specs.BoundTree.{AllLeavesAtMost, BoundTree, BoundTrees, LeavesAtMost, branch, greatest_leaf, leaf, merge, more_bound_trees, no_bound_trees}
 use Rattle.dp_spec.specs.Calls.{size}
@@ -18,14 +17,13 @@ use Rattle.dp_spec.specs.Fitting.{FitEachAction, FitsFront, front_bound}
 use Rattle.dp_spec.specs.Front.{Front, class_counts, fixed_joint_action}
 use Rattle.dp_spec.specs.JointNumbers.{product}
 use Rattle.dp_spec.specs.Mode.{IsWithinVersion, is_exact_mode}
-use Rattle.dp_spec.specs.Model.{IsModel, Model, joint_observations, start_at, value_scale}
+use Rattle.dp_spec.specs.Model.{IsModel, Model, joint_observations, start_at}
 use Rattle.dp_spec.specs.PolicyTree.{IsPolicyOf, PolicyTree}
 use Rattle.dp_spec.specs.Quantities.{action_look_ahead_in, bound_in, class_weight_in, earned_reward_in, span_sum, weighted_reward_in}
 use Rattle.dp_spec.specs.SharedPolicy.{IsSharedOf, SharedPolicy, unfolded}
 use Rattle.dp_spec.specs.SharedWorth.{joint_row_action, joint_row_count, row_weight_in, rows_earn_in, shared_worth_in}
 use Rattle.dp_spec.specs.Sizes.{AreWeights, reward_size}
 use Rattle.dp_spec.specs.SizesOfFronts.{CanRefine, class_look_size}
-use Rattle.dp_spec.specs.SizesOfEarnings.{earned_size}
 use Rattle.dp_spec.specs.SizesOfRows.{rows_earn_size}
 use Rattle.dp_spec.specs.Merge.{merged_front}
 use Rattle.dp_spec.specs.Steps.{front_after_choice, root_front}

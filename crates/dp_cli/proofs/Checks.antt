@@ -1,10 +1,9 @@
 -- What is told of the bytes of a certificate that were read, or were not, and of its verdict.
-use Rattle.std.proofs.Common.{◌≡◌, ℕ, List, [], ◌∷◌, ◌++◌, Option, Some, None, Result, Ok, Err, ap, refl, ◌∙◌, arith}
+use Rattle.std.proofs.Common.{◌≡◌, ℕ, List, [], ◌++◌, Some, None, Result, Ok, Err, ap, refl, ◌∙◌, arith}
 use Rattle.std.specs.Prelude.{option_map}
-use Rattle.dp_spec.specs.Certificate.{Certificate, IsCertificateOf, IsValid}
+use Rattle.dp_spec.specs.Certificate.{Certificate, IsValid}
 use Rattle.dp_spec.specs.FirstReason.{IsFirstReason}
 use Rattle.dp_spec.specs.Model.{Model, IsModel}
-use Rattle.dp_spec.specs.Reasons.{first_reason}
 use Rattle.dp_laws.proofs.FirstReasons.{first_reason_is, no_reason_where_valid}
 use Rattle.dp_lines.specs.Grammar.{Fault, IsAnswer, IsText, bad, limit}
 use Rattle.dp_lines.specs.Scanning.{text_from}
@@ -21,7 +20,6 @@ use Rattle.dp_check.specs.declared.verdict.Reason.TheVariants as reasons
 use Rattle.dp_check.specs.Verdicts.{reason_of}
 use Rattle.dp_cli.specs.Answer.{Stops}
 use Rattle.dp_cli.specs.CheckCommand.{certificate_fault, said_fault, told_reason}
-use Rattle.dp_cli.specs.declared.refusal.JobFault.{JobFault}
 use Rattle.dp_cli.specs.declared.refusal.JobFault.TheVariants as job_faults
 use Rattle.dp_cli.specs.Refusal.{certificate_refusal}
 use Rattle.dp_cli.proofs.ValueTexts.{and_then}

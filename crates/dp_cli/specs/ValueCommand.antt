@@ -15,7 +15,7 @@ use Rattle.dp_model.specs.declared.limit.TooLarge.{TooLarge}
 use Rattle.dp_meaning.specs.Meaning.{Means, ReadModel, meaning}
 use Rattle.dp_lines.specs.Grammar.{Fault, bad, limit}
 use Rattle.dp_lines.specs.Scanning.{text_from}
-use Rattle.dp_policy.specs.PolicyGrammar.{PolicyActions, policy_grammar}
+use Rattle.dp_policy.specs.PolicyGrammar.{policy_grammar}
 use Rattle.dp_words.specs.declared.job.ValueJob.{ValueJob}
 use Rattle.dp_cli.specs.declared.refusal.FileRole.TheVariants as roles
 use Rattle.dp_cli.specs.declared.refusal.JobFault.{JobFault}
