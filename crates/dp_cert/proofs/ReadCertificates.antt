@@ -52,7 +52,10 @@ pub record IsPolicyRead (m : Model) (version h : ℕ) (p : SharedPolicy) (bytes 
 
 all_some : (ns : List ℕ) → 0 < product ns → AllByRecursion (λ (n : ℕ). 0 < n) ns
 all_some [] some = tt
-all_some (n ∷ ns) some = (positive_left n (product ns) 0 some, all_some ns (positive_right n (product ns) 0 some))
+all_some (n ∷ ns) some = (
+  positive_left n (product ns) 0 some,
+  all_some ns (positive_right n (product ns) 0 some),
+)
 
 some_actions : (m : Model) → IsModel m → AllByRecursion (λ (n : ℕ). 0 < n) m.actions
 unfolding joint_actions
@@ -62,7 +65,8 @@ some_observations : (m : Model) → IsModel m → AllByRecursion (λ (n : ℕ). 
 unfolding joint_observations
 some_observations m is = all_some m.observations (some_joint_observation m is)
 
-version_one : (m : Model) → IsModel m → (version h line : ℕ) (bytes : List ℕ) (rest : Rest SharedPolicy) → version ≡ 1
+version_one : (m : Model) → IsModel m → (version h line : ℕ) (bytes : List ℕ) (rest : Rest SharedPolicy)
+    → version ≡ 1
     → IsWithinLimits m h → front_of (plain_agents h 0 m.actions m.observations) line bytes ≡ Ok rest
     → IsPolicyRead m version h rest.value bytes rest.bytes
 unfolding joint_observations
@@ -84,8 +88,10 @@ version_one m is version h line bytes rest one within e =
             subst (λ (k : ℕ). m.states * k ≤ 2 ^ 22) (sym count) (omega arith);
       };
       plain = λ v. read.plain;
-      lines = subst (λ (b : Bool). AreLines (agent_lines 0 (cond b (plain_lines m.actions m.observations rest.value)
-          (shared_policy_rows m.actions m.observations rest.value))) bytes rest.bytes) (sym (is_one version one))
+      lines = subst (λ (b : Bool). AreLines (agent_lines 0 (cond b
+          (plain_lines m.actions m.observations rest.value)
+          (shared_policy_rows m.actions m.observations rest.value))) bytes rest.bytes)
+          (sym (is_one version one))
           read.lines;
     }
   where
@@ -114,11 +120,13 @@ version_two m is version h line bytes rest other some e =
     record {
       shared = record {
         agents = read.agents;
-        cells = λ t lt. subst (λ (s : ℕ). s * product (row_counts rest.value t) ≤ 2 ^ 22) (state_at m.states h t lt)
+        cells = λ t lt. subst (λ (s : ℕ). s * product (row_counts rest.value t) ≤ 2 ^ 22)
+            (state_at m.states h t lt)
             (read.within t lt);
       };
       plain = λ one. absurd (other one);
-      lines = subst (λ (b : Bool). AreLines (agent_lines 0 (cond b (plain_lines m.actions m.observations rest.value)
+      lines = subst (λ (b : Bool). AreLines (agent_lines 0 (cond b
+          (plain_lines m.actions m.observations rest.value)
           (shared_policy_rows m.actions m.observations rest.value))) bytes rest.bytes)
           (sym (not_one version other)) read.lines;
     }
@@ -126,7 +134,8 @@ version_two m is version h line bytes rest other some e =
     not_one : (v : ℕ) → (v ≡ 1 → ⊥) → (v == 1) ≡ false
     not_one v differ = grind (arith, nat_tests)
 
-pub policy_read : (m : Model) → IsModel m → (version h line : ℕ) (bytes : List ℕ) (rest : Rest SharedPolicy) → 1 ≤ h
+pub policy_read : (m : Model) → IsModel m → (version h line : ℕ) (bytes : List ℕ) (rest : Rest SharedPolicy)
+    → 1 ≤ h
     → horizon_passed m version h ≡ None → front_of (policy_grammar m version h) line bytes ≡ Ok rest
     → IsPolicyRead m version h rest.value bytes rest.bytes
 policy_read m is version h line bytes rest some kept e = by_version (version == 1) refl
@@ -155,22 +164,27 @@ record IsTreeRead (T : BoundTree) (bytes more : List ℕ) : Type 0 where
   children : HasSmallBranches T
   lines : AreLines (tree_part_lines T) bytes more
 
-tree_part_read : (line : ℕ) (bytes : List ℕ) (rest : Rest BoundTree) → front_of tree_grammar line bytes ≡ Ok rest
+tree_part_read : (line : ℕ) (bytes : List ℕ) (rest : Rest BoundTree)
+    → front_of tree_grammar line bytes ≡ Ok rest
     → IsTreeRead rest.value bytes rest.bytes
 tree_part_read line bytes rest e =
-    let s = split (the_words (codes "tree" ∷ [])) (λ title. tree_lines 2048 >>= λ tree. the_words (codes "end" ∷ [])
+    let s = split (the_words (codes "tree" ∷ [])) (λ title. tree_lines 2048 >>= λ tree. the_words
+    (codes "end" ∷ [])
     >>= λ end. ends tree) line bytes rest e in
     let title = words_read (codes "tree" ∷ []) line bytes s.mid (assumption, tt) s.front in
     let t = split (tree_lines 2048) (λ tree. the_words (codes "end" ∷ []) >>= λ end. ends tree)
     s.mid.line s.mid.bytes rest
     s.behind in
     let tree = tree_read 2048 s.mid.line s.mid.bytes t.mid t.front in
-    let u = split (the_words (codes "end" ∷ [])) (λ end. ends t.mid.value) t.mid.line t.mid.bytes rest t.behind in
+    let u = split (the_words (codes "end" ∷ [])) (λ end. ends t.mid.value)
+    t.mid.line t.mid.bytes rest t.behind in
     let end = words_read (codes "end" ∷ []) t.mid.line t.mid.bytes u.mid (assumption, tt) u.front in
     let one : Rest BoundTree = rest_at t.mid.value u.mid.line u.mid.bytes in
-    let lines = line_then (fixed (codes "tree") ∷ []) [] (node_lines t.mid.value ++ fixed_line end_form ∷ []) bytes
+    let lines = line_then (fixed (codes "tree") ∷ []) [] (node_lines t.mid.value ++ fixed_line end_form ∷ [])
+    bytes
     s.mid.bytes u.mid.bytes title
-    (lines_then (node_lines t.mid.value) (fixed_line end_form ∷ []) s.mid.bytes t.mid.bytes u.mid.bytes tree.lines
+    (lines_then (node_lines t.mid.value) (fixed_line end_form ∷ [])
+    s.mid.bytes t.mid.bytes u.mid.bytes tree.lines
     (line_then end_form [] [] t.mid.bytes u.mid.bytes u.mid.bytes end (no_lines u.mid.bytes))) in
     subst (λ (r : Rest BoundTree). IsTreeRead r.value bytes r.bytes) (same_rest one rest u.behind)
     (record {
@@ -235,7 +249,8 @@ certificate_read m is line bytes rest e =
     let v = split (policy_grammar m version h) (behind_policy version h u.mid.value)
     u.mid.line u.mid.bytes rest u.behind in
     let policy = policy_read m is version h u.mid.line u.mid.bytes v.mid horizon.some horizon.kept v.front in
-    let w = split tree_grammar (behind_tree version h u.mid.value v.mid.value) v.mid.line v.mid.bytes rest v.behind in
+    let w = split tree_grammar (behind_tree version h u.mid.value v.mid.value)
+    v.mid.line v.mid.bytes rest v.behind in
     let tree = tree_part_read v.mid.line v.mid.bytes w.mid w.front in
     let c = certificate_from version h u.mid.value v.mid.value w.mid.value in
     let one : Rest Certificate = rest_at c w.mid.line w.mid.bytes in
@@ -276,7 +291,8 @@ pub text_read : (m : Model) → IsModel m → (bytes : List ℕ) (c : Certificat
 text_read m is bytes c e = by_front (front_of (certificate_grammar m) 1 bytes) refl e
   where
     by_front : (r : Result (Rest Certificate) (Fault TooLarge)) → front_of (certificate_grammar m) 1 bytes ≡ r
-        → (elim r as (λ r. Result Certificate (Fault TooLarge)) [ Ok rest ↦ whole rest | Err fault ↦ Err fault ])
+        → (elim r as (λ r. Result Certificate (Fault TooLarge))
+        [ Ok rest ↦ whole rest | Err fault ↦ Err fault ])
         ≡ Ok c
         → IsRead m c bytes []
     by_front (Ok rest) at f =
@@ -286,7 +302,8 @@ text_read m is bytes c e = by_front (front_of (certificate_grammar m) 1 bytes) r
     by_front (Err fault) at f = absurd cc
 
 -- what a text says is what is read of it
-text_is_read : (m : Model) → IsModel m → (bytes : List ℕ) (c : Certificate) → IsText (certificate_grammar m) bytes c
+text_is_read : (m : Model) → IsModel m → (bytes : List ℕ) (c : Certificate)
+    → IsText (certificate_grammar m) bytes c
     → text_from (certificate_grammar m) 1 bytes ≡ Ok c
 text_is_read m is bytes c says =
     let few = is.sizes.agents_limit in

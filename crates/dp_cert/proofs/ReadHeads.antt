@@ -68,7 +68,8 @@ words_line : (ws : List (List ℕ)) (form : List Item) (zs : List ℤ) (bytes mo
     → IsLine (fixed_form ws) bytes [] more
 words_line ws form zs bytes more at is =
     let same : fixed_form ws ≡ form = cc in
-    let mine : IsLine (fixed_form ws) bytes zs more = subst (λ (f : List Item). IsLine f bytes zs more) (sym same)
+    let mine : IsLine (fixed_form ws) bytes zs more = subst (λ (f : List Item). IsLine f bytes zs more)
+    (sym same)
     is in
     subst (λ (l : List ℤ). IsLine (fixed_form ws) bytes l more) (no_numbers ws zs mine.allowed) mine
 
@@ -147,7 +148,8 @@ kept_read None h line bytes rest e = let one : Rest ℕ = rest_at h line bytes i
 kept_read (Some passed) h line bytes rest e = absurd cc
 
 pub horizon_read : (m : Model) (version line : ℕ) (bytes : List ℕ) (rest : Rest ℕ)
-    → front_of (horizon_grammar m version) line bytes ≡ Ok rest → IsHorizon m version rest.value bytes rest.bytes
+    → front_of (horizon_grammar m version) line bytes ≡ Ok rest
+    → IsHorizon m version rest.value bytes rest.bytes
 horizon_read m version line bytes rest e =
     let s = split (the_numbers horizon_form) (λ zs. unless_passed (horizon_passed m version (first_plain zs))
     >>= λ kept.
@@ -162,9 +164,11 @@ horizon_read m version line bytes rest e =
 
 abbrev interval_lines : Interval → List Line
 interval_lines i =
-    signed_line (codes "unit") i.unit ∷ signed_line (codes "lower") i.lower ∷ signed_line (codes "upper") i.upper ∷ []
+    signed_line (codes "unit") i.unit ∷ signed_line (codes "lower") i.lower ∷ signed_line (codes "upper")
+    i.upper ∷ []
 
-interval_read : (line : ℕ) (bytes : List ℕ) (rest : Rest Interval) → front_of interval_grammar line bytes ≡ Ok rest
+interval_read : (line : ℕ) (bytes : List ℕ) (rest : Rest Interval)
+    → front_of interval_grammar line bytes ≡ Ok rest
     → (ls : List Line) (more : List ℕ) → AreLines ls rest.bytes more
     → AreLines (interval_lines rest.value ++ ls) bytes more
 interval_read line bytes rest e ls more others =
@@ -172,19 +176,23 @@ interval_read line bytes rest e ls more others =
     >>= λ lower. the_numbers (signed_form (codes "upper")) >>= λ upper. ends (interval unit lower upper))
     line bytes rest e in
     let unit = signed_read (codes "unit") line bytes s.mid (assumption, tt) s.front in
-    let u = split (the_numbers (signed_form (codes "lower"))) (λ lower. the_numbers (signed_form (codes "upper"))
+    let u = split (the_numbers (signed_form (codes "lower")))
+    (λ lower. the_numbers (signed_form (codes "upper"))
     >>= λ upper. ends (interval s.mid.value lower upper)) s.mid.line s.mid.bytes rest s.behind in
     let lower = signed_read (codes "lower") s.mid.line s.mid.bytes u.mid (assumption, tt) u.front in
-    let v = split (the_numbers (signed_form (codes "upper"))) (λ upper. ends (interval s.mid.value u.mid.value upper))
+    let v = split (the_numbers (signed_form (codes "upper")))
+    (λ upper. ends (interval s.mid.value u.mid.value upper))
     u.mid.line u.mid.bytes rest u.behind in
     let upper = signed_read (codes "upper") u.mid.line u.mid.bytes v.mid (assumption, tt) v.front in
     let one : Rest Interval = rest_at (interval s.mid.value u.mid.value v.mid.value) v.mid.line v.mid.bytes in
     let same = same_rest one rest v.behind in
-    let behind : AreLines ls v.mid.bytes more = subst (λ (r : Rest Interval). AreLines ls r.bytes more) (sym same)
+    let behind : AreLines ls v.mid.bytes more = subst (λ (r : Rest Interval). AreLines ls r.bytes more)
+    (sym same)
     others in
     subst (λ (r : Rest Interval). AreLines (interval_lines r.value ++ ls) bytes more) same
     (line_then (signed_form (codes "unit")) (first_number s.mid.value ∷ []) _ bytes s.mid.bytes more unit
-    (line_then (signed_form (codes "lower")) (first_number u.mid.value ∷ []) _ s.mid.bytes u.mid.bytes more lower
+    (line_then (signed_form (codes "lower")) (first_number u.mid.value ∷ [])
+    _ s.mid.bytes u.mid.bytes more lower
     (line_then (signed_form (codes "upper")) (first_number v.mid.value ∷ [])
     ls u.mid.bytes v.mid.bytes more upper behind)))
   where
@@ -223,18 +231,21 @@ pub head_read : (line : ℕ) (bytes : List ℕ) (rest : Rest Head) → front_of 
 head_read line bytes rest e =
     let s = split (the_numbers look_form) behind_look line bytes rest e in
     let look = plain_read (codes "look") 1 16 line bytes s.mid (assumption, tt) s.front in
-    let t = split (one_of (mode_form true) (mode_form false)) (behind_mode s.mid.value) s.mid.line s.mid.bytes rest
+    let t = split (one_of (mode_form true) (mode_form false)) (behind_mode s.mid.value)
+    s.mid.line s.mid.bytes rest
     s.behind in
     let mode = mode_is t.mid.value s.mid.bytes t.mid.bytes
     (either_read (codes "mode" ∷ codes "exact" ∷ []) (codes "mode" ∷ codes "outward" ∷ [])
     s.mid.line s.mid.bytes t.mid
     ((assumption, (assumption, tt)), ((assumption, (assumption, tt)), tt)) t.front) in
-    let u = split interval_grammar (behind_interval s.mid.value t.mid.value) t.mid.line t.mid.bytes rest t.behind in
+    let u = split interval_grammar (behind_interval s.mid.value t.mid.value)
+    t.mid.line t.mid.bytes rest t.behind in
     let v = split (the_numbers inner_form) (behind_inner s.mid.value t.mid.value u.mid.value)
     u.mid.line u.mid.bytes rest
     u.behind in
     let inner = plain_read (codes "inner") 0 _ u.mid.line u.mid.bytes v.mid (assumption, tt) v.front in
-    let w = split (the_words (codes "policy" ∷ [])) (behind_title s.mid.value t.mid.value u.mid.value v.mid.value)
+    let w = split (the_words (codes "policy" ∷ [])) (behind_title s.mid.value t.mid.value u.mid.value
+    v.mid.value)
     v.mid.line v.mid.bytes rest v.behind in
     let title = words_read (codes "policy" ∷ []) v.mid.line v.mid.bytes w.mid (assumption, tt) w.front in
     let head : Head = record {
@@ -244,7 +255,8 @@ head_read line bytes rest e =
       inner = first_plain v.mid.value;
     } in
     let one : Rest Head = rest_at head w.mid.line w.mid.bytes in
-    let last = line_then inner_form (pos head.inner ∷ []) (fixed_line (fixed (codes "policy") ∷ []) ∷ []) u.mid.bytes
+    let last = line_then inner_form (pos head.inner ∷ []) (fixed_line (fixed (codes "policy") ∷ []) ∷ [])
+    u.mid.bytes
     v.mid.bytes w.mid.bytes inner.line
     (line_then (fixed (codes "policy") ∷ []) [] [] v.mid.bytes w.mid.bytes w.mid.bytes title
     (no_lines w.mid.bytes)) in

@@ -62,12 +62,14 @@ lines_size (l ∷ ls) more =
     omega (arith, all, first, others, lines_size ls more)
 
 pub few_lines : (ls : List Line) (bytes more : List ℕ) → AreLines ls bytes more → length ls ≤ length bytes
-few_lines ls bytes more are = let all = lines_size ls more in let e = ap length are.text in omega (arith, all, e)
+few_lines ls bytes more are = let all = lines_size ls more in let e = ap length are.text in
+    omega (arith, all, e)
 
 -- ---- one line
 
 -- a line of one of these forms was read, and then what follows it
-pub record IsNext {V : Type 0} (forms : List (List Item)) (after : ℕ → List ℤ → Text V) (line : ℕ) (bytes : List ℕ)
+pub record IsNext {V : Type 0} (forms : List (List Item)) (after : ℕ → List ℤ → Text V) (line : ℕ)
+    (bytes : List ℕ)
     (rest : Rest V) : Type 0 where
   pub k : ℕ
   pub form : List Item
@@ -77,7 +79,8 @@ pub record IsNext {V : Type 0} (forms : List (List Item)) (after : ℕ → List 
   pub is_line : IsLine form bytes zs more
   pub behind : front_of (after k zs) (suc line) more ≡ Ok rest
 
-pub next_read : {V : Type 0} (forms : List (List Item)) (after : ℕ → List ℤ → Text V) (line : ℕ) (bytes : List ℕ)
+pub next_read : {V : Type 0} (forms : List (List Item)) (after : ℕ → List ℤ → Text V) (line : ℕ)
+    (bytes : List ℕ)
     (rest : Rest V) → AllHaveItems forms → front_of (next forms after) line bytes ≡ Ok rest
     → IsNext forms after line bytes rest
 next_read {V = V} forms after line bytes rest has e =

@@ -77,13 +77,15 @@ stage_read : (b n h t line : ℕ) (bytes : List ℕ) (rest : Rest (List PolicyRo
 stage_read b n h t line bytes rest some e =
     let form = row_form b n t in
     let seen = observations_after n h t in
-    let s = split (the_numbers form) (λ zs. ends (rows_from n seen 0 (map unsigned_abs zs))) line bytes rest e in
+    let s = split (the_numbers form) (λ zs. ends (rows_from n seen 0 (map unsigned_abs zs)))
+    line bytes rest e in
     let is = line_is form line bytes s.mid (replicate_items (n ^ t) 0 (b - 1)) s.front in
     let numbers = numbers_in (n ^ t) 0 (b - 1) s.mid.value is.allowed in
     let xs = map unsigned_abs s.mid.value in
     let one : Rest (List PolicyRow) = rest_at (rows_from n seen 0 xs) s.mid.line s.mid.bytes in
     let size = numbers.all in
-    subst (λ (r : Rest (List PolicyRow)). IsStageRead b n h t r.value bytes r.bytes) (same_rest one rest s.behind)
+    subst (λ (r : Rest (List PolicyRow)). IsStageRead b n h t r.value bytes r.bytes)
+    (same_rest one rest s.behind)
     (record {
       all = rows_all n seen 0 xs ∙ size;
       actions = λ c lt.
@@ -120,7 +122,8 @@ stage_then b n h t left rows stages bytes mid more first others = record {
   counts = counts;
   actions = actions;
   nexts = nexts;
-  lines = line_then (row_form b n t) (map pos (actions_of rows)) (action_lines b n (t + 1) stages) bytes mid more
+  lines = line_then (row_form b n t) (map pos (actions_of rows)) (action_lines b n (t + 1) stages)
+      bytes mid more
       first.line others.lines;
 }
   where
@@ -136,7 +139,8 @@ stage_then b n h t left rows stages bytes mid more first others = record {
 
     actions : (k c : ℕ) → k < suc left → c < n ^ (t + k) → (row_at (rows ∷ stages) k c).action < b
     actions zero c lt in_row = first.actions c (subst (λ u. c < n ^ u) (sym here) in_row)
-    actions (suc k) c lt in_row = others.actions k c (omega arith) (subst (λ u. c < n ^ u) (sym (later k)) in_row)
+    actions (suc k) c lt in_row = others.actions k c (omega arith)
+        (subst (λ u. c < n ^ u) (sym (later k)) in_row)
 
     nexts : (k c : ℕ) → k < suc left → c < n ^ (t + k)
         → (row_at (rows ∷ stages) k c).next ≡ map (λ o. c * n + o) (observations_after n h (t + k))

@@ -30,7 +30,8 @@ pub record AreNumbers (k low high : ℕ) (zs : List ℤ) : Type 0 where
   pub most : (o : ℕ) → o < k → get_or (map unsigned_abs zs) o 0 ≤ high
   pub back : map pos (map unsigned_abs zs) ≡ zs
 
-pub numbers_in : (k low high : ℕ) (zs : List ℤ) → Allows (replicate k (plain low high)) zs → AreNumbers k low high zs
+pub numbers_in : (k low high : ℕ) (zs : List ℤ) → Allows (replicate k (plain low high)) zs
+    → AreNumbers k low high zs
 numbers_in zero low high [] a =
     record { all = refl; least = tt; most = λ o lt. absurd (omega arith); back = refl }
 numbers_in zero low high (z ∷ zs) a = absurd a
@@ -67,7 +68,8 @@ row_is b nexts count (pos n ∷ zs) bytes more some later is =
       fits = record {
         action = omega (arith, most, some);
         one_each = others.all;
-        below = λ o lt. (let under = others.most o lt in let any = later (omega arith) in omega (arith, under, any));
+        below = λ o lt. (let under = others.most o lt in let any = later (omega arith) in
+            omega (arith, under, any));
       };
       lines = subst (λ (l : List ℤ). AreLines (record {
         form = shared_row_form b nexts count;
@@ -107,9 +109,11 @@ rows_read b nexts count zero line bytes rest some later e =
     (record { all = refl; fit = λ r lt. absurd (omega arith); lines = no_lines bytes })
 rows_read b nexts count (suc left) line bytes rest some later e =
     let form = shared_row_form b nexts count in
-    let s = split (row_line form) (λ row. rows_of_form form left >>= λ rows. ends (row ∷ rows)) line bytes rest e in
+    let s = split (row_line form) (λ row. rows_of_form form left >>= λ rows. ends (row ∷ rows))
+    line bytes rest e in
     let first = one_row b nexts count line bytes s.mid some later s.front in
-    let u = split (rows_of_form form left) (λ rows. ends (s.mid.value ∷ rows)) s.mid.line s.mid.bytes rest s.behind in
+    let u = split (rows_of_form form left) (λ rows. ends (s.mid.value ∷ rows))
+    s.mid.line s.mid.bytes rest s.behind in
     let others = rows_read b nexts count left s.mid.line s.mid.bytes u.mid some later u.front in
     let one : Rest (List PolicyRow) = rest_at (s.mid.value ∷ u.mid.value) u.mid.line u.mid.bytes in
     subst (λ (r : Rest (List PolicyRow)). AreRead b nexts count (suc left) r.value bytes r.bytes)
@@ -118,7 +122,8 @@ rows_read b nexts count (suc left) line bytes rest some later e =
       all = ap suc others.all;
       fit = by_place s.mid.value u.mid.value first.fits others.fit;
       lines = lines_then (shared_row_line b nexts count s.mid.value ∷ [])
-          (map (shared_row_line b nexts count) u.mid.value) bytes s.mid.bytes u.mid.bytes first.lines others.lines;
+          (map (shared_row_line b nexts count) u.mid.value) bytes s.mid.bytes u.mid.bytes first.lines
+          others.lines;
     })
   where
     by_place : (row : PolicyRow) (rows : List PolicyRow) → IsRow b nexts count row
@@ -158,7 +163,8 @@ stages_read b n [] line bytes rest some all e =
     (record { counted = refl; fit = tt; lines = no_lines bytes })
 stages_read b n (count ∷ counts) line bytes rest some all e =
     let form = shared_row_form b (nexts_before n counts) (first_of_counts counts) in
-    let s = split (rows_of_form form count) (λ rows. shared_stages b n counts >>= λ stages. ends (rows ∷ stages)) line
+    let s = split (rows_of_form form count) (λ rows. shared_stages b n counts >>= λ stages. ends
+    (rows ∷ stages)) line
     bytes rest e in
     let u = split (shared_stages b n counts) (λ stages. ends (s.mid.value ∷ stages))
     s.mid.line s.mid.bytes rest s.behind in
@@ -168,7 +174,8 @@ stages_read b n (count ∷ counts) line bytes rest some all e =
     ap (nexts_before n) (sym others.counted) ∙ nexts_same n u.mid.value in
     let firsts : first_of_counts counts ≡ first_count u.mid.value =
     ap first_of_counts (sym others.counted) ∙ first_same u.mid.value in
-    let first : AreRead b (next_count n u.mid.value) (first_count u.mid.value) count s.mid.value bytes s.mid.bytes =
+    let first : AreRead b (next_count n u.mid.value) (first_count u.mid.value)
+    count s.mid.value bytes s.mid.bytes =
     subst (λ (k : ℕ). AreRead b k (first_count u.mid.value) count s.mid.value bytes s.mid.bytes) nexts
     (subst (λ (k : ℕ). AreRead b (nexts_before n counts) k count s.mid.value bytes s.mid.bytes) firsts
     (rows_read b (nexts_before n counts) (first_of_counts counts) count line bytes s.mid some
@@ -178,7 +185,8 @@ stages_read b n (count ∷ counts) line bytes rest some all e =
     (record {
       counted = (λ i. first.all i ∷ others.counted i);
       fit = ((let k = first.all in omega (arith, k, all.0)), first.fit, others.fit);
-      lines = lines_then (map (shared_row_line b (next_count n u.mid.value) (first_count u.mid.value)) s.mid.value)
+      lines = lines_then (map (shared_row_line b (next_count n u.mid.value) (first_count u.mid.value))
+          s.mid.value)
           (stage_lines b n u.mid.value) bytes s.mid.bytes u.mid.bytes first.lines others.lines;
     })
 
@@ -217,14 +225,17 @@ count_numbers (suc h) (pos n ∷ zs) a =
 kept_read : (o : Option TooLarge) (xs : List ℕ) (line : ℕ) (bytes : List ℕ) (rest : Rest (List ℕ))
     → front_of (unless_passed o >>= λ kept. ends xs) line bytes ≡ Ok rest
     → (o ≡ None) × (let one : Rest (List ℕ) = rest_at xs line bytes in one ≡ rest)
-kept_read None xs line bytes rest e = let one : Rest (List ℕ) = rest_at xs line bytes in (refl, same_rest one rest e)
+kept_read None xs line bytes rest e = let one : Rest (List ℕ) = rest_at xs line bytes in
+    (refl, same_rest one rest e)
 kept_read (Some passed) xs line bytes rest e = absurd cc
 
-counts_read : (h agent : ℕ) (cells : List ℕ) (line : ℕ) (bytes : List ℕ) (rest : Rest (List ℕ)) → agent < 10 ^ 64
+counts_read : (h agent : ℕ) (cells : List ℕ) (line : ℕ) (bytes : List ℕ) (rest : Rest (List ℕ))
+    → agent < 10 ^ 64
     → front_of (counts_grammar h agent cells) line bytes ≡ Ok rest
     → AreCounts h agent cells rest.value bytes rest.bytes
 counts_read h agent cells line bytes rest few e =
-    let behind : List ℤ → Text (List ℕ) = λ zs. unless_passed (cells_passed (products cells (map unsigned_abs zs)))
+    let behind : List ℤ → Text (List ℕ) = λ zs. unless_passed
+    (cells_passed (products cells (map unsigned_abs zs)))
     >>= λ kept. ends (map unsigned_abs zs) in
     let s = split (the_words (agent_words agent)) (λ title. the_numbers (counts_form h) >>= behind)
     line bytes rest e in
@@ -250,7 +261,8 @@ counts_read h agent cells line bytes rest few e =
 -- ---- agents
 
 -- the rows of the agents from one on, behind others whose joint rows make these cells
-pub record AreShared (h agent : ℕ) (cells bs ns : List ℕ) (p : SharedPolicy) (bytes more : List ℕ) : Type 0 where
+pub record AreShared (h agent : ℕ) (cells bs ns : List ℕ) (p : SharedPolicy)
+    (bytes more : List ℕ) : Type 0 where
   pub agents : AreRowsOfAgents h bs ns p
   pub within : (t : ℕ) → t < h → get_or cells t 0 * product (row_counts p t) ≤ 2 ^ 22
   pub lines : AreLines (agent_lines agent (shared_policy_rows bs ns p)) bytes more
@@ -282,7 +294,8 @@ pub shared_read : (h agent : ℕ) (cells bs ns : List ℕ) (line : ℕ) (bytes :
     → AreShared h agent cells bs ns rest.value bytes rest.bytes
 shared_read h agent cells [] [] line bytes rest long few alike acts kept e =
     let one : Rest SharedPolicy = rest_at [] line bytes in
-    subst (λ (r : Rest SharedPolicy). AreShared h agent cells [] [] r.value bytes r.bytes) (same_rest one rest e)
+    subst (λ (r : Rest SharedPolicy). AreShared h agent cells [] [] r.value bytes r.bytes)
+    (same_rest one rest e)
     (record {
       agents = no_agents;
       within = λ t lt. (let under = cell_few cells t kept in omega (arith, under));
@@ -295,7 +308,8 @@ shared_read h agent cells (b ∷ bs) (n ∷ ns) line bytes rest long few alike a
     (shared_agents h (agent + 1) (products cells counts) bs ns)) line bytes rest e in
     let counts = counts_read h agent cells line bytes s.mid (omega (arith, few)) s.front in
     let after = products cells s.mid.value in
-    let u = split (shared_stages b n s.mid.value) (λ stages. shared_agents h (agent + 1) after bs ns >>= λ others.
+    let u = split (shared_stages b n s.mid.value) (λ stages. shared_agents h (agent + 1)
+    after bs ns >>= λ others.
     ends
     (stages ∷ others)) s.mid.line s.mid.bytes rest s.behind in
     let stages = stages_read b n s.mid.value s.mid.line s.mid.bytes u.mid acts.0 counts.some u.front in
@@ -332,7 +346,8 @@ shared_read h agent cells (b ∷ bs) (n ∷ ns) line bytes rest long few alike a
               (get_or (products cells xs) t 0) e k all);
           lines = subst (λ (l : Line). AreLines (fixed_line (agent_form agent) ∷ l ∷ (stage_lines b n stages
               ++ agent_lines (agent + 1) (shared_policy_rows bs ns p))) bytes more) (sym counted)
-              (lines_then (fixed_line (agent_form agent) ∷ record { form = counts_form h; numbers = map pos xs } ∷ [])
+              (lines_then (fixed_line (agent_form agent) ∷ record
+              { form = counts_form h; numbers = map pos xs } ∷ [])
               (stage_lines b n stages ++ agent_lines (agent + 1) (shared_policy_rows bs ns p)) bytes titled more
               counts.lines
               (lines_then (stage_lines b n stages) (agent_lines (agent + 1) (shared_policy_rows bs ns p))

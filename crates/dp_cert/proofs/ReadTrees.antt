@@ -53,7 +53,8 @@ repeated_read left g reads (suc count) line bytes rest e =
     s.behind in
     let others = repeated_read left g reads count s.mid.line s.mid.bytes u.mid u.front in
     let one : Rest BoundTrees = rest_at (more_bound_trees s.mid.value u.mid.value) u.mid.line u.mid.bytes in
-    subst (λ (r : Rest BoundTrees). AreTrees left (suc count) r.value bytes r.bytes) (same_rest one rest u.behind)
+    subst (λ (r : Rest BoundTrees). AreTrees left (suc count) r.value bytes r.bytes)
+    (same_rest one rest u.behind)
     (record {
       depth = max_least _ _ _ first.depth others.depth;
       children = (first.children, others.children);
@@ -80,8 +81,10 @@ leaf_read left line (z ∷ []) bytes more rest is e =
       lines = line_then leaf_form (z ∷ []) [] bytes more more is (no_lines more);
     })
 
-branch_read : (left : ℕ) (g : Text BoundTree) → ReadsTree left g → (line : ℕ) (zs : List ℤ) (bytes more : List ℕ)
-    (rest : Rest BoundTree) → IsLine branch_form bytes zs more → front_of (branch_below g zs) line more ≡ Ok rest
+branch_read : (left : ℕ) (g : Text BoundTree) → ReadsTree left g
+    → (line : ℕ) (zs : List ℤ) (bytes more : List ℕ)
+    (rest : Rest BoundTree) → IsLine branch_form bytes zs more
+    → front_of (branch_below g zs) line more ≡ Ok rest
     → IsTree (suc left) rest.value bytes rest.bytes
 branch_read left g reads line [] bytes more rest is e = absurd is.allowed
 branch_read left g reads line (negsuc i ∷ zs) bytes more rest is e = absurd is.allowed
@@ -103,7 +106,8 @@ branch_read left g reads line (pos i ∷ pos c ∷ pos k ∷ []) bytes more rest
       children = (omega (arith, many, some), omega (arith, many, few), kids.children);
       lines = subst (λ (n : ℕ). AreLines (branch_line i c n ∷ children_lines s.mid.value) bytes s.mid.bytes)
           (sym many)
-          (line_then branch_form (pos i ∷ pos c ∷ pos k ∷ []) (children_lines s.mid.value) bytes more s.mid.bytes is
+          (line_then branch_form (pos i ∷ pos c ∷ pos k ∷ []) (children_lines s.mid.value)
+          bytes more s.mid.bytes is
           kids.lines);
     })
 
@@ -125,24 +129,28 @@ merge_read left g reads line (pos i ∷ pos a ∷ pos b ∷ []) bytes more rest 
     (record {
       depth = (let d = kid.depth in omega (arith, d));
       children = kid.children;
-      lines = line_then merge_form (pos i ∷ pos a ∷ pos b ∷ []) (node_lines s.mid.value) bytes more s.mid.bytes is
+      lines = line_then merge_form (pos i ∷ pos a ∷ pos b ∷ []) (node_lines s.mid.value)
+          bytes more s.mid.bytes is
           kid.lines;
     })
 
-form_of : (form other : List Item) (bytes more : List ℕ) (zs : List ℤ) → (let one : _ = Some form in one ≡ Some other)
+form_of : (form other : List Item) (bytes more : List ℕ) (zs : List ℤ)
+    → (let one : _ = Some form in one ≡ Some other)
     → IsLine other bytes zs more → IsLine form bytes zs more
 form_of form other bytes more zs e is =
     let same : form ≡ other = cc in subst (λ (f : List Item). IsLine f bytes zs more) (sym same) is
 
 only_read : (k line : ℕ) (form : List Item) (zs : List ℤ) (bytes more : List ℕ) (rest : Rest BoundTree)
-    → nth_form node_forms k ≡ Some form → IsLine form bytes zs more → front_of (leaf_only k zs) line more ≡ Ok rest
+    → nth_form node_forms k ≡ Some form → IsLine form bytes zs more
+    → front_of (leaf_only k zs) line more ≡ Ok rest
     → IsTree 0 rest.value bytes rest.bytes
 only_read zero line form zs bytes more rest at is e =
     leaf_read 0 line zs bytes more rest (form_of leaf_form form bytes more zs at is) e
 only_read (suc k) line form zs bytes more rest at is e = absurd cc
 
 node_read : (left : ℕ) (g : Text BoundTree) → ReadsTree left g → (k line : ℕ) (form : List Item) (zs : List ℤ)
-    (bytes more : List ℕ) (rest : Rest BoundTree) → nth_form node_forms k ≡ Some form → IsLine form bytes zs more
+    (bytes more : List ℕ) (rest : Rest BoundTree) → nth_form node_forms k ≡ Some form
+    → IsLine form bytes zs more
     → front_of (node_below g k zs) line more ≡ Ok rest → IsTree (suc left) rest.value bytes rest.bytes
 node_read left g reads zero line form zs bytes more rest at is e =
     leaf_read (suc left) line zs bytes more rest (form_of leaf_form form bytes more zs at is) e
@@ -161,7 +169,8 @@ tree_read zero line bytes rest e =
     only_read n.k (suc line) n.form n.zs bytes n.more rest n.is_form n.is_line n.behind
 tree_read (suc left) line bytes rest e =
     let n = next_read node_forms (node_below (tree_lines left)) line bytes rest node_items e in
-    node_read left (tree_lines left) (tree_read left) n.k (suc line) n.form n.zs bytes n.more rest n.is_form n.is_line
+    node_read left (tree_lines left) (tree_read left) n.k (suc line)
+    n.form n.zs bytes n.more rest n.is_form n.is_line
     n.behind
 
 -- ---- one line for each node
