@@ -2,6 +2,7 @@
 use Rattle.std.specs.Prelude.{◌≡◌, ◌↔◌, ℕ, Bool, true, false, IsTrue, List, [], ◌∷◌, ◌++◌, Option, Some, None, option_map, Result, Ok, Err, ℤ, ◌≤ℤ◌, codes, decimal}
 use Rattle.std.specs.Fmt.{signed_decimal}
 use Rattle.dp_spec.specs.Certificate.{Certificate, IsValid}
+use Rattle.dp_spec.specs.CertificateText.{IsCertificateText}
 use Rattle.dp_spec.specs.Claims.{ClaimsHold, IsOptimal}
 use Rattle.dp_spec.specs.Model.{IsModel, Model}
 use Rattle.dp_spec.specs.Qualities.{IsClosed, IsLean, IsMerged}
@@ -11,7 +12,7 @@ use Rattle.dp_spec.specs.SharedPolicy.{unfolded}
 use Rattle.dp_cert.specs.CertificateGrammar.{certificate_grammar}
 use Rattle.dp_check.specs.declared.verdict.Reason.{Reason}
 use Rattle.dp_check.specs.declared.verdict.Reason.TheVariants as reasons
-use Rattle.dp_lines.specs.Grammar.{Fault, IsText}
+use Rattle.dp_lines.specs.Grammar.{Fault}
 use Rattle.dp_lines.specs.Scanning.{text_from}
 use Rattle.dp_model.specs.declared.limit.TooLarge.{TooLarge}
 use Rattle.dp_meaning.specs.Meaning.{Means, ReadModel, meaning}
@@ -96,7 +97,7 @@ pub record Accepts (m : Model) (repaired : ℕ) (c : Certificate) (text : List �
 pub record IsCheckOfCertificate (m : Model) (repaired : ℕ) (cert text : List ℕ) : Type 0 where
   pub is_model : IsModel m
   pub certificate : Certificate
-  pub says : IsText (certificate_grammar m) cert certificate
+  pub says : IsCertificateText m cert certificate
   pub valid : IsValid m certificate
   pub accepts : Accepts m repaired certificate text
 
@@ -121,7 +122,7 @@ pub record TellsCertificate (file cert text : List ℕ) : Type 0 where
   pub meant : model_of_text file ≡ Some model
   pub is_model : IsModel model
   pub certificate : Certificate
-  pub says : IsText (certificate_grammar model) cert certificate
+  pub says : IsCertificateText model cert certificate
   pub valid : IsValid model certificate
   pub claims : ClaimsHold model certificate
   pub ordered : certificate.lower ≤ℤ certificate.upper

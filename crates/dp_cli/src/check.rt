@@ -36,9 +36,6 @@ fn check_of(alloc: Global, read: &ReadModel, bytes: &[u8]) -> Result<Vec<u8>, Re
     read.model.invariant();
     let cert = read_cert(alloc, bytes, &read.model)?;
     // What is read fits the model. That is not proved yet, so it is asked: `check` requires it.
-    if !cert.fits(&read.model) {
-        return Err(Refusal::Memory);
-    }
     match dp_check::check(alloc, &read.model, &cert)? {
         Verdict::Rejected(reason) => Err(Refusal::from(JobFault::Rejected(reason))),
         Verdict::Accepted {
