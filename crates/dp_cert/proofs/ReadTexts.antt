@@ -1,17 +1,17 @@
 -- What was read is the text of a certificate.
-use Rattle.std.proofs.Common.{◌≡◌, ℕ, zero, suc, ◌+◌, ◌^◌, ◌≤◌, Bool, true, false, cond, List, [], ◌∷◌, ◌++◌, map, Result, Ok, Err, refl, sym, ap, subst, ◌∙◌, arith}
+use Rattle.std.proofs.Common.{◌≡◌, ℕ, zero, suc, ◌+◌, ◌^◌, Bool, true, false, cond, List, [], ◌∷◌, ◌++◌, map, Result, Ok, Err, refl, ap, subst, ◌∙◌, arith}
 use Rattle.std.specs.Prelude.{◌==◌, codes, pos, IfOk}
 use Rattle.std.specs.List.{range_with_len}
 use Rattle.std.proofs.lemmas.Bool.Decides.{nat_tests}
 use Rattle.std.proofs.lemmas.List.{append-nil}
 use Rattle.dp_spec.specs.Certificate.{Certificate, HasPolicyOfVersion}
-use Rattle.dp_spec.specs.CertificateText.{IsCertificateText, certificate_lines, certificate_rows, certificate_text, head_lines, node_lines}
+use Rattle.dp_spec.specs.CertificateText.{IsCertificateText, certificate_lines, certificate_rows, certificate_text, head_lines}
 use Rattle.dp_spec.specs.Keeping.{tree_at}
 use Rattle.dp_spec.specs.Model.{IsModel, Model}
-use Rattle.dp_spec.specs.PlainForm.{plain_form, plain_row, plain_rows, plain_rows_of}
-use Rattle.dp_spec.specs.PolicyText.{agent_lines, end_form, policy_rows, row_form, row_line}
+use Rattle.dp_spec.specs.PlainForm.{plain_form, plain_row, plain_rows_of}
+use Rattle.dp_spec.specs.PolicyText.{agent_lines, policy_rows, row_form, row_line}
 use Rattle.dp_spec.specs.PolicyTree.{PolicyTree, root_action}
-use Rattle.dp_spec.specs.SharedPolicy.{SharedPolicy, unfolded}
+use Rattle.dp_spec.specs.SharedPolicy.{unfolded}
 use Rattle.dp_spec.specs.SharedRows.{shared_policy_rows}
 use Rattle.dp_spec.specs.TextLines.{AllAllowed, Line, fixed, fixed_line, text_of_lines}
 use Rattle.dp_laws.proofs.PlainForms.{plain_is_form}
@@ -58,7 +58,8 @@ rows_lines_are m c has = by_version (c.version == 1) refl
     is_one v e = grind (arith, nat_tests)
 
     by_version : (b : Bool) → (c.version == 1) ≡ b
-        → cond b (plain_lines m.actions m.observations c.policy) (shared_policy_rows m.actions m.observations c.policy)
+        → cond b (plain_lines m.actions m.observations c.policy)
+        (shared_policy_rows m.actions m.observations c.policy)
         ≡ cond b (policy_rows m.actions m.observations c.horizon (unfolded c.policy))
         (shared_policy_rows m.actions m.observations c.policy)
     by_version true e =
@@ -89,7 +90,8 @@ read_text m is bytes c e =
     }
 
 -- as the code tells it
-pub given_text : {X : Type 0} (view : X → Certificate) (r : Result X CertFault) (m : Model) → IsModel m → (bytes : List ℕ)
+pub given_text : {X : Type 0} (view : X → Certificate) (r : Result X CertFault) (m : Model) → IsModel m
+    → (bytes : List ℕ)
     → Gives view r (text_from (certificate_grammar m) 1 bytes) → IfOk r (λ x. IsCertificateText m bytes (view x))
 given_text view (Ok x) m is bytes gives = read_text m is bytes (view x) gives
 given_text view (Err fault) m is bytes gives = tt

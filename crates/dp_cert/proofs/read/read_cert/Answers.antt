@@ -15,7 +15,8 @@ returns-clause-answers c =
 
 pub returns-clause-fits : goal.returns-clause-fits
 returns-clause-fits c =
-    given_fits certificate_of c.read.result c.args.model.now.model c.invariant.ensures.model c.args.bytes.now c.requires
+    given_fits certificate_of c.read.result c.args.model.now.model c.invariant.ensures.model c.args.bytes.now
+    c.requires
     c.read.ensures
 
 pub returns-clause-text : goal.returns-clause-text
