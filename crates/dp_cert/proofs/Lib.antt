@@ -20,3 +20,4 @@ pub mod ReadPlainRows
 pub mod ReadHeads
 pub mod ReadCertificates
 pub mod ReadTexts
+pub mod WrittenTexts

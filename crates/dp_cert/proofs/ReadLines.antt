@@ -37,7 +37,7 @@ all_then : (ls ks : List Line) → AllAllowed ls → AllAllowed ks → AllAllowe
 all_then [] ks a b = b
 all_then (l ∷ ls) ks a b = (a.0, all_then ls ks a.1 b)
 
-text_then : (ls ks : List Line) → text_of_lines (ls ++ ks) ≡ text_of_lines ls ++ text_of_lines ks
+pub text_then : (ls ks : List Line) → text_of_lines (ls ++ ks) ≡ text_of_lines ls ++ text_of_lines ks
 text_then [] ks = refl
 text_then (l ∷ ls) ks =
     ap (λ (x : List ℕ). line_text l.form l.numbers ++ 10 ∷ x) (text_then ls ks)

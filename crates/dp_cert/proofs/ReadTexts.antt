@@ -1,17 +1,17 @@
 -- What was read is the text of a certificate.
-use Rattle.std.proofs.Common.{◌≡◌, ℕ, zero, suc, ◌+◌, ◌^◌, ◌≤◌, Bool, true, false, cond, List, [], ◌∷◌, ◌++◌, map, Result, Ok, Err, refl, sym, ap, subst, ◌∙◌, arith}
+use Rattle.std.proofs.Common.{◌≡◌, ℕ, zero, suc, ◌+◌, ◌^◌, Bool, true, false, cond, List, [], ◌∷◌, ◌++◌, map, Result, Ok, Err, refl, ap, subst, ◌∙◌, arith}
 use Rattle.std.specs.Prelude.{◌==◌, codes, pos, IfOk}
 use Rattle.std.specs.List.{range_with_len}
 use Rattle.std.proofs.lemmas.Bool.Decides.{nat_tests}
 use Rattle.std.proofs.lemmas.List.{append-nil}
 use Rattle.dp_spec.specs.Certificate.{Certificate, HasPolicyOfVersion}
-use Rattle.dp_spec.specs.CertificateText.{IsCertificateText, certificate_lines, certificate_rows, certificate_text, head_lines, node_lines}
+use Rattle.dp_spec.specs.CertificateText.{IsCertificateText, certificate_lines, certificate_rows, certificate_text, head_lines}
 use Rattle.dp_spec.specs.Keeping.{tree_at}
 use Rattle.dp_spec.specs.Model.{IsModel, Model}
-use Rattle.dp_spec.specs.PlainForm.{plain_form, plain_row, plain_rows, plain_rows_of}
-use Rattle.dp_spec.specs.PolicyText.{agent_lines, end_form, policy_rows, row_form, row_line}
+use Rattle.dp_spec.specs.PlainForm.{plain_form, plain_row, plain_rows_of}
+use Rattle.dp_spec.specs.PolicyText.{agent_lines, policy_rows, row_form, row_line}
 use Rattle.dp_spec.specs.PolicyTree.{PolicyTree, root_action}
-use Rattle.dp_spec.specs.SharedPolicy.{SharedPolicy, unfolded}
+use Rattle.dp_spec.specs.SharedPolicy.{unfolded}
 use Rattle.dp_spec.specs.SharedRows.{shared_policy_rows}
 use Rattle.dp_spec.specs.TextLines.{AllAllowed, Line, fixed, fixed_line, text_of_lines}
 use Rattle.dp_laws.proofs.PlainForms.{plain_is_form}
@@ -72,8 +72,7 @@ rows_lines_are m c has = by_version (c.version == 1) refl
 pub lines_read_are : (m : Model) (c : Certificate) → HasPolicyOfVersion m c
     → lines_read m c ≡ certificate_lines m.actions m.observations c
 lines_read_are m c has =
-    ap (λ (rows : List (List Line)). head_lines c ++ fixed_line
-    (fixed (codes "policy") ∷ []) ∷ (agent_lines 0 rows
+    ap (λ (rows : List (List Line)). head_lines c ++ fixed_line (fixed (codes "policy") ∷ []) ∷ (agent_lines 0 rows
     ++ tree_part_lines c.tree)) (rows_lines_are m c has)
 
 -- ---- the whole text
@@ -93,7 +92,6 @@ read_text m is bytes c e =
 -- as the code tells it
 pub given_text : {X : Type 0} (view : X → Certificate) (r : Result X CertFault) (m : Model) → IsModel m
     → (bytes : List ℕ)
-    → Gives view r (text_from (certificate_grammar m) 1 bytes)
-    → IfOk r (λ x. IsCertificateText m bytes (view x))
+    → Gives view r (text_from (certificate_grammar m) 1 bytes) → IfOk r (λ x. IsCertificateText m bytes (view x))
 given_text view (Ok x) m is bytes gives = read_text m is bytes (view x) gives
 given_text view (Err fault) m is bytes gives = tt

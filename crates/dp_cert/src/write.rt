@@ -1,6 +1,9 @@
 //! Certificate texts written.
 ghost use Rattle.std.specs.Prelude.{◌≡◌, ◌++◌, ◌∷◌, ◌==◌, [], cond, true, false, codes, decimal, map, length, IfOk, OnOk};
 ghost use Rattle.std.specs.Fmt.{signed_decimal};
+ghost use Rattle.dp_spec.specs.Certificate.{HasPolicyOfVersion};
+ghost use Rattle.dp_spec.specs.CertificateText.{certificate_text};
+ghost use Rattle.dp_spec.specs.Model.{Model};
 ghost use Rattle.dp_tree.specs.TreeValue.{bound_tree};
 ghost use Rattle.dp_cert.specs.CertificateBytes.{actions_bytes, agents_bytes, certificate_bytes, counted_bytes};
 ghost use Rattle.dp_cert.specs.CertificateBytes.{counts_bytes, head_bytes, interval_bytes, manner_bytes, node_bytes, plain_bytes, row_bytes, row_tail, rows_bytes};
@@ -17,6 +20,16 @@ use std::alloc::Global;
 /// The one text of a certificate that fits a model. It takes memory linear in the text, and time linear in
 /// the certificate. The error is want of memory.
 pub fn write_cert(alloc: Global, certificate: &Certificate) -> Result<Vec<u8>, Memory>
+    ensures bytes { IfOk result (λ text. text.items ≡ certificate_bytes (certificate_of certificate.now)) }
+    ensures text { IfOk result (λ text. (m : Model) → HasPolicyOfVersion m (certificate_of certificate.now) →
+        text.items ≡ certificate_text m.actions m.observations (certificate_of certificate.now)) }
+{
+    let text = written(alloc, certificate)?;
+    Ok(text)
+}
+
+// The bytes of a certificate.
+fn written(alloc: Global, certificate: &Certificate) -> Result<Vec<u8>, Memory>
     ensures { IfOk result (λ text. text.items ≡ certificate_bytes (certificate_of certificate.now)) }
 {
     let mut text = Vec::new(alloc);

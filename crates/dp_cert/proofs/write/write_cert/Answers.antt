@@ -1,0 +1,8 @@
+use Rattle.std.proofs.Common.{◌∙◌}
+use Rattle.dp_cert.specs.CertificateValue.{certificate_of}
+use Rattle.dp_cert.proofs.WrittenTexts.{bytes_are_text}
+use Rattle.dp_cert.proofs.write.write_cert.Goals as goal
+
+pub returns-clause-text : goal.returns-clause-text
+returns-clause-text c m has =
+    c.in_ok-text.ensures ∙ bytes_are_text m (certificate_of c.args.certificate.now) has
