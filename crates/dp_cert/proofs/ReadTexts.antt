@@ -72,7 +72,8 @@ rows_lines_are m c has = by_version (c.version == 1) refl
 pub lines_read_are : (m : Model) (c : Certificate) → HasPolicyOfVersion m c
     → lines_read m c ≡ certificate_lines m.actions m.observations c
 lines_read_are m c has =
-    ap (λ (rows : List (List Line)). head_lines c ++ fixed_line (fixed (codes "policy") ∷ []) ∷ (agent_lines 0 rows
+    ap (λ (rows : List (List Line)). head_lines c ++ fixed_line
+    (fixed (codes "policy") ∷ []) ∷ (agent_lines 0 rows
     ++ tree_part_lines c.tree)) (rows_lines_are m c has)
 
 -- ---- the whole text
@@ -92,6 +93,7 @@ read_text m is bytes c e =
 -- as the code tells it
 pub given_text : {X : Type 0} (view : X → Certificate) (r : Result X CertFault) (m : Model) → IsModel m
     → (bytes : List ℕ)
-    → Gives view r (text_from (certificate_grammar m) 1 bytes) → IfOk r (λ x. IsCertificateText m bytes (view x))
+    → Gives view r (text_from (certificate_grammar m) 1 bytes)
+    → IfOk r (λ x. IsCertificateText m bytes (view x))
 given_text view (Ok x) m is bytes gives = read_text m is bytes (view x) gives
 given_text view (Err fault) m is bytes gives = tt

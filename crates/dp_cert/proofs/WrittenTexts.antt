@@ -45,7 +45,8 @@ feed : (line : List ℕ) (others : List ℕ) → line ++ 10 ∷ others ≡ (line
 feed line others = sym (append_assoc line (10 ∷ []) others)
 
 -- one number, and what follows it
-number_then : (word digits xs ys : List ℕ) → xs ≡ ys → word ++ (digits ++ 10 ∷ xs) ≡ (word ++ (digits ++ 10 ∷ []))
+number_then : (word digits xs ys : List ℕ) → xs ≡ ys → word ++ (digits ++ 10 ∷ xs)
+    ≡ (word ++ (digits ++ 10 ∷ []))
     ++ ys
 number_then word digits xs ys e =
     ap (λ (l : List ℕ). word ++ (digits ++ 10 ∷ l)) e
@@ -71,7 +72,8 @@ mutual
   nodes_written (leaf x) = refl
   nodes_written (branch i c ks) =
       three_then (codes "B ") (decimal i) (decimal c) (decimal (child_count ks)) _ _ (children_written ks)
-  nodes_written (merge i a b k) = three_then (codes "M ") (decimal i) (decimal a) (decimal b) _ _ (nodes_written k)
+  nodes_written (merge i a b k) = three_then (codes "M ") (decimal i) (decimal a) (decimal b) _ _
+      (nodes_written k)
 
   children_written : (ks : BoundTrees) → text_of_lines (children_lines ks) ≡ children_bytes ks
   children_written no_bound_trees = refl
@@ -170,7 +172,8 @@ plain_stages_written b n t (rows ∷ stages) counts =
     let size : length (actions_of rows) ≡ n ^ t =
     actions_all rows ∙ counts 0 (omega arith) ∙ ap (λ u. n ^ u) here in
     let line : line_text (row_form b n t) (map pos (actions_of rows)) ≡ row_tail true (actions_of rows) =
-    ap (join_with_byte 32) (spelled_row (n ^ t) 0 (b - 1) (actions_of rows) size) ∙ all_joined (actions_of rows) in
+    ap (join_with_byte 32) (spelled_row (n ^ t) 0 (b - 1) (actions_of rows) size)
+    ∙ all_joined (actions_of rows) in
     let others = plain_stages_written b n (t + 1) stages (λ k lt.
     let later : t + suc k ≡ t + 1 + k = omega arith in counts (suc k) (omega arith) ∙ ap (λ u. n ^ u) later) in
     (λ j. line j ++ 10 ∷ others j) ∙ feed (row_tail true (actions_of rows)) (actions_bytes stages)
@@ -207,7 +210,8 @@ rows_bytes_of m c has = by_version (c.version == 1) refl
     by_version true e = plain_written has.shared.agents (has.plain (is_one c.version e)) 0
     by_version false e = shared_written has.shared.agents 0
 
-tree_written : (T : BoundTree) → text_of_lines (tree_part_lines T) ≡ codes "tree\n" ++ (node_bytes T ++ codes "end\n")
+tree_written : (T : BoundTree) → text_of_lines (tree_part_lines T) ≡ codes "tree\n"
+    ++ (node_bytes T ++ codes "end\n")
 tree_written T =
     ap (λ (l : List ℕ). codes "tree\n" ++ l)
     (text_then (node_lines T) (fixed_line end_form ∷ [])
@@ -258,7 +262,8 @@ head_then c ls ys e = by_mode c.is_exact
         (number_then (codes "horizon ") (decimal c.horizon) _ _
         (number_then (codes "look ") (decimal c.look) _ _ (ap (λ (l : List ℕ). codes "mode exact\n" ++ l)
         interval_then)))
-        ∙ parts_then (plain_bytes (codes "decplan certificate ") c.version) (plain_bytes (codes "horizon ") c.horizon)
+        ∙ parts_then (plain_bytes (codes "decplan certificate ") c.version)
+        (plain_bytes (codes "horizon ") c.horizon)
         (plain_bytes (codes "look ") c.look) (codes "mode exact\n") (signed_bytes (codes "unit ") c.unit)
         (signed_bytes (codes "lower ") c.lower) (signed_bytes (codes "upper ") c.upper)
         (plain_bytes (codes "inner ") c.inner) (codes "policy\n") ys
@@ -267,7 +272,8 @@ head_then c ls ys e = by_mode c.is_exact
         (number_then (codes "horizon ") (decimal c.horizon) _ _
         (number_then (codes "look ") (decimal c.look) _ _ (ap (λ (l : List ℕ). codes "mode outward\n" ++ l)
         interval_then)))
-        ∙ parts_then (plain_bytes (codes "decplan certificate ") c.version) (plain_bytes (codes "horizon ") c.horizon)
+        ∙ parts_then (plain_bytes (codes "decplan certificate ") c.version)
+        (plain_bytes (codes "horizon ") c.horizon)
         (plain_bytes (codes "look ") c.look) (codes "mode outward\n") (signed_bytes (codes "unit ") c.unit)
         (signed_bytes (codes "lower ") c.lower) (signed_bytes (codes "upper ") c.upper)
         (plain_bytes (codes "inner ") c.inner) (codes "policy\n") ys
