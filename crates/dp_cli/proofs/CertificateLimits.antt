@@ -69,28 +69,35 @@ rows_other form (suc left) = and_other (row_line form) (rows_of_form form left) 
 shared_other : (b n : ℕ) (counts : List ℕ) → AreOther (shared_stages b n counts)
 shared_other b n [] = tt
 shared_other b n (count ∷ counts) =
-    and_other (rows_of_form (shared_row_form b (nexts_before n counts) (first_of_counts counts)) count) (shared_stages b n counts)
+    and_other (rows_of_form (shared_row_form b (nexts_before n counts) (first_of_counts counts)) count)
+    (shared_stages b n counts)
     (rows_other _ count) (shared_other b n counts)
 
 counts_other : (h agent : ℕ) (cells : List ℕ) → AreOther (counts_grammar h agent cells)
 counts_other h agent cells = λ k zs j ys.
-    AreOther-bind (unless_passed (cells_passed (products cells (map unsigned_abs ys)))) (λ kept. ends (map unsigned_abs ys))
-    (unless_other (cells_passed (products cells (map unsigned_abs ys))) (cells_are_other (products cells (map unsigned_abs ys)))) (λ kept. tt)
+    AreOther-bind (unless_passed (cells_passed (products cells (map unsigned_abs ys))))
+    (λ kept. ends (map unsigned_abs ys))
+    (unless_other (cells_passed (products cells (map unsigned_abs ys)))
+    (cells_are_other (products cells (map unsigned_abs ys)))) (λ kept. tt)
 
 agents_other : (h agent : ℕ) (cells bs ns : List ℕ) → AreOther (shared_agents h agent cells bs ns)
 agents_other h agent cells [] ns = tt
 agents_other h agent cells (b ∷ bs) [] = tt
 agents_other h agent cells (b ∷ bs) (n ∷ ns) =
-    AreOther-bind (counts_grammar h agent cells) (λ counts. and_then (shared_stages b n counts) (shared_agents h (agent + 1) (products cells counts) bs ns))
+    AreOther-bind (counts_grammar h agent cells)
+    (λ counts. and_then (shared_stages b n counts) (shared_agents h (agent + 1) (products cells counts) bs ns))
     (counts_other h agent cells)
-    (λ counts. and_other (shared_stages b n counts) (shared_agents h (agent + 1) (products cells counts) bs ns) (shared_other b n counts)
+    (λ counts. and_other (shared_stages b n counts) (shared_agents h (agent + 1) (products cells counts) bs ns)
+    (shared_other b n counts)
     (agents_other h (agent + 1) (products cells counts) bs ns))
 
 policy_other : (m : Model) (version h : ℕ) → AreOther (policy_grammar m version h)
 unfolding policy_grammar
 policy_other m version h = by (version == 1)
   where
-    by : (v : Bool) → AreOther (cond v (plain_agents h 0 m.actions m.observations) (shared_agents h 0 (replicate h m.states) m.actions m.observations))
+    by : (v : Bool) → AreOther
+        (cond v (plain_agents h 0 m.actions m.observations)
+        (shared_agents h 0 (replicate h m.states) m.actions m.observations))
     by true = plain_other h 0 m.actions m.observations
     by false = agents_other h 0 (replicate h m.states) m.actions m.observations
 
@@ -100,7 +107,8 @@ repeated_other : (tree : Text BoundTree) (count : ℕ) → AreOther tree → Are
 repeated_other tree zero p = tt
 repeated_other tree (suc left) p =
     AreOther-bind tree (λ first. repeated tree left >>= λ others. ends (more_bound_trees first others)) p
-    (λ first. AreOther-bind (repeated tree left) (λ others. ends (more_bound_trees first others)) (repeated_other tree left p) (λ others. tt))
+    (λ first. AreOther-bind (repeated tree left) (λ others. ends (more_bound_trees first others))
+    (repeated_other tree left p) (λ others. tt))
 
 only_other : (k : ℕ) (zs : List ℤ) → AreOther (leaf_only k zs)
 only_other zero zs = tt
@@ -111,7 +119,8 @@ branch_other below [] p = tt
 branch_other below (i ∷ []) p = tt
 branch_other below (i ∷ c ∷ []) p = tt
 branch_other below (i ∷ c ∷ k ∷ []) p =
-    AreOther-bind (repeated below (unsigned_abs k)) (λ kids. ends (branch (unsigned_abs i) (unsigned_abs c) kids)) (repeated_other below (unsigned_abs k) p) (λ kids. tt)
+    AreOther-bind (repeated below (unsigned_abs k)) (λ kids. ends (branch (unsigned_abs i) (unsigned_abs c) kids))
+    (repeated_other below (unsigned_abs k) p) (λ kids. tt)
 branch_other below (i ∷ c ∷ k ∷ z ∷ zs) p = tt
 
 merge_other : (below : Text BoundTree) (zs : List ℤ) → AreOther below → AreOther (merge_below below zs)
@@ -133,14 +142,16 @@ tree_other (suc left) = λ k zs. node_other (tree_lines left) k zs (tree_other l
 
 part_other : AreOther tree_grammar
 part_other = λ k zs.
-    AreOther-bind (tree_lines 2048) (λ tree. the_words (codes "end" ∷ []) >>= λ end. ends tree) (tree_other 2048) (λ tree i ys. tt)
+    AreOther-bind (tree_lines 2048) (λ tree. the_words (codes "end" ∷ []) >>= λ end. ends tree) (tree_other 2048)
+    (λ tree i ys. tt)
 
 -- ---- the whole text
 
 horizon_other : (m : Model) (version : ℕ) → AreOther (horizon_grammar m version)
 horizon_other m version = λ k zs.
     AreOther-bind (unless_passed (horizon_passed m version (first_plain zs))) (λ kept. ends (first_plain zs))
-    (unless_other (horizon_passed m version (first_plain zs)) (passed_is_other m version (first_plain zs))) (λ kept. tt)
+    (unless_other (horizon_passed m version (first_plain zs)) (passed_is_other m version (first_plain zs)))
+    (λ kept. tt)
 
 head_other : AreOther head_grammar
 head_other = λ k1 z1 k2 z2 k3 z3 k4 z4 k5 z5 k6 z6 k7 z7. tt

@@ -45,13 +45,15 @@ use Rattle.dp_cli.proofs.WorthSizes.{exact_worth_fits}
 pub steps_within : (m : Model) (h version : ℕ) → IsWithinVersion m h version → (0 < h) × (h ≤ 24)
 steps_within m h version w =
     ⊎_elim
-    (λ one. let l = w.first one in let some = l.some_step in let most = l.horizon in (omega (arith, some), omega (arith, most)))
+    (λ one. let l = w.first one in let some = l.some_step in let most = l.horizon in
+    (omega (arith, some), omega (arith, most)))
     (λ two. w.second two)
     w.known
 
 -- ---- the lower end, in exact mode
 
-exact_value_fits : (m : Model) → IsModel m → (h : ℕ) → 0 < h → h ≤ 24 → true ≡ is_exact_mode m h → (qs : List PolicyTree)
+exact_value_fits : (m : Model) → IsModel m → (h : ℕ) → 0 < h → h ≤ 24 → true ≡ is_exact_mode m h →
+    (qs : List PolicyTree)
     → IsPolicyOf m h qs → unsigned_abs (policy_value m h qs) ≤ 2 ^ 126
 unfolding exact
 exact_value_fits m is h some most mode qs policy =
@@ -64,7 +66,8 @@ exact_value_fits m is h some most mode qs policy =
 
 -- ---- the lower end, in outward mode
 
-module _ (m : Model) (is : IsModel m) (h : ℕ) (some : 0 < h) (most : h ≤ 24) (mode : false ≡ is_exact_mode m h) (p : SharedPolicy)
+module _ (m : Model) (is : IsModel m) (h : ℕ) (some : 0 < h) (most : h ≤ 24) (mode : false ≡ is_exact_mode m h)
+    (p : SharedPolicy)
     (shared : IsSharedOf m h p) where
   few_rows : (t : ℕ) → t < h → joint_row_count p t ≤ 2 ^ 22
   few_rows t lt =
@@ -72,7 +75,8 @@ module _ (m : Model) (is : IsModel m) (h : ℕ) (some : 0 < h) (most : h ≤ 24)
       let more = le-mul_of_pos_right (joint_row_count p t) (some_state m is) in
       omega arith
 
-  weights : (t j : ℕ) → t < h → j < joint_row_count p t → AreWeights false m t (row_weight_in (outward m.scales) m p t j)
+  weights : (t j : ℕ) → t < h → j < joint_row_count p t → AreWeights false m t
+      (row_weight_in (outward m.scales) m p t j)
   unfolding outward
   weights t j lt inside = (mode_can_share m is h some most false mode).weights p t j shared lt inside
 
@@ -83,13 +87,16 @@ module _ (m : Model) (is : IsModel m) (h : ℕ) (some : 0 < h) (most : h ≤ 24)
       let R = joint_row_count p f in
       let W = λ (j : ℕ). row_weight_in (outward m.scales) m p f j in
       let rest = outward_earned f (omega arith) in
-      let each = nat_sum_most R (2 ^ 82) (λ j. reward_size (outward m.scales) m (h - suc f) (W j) (joint_row_action m p f j))
-      (λ j hj. reward_room m is h most f (h - suc f) (W j) (joint_row_action m p f j) (omega arith) (weights f j le hj)
+      let each = nat_sum_most R (2 ^ 82)
+      (λ j. reward_size (outward m.scales) m (h - suc f) (W j) (joint_row_action m p f j))
+      (λ j hj. reward_room m is h most f (h - suc f) (W j) (joint_row_action m p f j) (omega arith)
+      (weights f j le hj)
       (row_acts m h p shared.agents f j hj)) in
       let few = mul-le-mul_right (2 ^ 82) (few_rows f le) in
       omega arith
 
-earn_size : (A : Arithmetic) (m : Model) (p : SharedPolicy) (h f : ℕ) → size (rows_earn_in A m p h f) ≤ rows_earn_size A m p h f
+earn_size : (A : Arithmetic) (m : Model) (p : SharedPolicy) (h f : ℕ) → size (rows_earn_in A m p h f) ≤
+    rows_earn_size A m p h f
 earn_size A m p h zero = omega arith
 earn_size A m p h (suc f) =
     let R = joint_row_count p f in
@@ -125,7 +132,8 @@ lower_fits m c is v = by c.is_exact refl
         let small = exact_value_fits m is c.horizon steps.0 steps.1 (sym e ∙ v.mode) (unfolded c.policy) policy in
         omega (arith, value, small)
     by false e =
-        let low = ap unsigned_abs (v.lower ∙ ap (λ (t : Bool). (shared_worth_in (arithmetic t m.scales) m c.horizon c.policy).low) e) in
+        let low = ap unsigned_abs
+        (v.lower ∙ ap (λ (t : Bool). (shared_worth_in (arithmetic t m.scales) m c.horizon c.policy).low) e) in
         let small = outward_low_fits m is c.horizon steps.0 steps.1 (sym e ∙ v.mode) c.policy v.policy.shared in
         omega (arith, low, small)
 
@@ -138,7 +146,8 @@ unfolding front_bound class_look_size
 bound_fits A m h look r F e can =
     let left : h - F.stage ≡ suc r = omega (arith, e) in
     let N = product (class_counts F.agents) in
-    let best = λ (C : ℕ). greatest (λ a. action_look_ahead_in A m r (class_weight_in A m F C) a look) (agreeing_actions m F C) in
+    let best = λ (C : ℕ). greatest (λ a. action_look_ahead_in A m r (class_weight_in A m F C) a look)
+    (agreeing_actions m F C) in
     let E = (earned_reward_in A m (fixed_joint_action m F) h F.stage).high in
     let room = can.bound r look e in
     let earned = earned_size_le A m (fixed_joint_action m F) h F.stage in
@@ -158,7 +167,8 @@ mutual
   leaves_below : (A : Arithmetic) (m : Model) (h look above : ℕ) (T : BoundTree) (F : Front) (cap u : ℤ)
       → FitsFront A m h look above T F cap → cap ≤ℤ u → LeavesAtMost u T
   leaves_below A m h look above (leaf x) F cap u fits le = omega (arith, ints, fits, le)
-  leaves_below A m h look above (branch i c ks) F cap u fits le = each_below A m h look (suc above) ks F i c 0 cap u fits.2 le
+  leaves_below A m h look above (branch i c ks) F cap u fits le = each_below A m h look (suc above) ks F i c 0 cap
+      u fits.2 le
   leaves_below A m h look above (merge i a b k) F cap u fits le =
       let least = front_bound A m h look (merged_front F i a b) in
       leaves_below A m h look (suc above) k (merged_front F i a b) (int_min cap least) u fits.5
@@ -199,10 +209,12 @@ upper_fits m c is v =
     let root = root_fits m is c.horizon c.look steps.0 steps.1 c.is_exact v.mode in
     let below = leaves_below A m c.horizon c.look 0 c.tree (root_front m) cap cap v.tree (zle_of cap cap refl) in
     let most : greatest_leaf c.tree ≤ℤ cap =
-    greatest_leaf_below A m is c.horizon c.look cap 0 c.tree (root_front m) cap (root_is_front m c.horizon is) v.tree below in
+    greatest_leaf_below A m is c.horizon c.look cap 0 c.tree (root_front m) cap (root_is_front m c.horizon is)
+    v.tree below in
     let order = ends_in_order m c is v in
     let lower = lower_fits m c is v in
     between c.lower c.upper cap (2 ^ 126) lower root order (subst (λ (x : ℤ). x ≤ℤ cap) (sym v.upper) most)
   where
-    between : (low x high : ℤ) (n : ℕ) → unsigned_abs low ≤ n → unsigned_abs high ≤ n → low ≤ℤ x → x ≤ℤ high → unsigned_abs x ≤ n
+    between : (low x high : ℤ) (n : ℕ) → unsigned_abs low ≤ n → unsigned_abs high ≤ n → low ≤ℤ x → x ≤ℤ high →
+        unsigned_abs x ≤ n
     between low x high n a b p q = omega (arith, ints, a, b, p, q)

@@ -45,14 +45,16 @@ check_claims (file ∷ cert ∷ next ∷ texts) text h = absurd h
 reason_is_other : (m : Model) (c : Certificate) → IsOther (limit_told (reason_fault m c))
 reason_is_other m c = by (first_reason m c)
   where
-    by : (o : Option definitions.Reason) → IsOther (limit_told (option_map (λ r. job_faults.Rejected (told_reason r)) o))
+    by : (o : Option definitions.Reason) → IsOther
+        (limit_told (option_map (λ r. job_faults.Rejected (told_reason r)) o))
     by (Some r) = tt
     by None = tt
 
 certificate_is_other : (bytes : List ℕ) (m : Model) → IsOther (limit_told (certificate_fault bytes m))
 certificate_is_other bytes m = by (text_from (certificate_grammar m) 1 bytes) refl
   where
-    by : (r : Result Certificate (Fault TooLarge)) → text_from (certificate_grammar m) 1 bytes ≡ r → IsOther (limit_told (said_fault m r))
+    by : (r : Result Certificate (Fault TooLarge)) → text_from (certificate_grammar m) 1 bytes ≡ r → IsOther
+        (limit_told (said_fault m r))
     by (Ok c) e = reason_is_other m c
     by (Err (bad line why)) e = tt
     by (Err (limit passed)) e = limit_of_certificate m bytes passed e
@@ -60,7 +62,8 @@ certificate_is_other bytes m = by (text_from (certificate_grammar m) 1 bytes) re
 check_is_other : (texts : List (List ℕ)) → IsOther (limit_told (fault_of_check texts))
 check_is_other [] = tt
 check_is_other (file ∷ []) = model_fault_is_other (λ m. None) (λ m. tt) file
-check_is_other (file ∷ cert ∷ []) = model_fault_is_other (certificate_fault cert) (λ m. certificate_is_other cert m) file
+check_is_other (file ∷ cert ∷ []) = model_fault_is_other (certificate_fault cert)
+    (λ m. certificate_is_other cert m) file
 check_is_other (file ∷ cert ∷ next ∷ texts) = tt
 
 pub check_is_sound : (job : CheckJob) → IsSound (check_command job)

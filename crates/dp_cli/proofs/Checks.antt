@@ -37,7 +37,8 @@ pub stops_reading : (m : Model) → IsModel m → (bytes : List ℕ) (fault : Ce
     → Answers certificate_of (Err fault) (certificate_grammar m) bytes
     → Stops (certificate_fault bytes m) (certificate_refusal fault)
 stops_reading m is bytes (faults.At line why) has = ap (said_fault m) (computed m is bytes (Err (bad line why)) has)
-stops_reading m is bytes (faults.TooLarge passed) has = ap (said_fault m) (computed m is bytes (Err (limit passed)) has)
+stops_reading m is bytes (faults.TooLarge passed) has = ap (said_fault m)
+    (computed m is bytes (Err (limit passed)) has)
 stops_reading m is bytes faults.Memory has = tt
 
 -- a reason of the code is told as the one that it is
@@ -53,7 +54,8 @@ told_back (reasons.Inner found) = refl
 told_back (reasons.Upper found) = refl
 
 -- what is told of a certificate that is rejected
-pub rejected_is : (m : Model) → IsModel m → (bytes : List ℕ) (c : Certificate) (r : Reason) → IsText (certificate_grammar m) bytes c
+pub rejected_is : (m : Model) → IsModel m → (bytes : List ℕ) (c : Certificate) (r : Reason) → IsText
+    (certificate_grammar m) bytes c
     → IsFirstReason m c (reason_of r) → certificate_fault bytes m ≡ Some (job_faults.Rejected r)
 rejected_is m is bytes c r says first =
     ap (said_fault m) (computed m is bytes (Ok c) says)
@@ -61,11 +63,13 @@ rejected_is m is bytes c r says first =
     ∙ ap (λ x. Some (job_faults.Rejected x)) (told_back r)
 
 -- nothing is wrong with one that is accepted
-pub accepted_is : (m : Model) → IsModel m → (bytes : List ℕ) (c : Certificate) → IsText (certificate_grammar m) bytes c
+pub accepted_is : (m : Model) → IsModel m → (bytes : List ℕ) (c : Certificate) → IsText (certificate_grammar m)
+    bytes c
     → IsValid m c → certificate_fault bytes m ≡ None
 accepted_is m is bytes c says valid =
     ap (said_fault m) (computed m is bytes (Ok c) says)
-    ∙ ap (option_map (λ x. job_faults.Rejected (told_reason x))) ((no_reason_where_valid m c valid.within valid.policy).1 valid)
+    ∙ ap (option_map (λ x. job_faults.Rejected (told_reason x)))
+    ((no_reason_where_valid m c valid.within valid.policy).1 valid)
 
 -- the lines of a certificate that is accepted
 pub accepted_pushed : (t0 t1 t2 t3 t4 t5 t6 t7 a closed lean merged counts lower upper : List ℕ) → t0 ≡ []

@@ -72,8 +72,8 @@ abbrev pub counts_text : ℕ → ℤ → List ℕ
 counts_text repaired unit =
     codes "repaired " ++ (decimal repaired ++ (codes "\nunit " ++ (signed_decimal unit ++ codes "\n")))
 
--- the lines of a certificate that is accepted: whether it is closed, lean and merged, and the ends of its interval, of
--- which the lower one is rounded down and the upper one up
+-- the lines of a certificate that is accepted: whether it is closed, lean and merged, and the ends of its interval,
+-- of which the lower one is rounded down and the upper one up
 abbrev pub accepted_text : ℕ → Bool → Bool → Bool → ℤ → ℤ → ℤ → List ℕ
 accepted_text repaired closed lean merged unit lower upper =
     codes "accepted\n"
@@ -113,10 +113,10 @@ IsTextOfCheck texts text = ⊥
 
 -- ---- what is so
 
--- The bytes of the first file mean a model, and those of the second are the text of a certificate that is valid for it.
--- What the certificate claims is so: the expected reward of its policy lies in its interval, and no joint policy has a
--- greater one than the upper end. Where it is closed and exact, the ends are equal and its policy is optimal. The text
--- tells the ends, and whether the certificate is closed, lean and merged.
+-- The bytes of the first file mean a model, and those of the second are the text of a certificate that is valid for
+-- it. What the certificate claims is so: the expected reward of its policy lies in its interval, and no joint policy
+-- has a greater one than the upper end. Where it is closed and exact, the ends are equal and its policy is optimal.
+-- The text tells the ends, and whether the certificate is closed, lean and merged.
 pub record TellsCertificate (file cert text : List ℕ) : Type 0 where
   pub model : Model
   pub meant : model_of_text file ≡ Some model

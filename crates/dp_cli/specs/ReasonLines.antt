@@ -19,7 +19,8 @@ node_place_line node = codes "rejected node " ++ (decimal node ++ codes " place\
 
 -- how many children a branch has to have
 abbrev pub node_count_line : ℕ → ℕ → List ℕ
-node_count_line node found = codes "rejected node " ++ (decimal node ++ (codes " kids " ++ (decimal found ++ codes "\n")))
+node_count_line node found = codes "rejected node " ++
+    (decimal node ++ (codes " kids " ++ (decimal found ++ codes "\n")))
 
 -- the first place at which the classes of a merge differ
 abbrev pub node_unequal_line : ℕ → ℕ → List ℕ

@@ -14,13 +14,15 @@ pub returns-in_err-cert : goal.returns-in_err-cert
 returns-in_err-cert c =
     let exit = err_from_is_err_and c.from_residual.result c.from_residual.ensures.1 in
     rw (exit.1, exit.2)
-    (stops_reading c.args.read.now.model.model c.invariant.ensures.model c.args.bytes.now c.in_err-cert.field-0.0 c.in_err-cert.ensures.answers)
+    (stops_reading c.args.read.now.model.model c.invariant.ensures.model c.args.bytes.now c.in_err-cert.field-0.0
+    c.in_err-cert.ensures.answers)
 
 pub returns-in-Rejected : goal.returns-in-Rejected
 returns-in-Rejected c =
     let first = rw c.in-Rejected.is at c.in_ok-reason.ensures.rejected in
     rw c.from.ensures
-    (rejected_is c.args.read.now.model.model c.invariant.ensures.model c.args.bytes.now (certificate_of c.in_ok-cert.cert)
+    (rejected_is c.args.read.now.model.model c.invariant.ensures.model c.args.bytes.now
+    (certificate_of c.in_ok-cert.cert)
     c.in-Rejected.reason c.in_ok-cert.ensures.answers first)
 
 -- the unit of a valid certificate
