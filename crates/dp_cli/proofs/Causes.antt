@@ -20,7 +20,8 @@ use Rattle.dp_cli.specs.Run.{IsAnswerToFault, Answers, Replies, Runs}
 use Rattle.dp_cli.proofs.Statuses.{fault_apart, status_of}
 
 -- a command leaves what the shelf holds, and which fetches fail
-unchanged : {command : Command} {files : List File} {texts : List (List ℕ)} {old new : ShelfView} {answer : Answer}
+unchanged : {command : Command} {files : List File} {texts : List (List ℕ)} {old new : ShelfView}
+    {answer : Answer}
     → Answers command files texts old new answer
     → new.told ≡ old.told
 unchanged (Answers.works fine is) = refl
@@ -38,7 +39,12 @@ contents_unchanged (Some job) old new answer h = unchanged h
 
 one_fetched : {old new : List Entry} {left : List (List ℕ)} (entry : Entry) → new ≡ old ++ entry ∷ []
     → LogsFirstOf (entry.name ∷ left) old new
-one_fetched {old} {new} {left} entry logged = record { fetched = entry ∷ []; appended = logged; rest = left; names = refl }
+one_fetched {old} {new} {left} entry logged = record {
+  fetched = entry ∷ [];
+  appended = logged;
+  rest = left;
+  names = refl;
+}
 
 none_fetched : {old new : List Entry} {files : List (List ℕ)} → new ≡ old ++ [] → LogsFirstOf files old new
 none_fetched {old} {new} {files} logged = record { fetched = []; appended = logged; rest = files; names = refl }
@@ -52,9 +58,11 @@ fault_fetched faults.Memory fetched = none_fetched fetched.logged
 -- an entry, and what is appended after it
 pub after_entry : (old between new more : List Entry) (entry : Entry) → new ≡ between ++ more
     → between ≡ old ++ entry ∷ [] → new ≡ old ++ entry ∷ more
-after_entry old between new more entry grown logged = grown ∙ ap (λ (log : List Entry). log ++ more) logged ∙ append_assoc old (entry ∷ []) more
+after_entry old between new more entry grown logged = grown ∙ ap (λ (log : List Entry). log ++ more) logged
+    ∙ append_assoc old (entry ∷ []) more
 
-more_fetched : {old between new : List Entry} {left : List (List ℕ)} (entry : Entry) → between ≡ old ++ entry ∷ []
+more_fetched : {old between new : List Entry} {left : List (List ℕ)} (entry : Entry)
+    → between ≡ old ++ entry ∷ []
     → LogsFirstOf left between new → LogsFirstOf (entry.name ∷ left) old new
 more_fetched {old} {between} {new} {left} entry logged h =
     record {
@@ -80,7 +88,8 @@ logs_files (Some job) old new answer h = logs h
 
 -- A read fault is answered where the last of them failed
 
-later_failed : {old between new : List Entry} (entry : Entry) → between ≡ old ++ entry ∷ [] → LastFailed between new
+later_failed : {old between new : List Entry} (entry : Entry) → between ≡ old ++ entry ∷ []
+    → LastFailed between new
     → LastFailed old new
 later_failed entry logged h = record {
   before = entry ∷ h.before;
@@ -91,17 +100,20 @@ later_failed entry logged h = record {
 fault_failed : {old new : ShelfView} {name : List ℕ} {most : ℕ} (answer : Answer) (role : FileRole)
     (fault : FetchFault) → Fetches old new name most (Err fault)
     → IsAnswerToFault role fault answer → answer.status ≡ ReadFault → LastFailed old.log new.log
-fault_failed {name = name} answer role faults.Failed fetched why e = record { before = []; name = name; appended = fetched.logged }
+fault_failed {name = name} answer role faults.Failed fetched why e =
+    record { before = []; name = name; appended = fetched.logged }
 fault_failed answer role (faults.TooLong count) fetched why e = ⊎_elim (λ is. cc) (λ is. cc) why
 fault_failed answer role faults.Memory fetched why e = cc
 
-read_fault_failed : {command : Command} {files : List File} {texts : List (List ℕ)} {old new : ShelfView} {answer : Answer}
+read_fault_failed : {command : Command} {files : List File} {texts : List (List ℕ)} {old new : ShelfView}
+    {answer : Answer}
     → Answers command files texts old new answer
     → answer.status ≡ ReadFault → LastFailed old.log new.log
 read_fault_failed (Answers.works fine is) e = cc
 read_fault_failed (Answers.faults fault found) e = absurd ((fault_apart fault).read e)
 read_fault_failed (Answers.lacks file fault fine fetched why) e = fault_failed _ file.role fault fetched why e
-read_fault_failed (Answers.goes_on file text fine fetched rest) e = later_failed _ fetched.logged (read_fault_failed rest e)
+read_fault_failed (Answers.goes_on file text fine fetched rest) e = later_failed _ fetched.logged
+    (read_fault_failed rest e)
 read_fault_failed Answers.wants_memory e = cc
 
 -- how a list of entries adds to the count of faults
@@ -112,7 +124,8 @@ last_counts : {old new : List Entry} → LastFailed old new → fault_count old 
 last_counts {old} {new} h =
     let last : List Entry = record { name = h.name; ending = Failed } ∷ [] in
     let grown : fault_count new ≡ fault_count old + (fault_count h.before + 1) =
-    ap fault_count h.appended ∙ count_more old (h.before ++ last) ∙ ap (λ (n : ℕ). fault_count old + n) (count_more h.before last) in
+    ap fault_count h.appended ∙ count_more old (h.before ++ last)
+    ∙ ap (λ (n : ℕ). fault_count old + n) (count_more h.before last) in
     omega arith
 
 fault_counts : {old new : ShelfView} {name : List ℕ} {most : ℕ} (answer : Answer) (role : FileRole)
@@ -126,7 +139,8 @@ fault_counts {old} answer role faults.Memory fetched why h =
     let same = ap fault_count fetched.logged ∙ count_more old.log _ in
     absurd (omega arith)
 
-count_read_fault : {command : Command} {files : List File} {texts : List (List ℕ)} {old new : ShelfView} {answer : Answer}
+count_read_fault : {command : Command} {files : List File} {texts : List (List ℕ)} {old new : ShelfView}
+    {answer : Answer}
     → Answers command files texts old new answer
     → fault_count old.log < fault_count new.log → answer.status ≡ ReadFault
 count_read_fault (Answers.works fine is) h = absurd (omega arith)
@@ -151,13 +165,15 @@ failed_job None old new answer h last =
 failed_job (Some job) old new answer h last = count_read_fault h (last_counts last)
 
 -- the status of a call whose put did not fail
-pub kept_status : (reply : Result (Unit {0}) SinkFailed) (status result : Status) → result ≡ status_after reply status
+pub kept_status : (reply : Result (Unit {0}) SinkFailed) (status result : Status)
+    → result ≡ status_after reply status
     → result ≢ statuses.WriteFault → result ≡ status
 kept_status (Ok done) status result ended h = ended
 kept_status (Err fault) status result ended h = absurd (h ended)
 
 -- it put the text of its answer
-pub kept_put : (reply : Result (Unit {0}) SinkFailed) {old new : SinkView} {text : List ℕ} (status result : Status)
+pub kept_put : (reply : Result (Unit {0}) SinkFailed) {old new : SinkView} {text : List ℕ}
+    (status result : Status)
     → Puts old new text reply → result ≡ status_after reply status → result ≢ statuses.WriteFault
     → Puts {T = Unit {0}} {E = SinkFailed} old new text (Ok tt)
 kept_put (Ok done) status result put ended h = put
@@ -178,7 +194,8 @@ fault_no_usage role faults.Failed answer why = λ e. cc
 fault_no_usage role (faults.TooLong count) answer why = λ e. ⊎_elim (λ is. cc) (λ is. cc) why
 fault_no_usage role faults.Memory answer why = λ e. cc
 
-no_usage : {command : Command} {files : List File} {texts : List (List ℕ)} {old new : ShelfView} {answer : Answer}
+no_usage : {command : Command} {files : List File} {texts : List (List ℕ)} {old new : ShelfView}
+    {answer : Answer}
     → Answers command files texts old new answer
     → answer.status ≢ statuses.Usage
 no_usage (Answers.works fine is) = λ e. cc
@@ -194,7 +211,8 @@ usage_no_job (Some job) old new answer h e = absurd (no_usage h e)
 
 no_job_usage : (job : Option Job) (old new : ShelfView) (answer : Answer) → Replies job old new answer
     → job ≡ None → answer.status ≢ statuses.NoMemory → answer.status ≡ statuses.Usage
-no_job_usage None old new answer h none found = ⊎_elim (λ is. status_of is) (λ is. absurd (found (status_of is))) h.1
+no_job_usage None old new answer h none found = ⊎_elim (λ is. status_of is)
+    (λ is. absurd (found (status_of is))) h.1
 no_job_usage (Some job) old new answer h none found = cc
 
 pub usage_runs : (job : Option Job) {shelf shelf' : ShelfView} {sink sink' : SinkView} {result : Status}

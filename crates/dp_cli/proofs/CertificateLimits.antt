@@ -53,7 +53,8 @@ and_other g G p q =
 stages_other : (b n h t left : ℕ) → AreOther (plain_stages b n h t left)
 stages_other b n h t zero = tt
 stages_other b n h t (suc left) =
-    and_other (plain_stage b n h t) (plain_stages b n h (t + 1) left) (λ k zs. tt) (stages_other b n h (t + 1) left)
+    and_other (plain_stage b n h t) (plain_stages b n h (t + 1) left) (λ k zs. tt)
+    (stages_other b n h (t + 1) left)
 
 plain_other : (h agent : ℕ) (bs ns : List ℕ) → AreOther (plain_agents h agent bs ns)
 plain_other h agent [] ns = tt
@@ -64,7 +65,8 @@ plain_other h agent (b ∷ bs) (n ∷ ns) =
 
 rows_other : (form : _) (count : ℕ) → AreOther (rows_of_form form count)
 rows_other form zero = tt
-rows_other form (suc left) = and_other (row_line form) (rows_of_form form left) (λ k zs. tt) (rows_other form left)
+rows_other form (suc left) = and_other (row_line form) (rows_of_form form left) (λ k zs. tt)
+    (rows_other form left)
 
 shared_other : (b n : ℕ) (counts : List ℕ) → AreOther (shared_stages b n counts)
 shared_other b n [] = tt
@@ -119,7 +121,8 @@ branch_other below [] p = tt
 branch_other below (i ∷ []) p = tt
 branch_other below (i ∷ c ∷ []) p = tt
 branch_other below (i ∷ c ∷ k ∷ []) p =
-    AreOther-bind (repeated below (unsigned_abs k)) (λ kids. ends (branch (unsigned_abs i) (unsigned_abs c) kids))
+    AreOther-bind (repeated below (unsigned_abs k)) (λ kids. ends
+    (branch (unsigned_abs i) (unsigned_abs c) kids))
     (repeated_other below (unsigned_abs k) p) (λ kids. tt)
 branch_other below (i ∷ c ∷ k ∷ z ∷ zs) p = tt
 
@@ -128,7 +131,8 @@ merge_other below [] p = tt
 merge_other below (i ∷ []) p = tt
 merge_other below (i ∷ a ∷ []) p = tt
 merge_other below (i ∷ a ∷ b ∷ []) p =
-    AreOther-bind below (λ kid. ends (merge (unsigned_abs i) (unsigned_abs a) (unsigned_abs b) kid)) p (λ kid. tt)
+    AreOther-bind below (λ kid. ends (merge (unsigned_abs i) (unsigned_abs a) (unsigned_abs b) kid)) p
+    (λ kid. tt)
 merge_other below (i ∷ a ∷ b ∷ z ∷ zs) p = tt
 
 node_other : (below : Text BoundTree) (k : ℕ) (zs : List ℤ) → AreOther below → AreOther (node_below below k zs)
@@ -142,7 +146,8 @@ tree_other (suc left) = λ k zs. node_other (tree_lines left) k zs (tree_other l
 
 part_other : AreOther tree_grammar
 part_other = λ k zs.
-    AreOther-bind (tree_lines 2048) (λ tree. the_words (codes "end" ∷ []) >>= λ end. ends tree) (tree_other 2048)
+    AreOther-bind (tree_lines 2048) (λ tree. the_words (codes "end" ∷ []) >>= λ end. ends tree)
+    (tree_other 2048)
     (λ tree i ys. tt)
 
 -- ---- the whole text
@@ -162,7 +167,8 @@ certificate_other m =
     AreOther-bind title_grammar (behind_version m) (λ k zs. tt)
     (λ version. AreOther-bind (horizon_grammar m version) (behind_horizon m version) (horizon_other m version)
     (λ h. AreOther-bind head_grammar (behind_head m version h) head_other
-    (λ head. AreOther-bind (policy_grammar m version h) (behind_policy version h head) (policy_other m version h)
+    (λ head. AreOther-bind (policy_grammar m version h) (behind_policy version h head)
+    (policy_other m version h)
     (λ policy. AreOther-bind tree_grammar (behind_tree version h head policy) part_other (λ tree. tt)))))
 
 pub limit_of_certificate : (m : Model) (bytes : List ℕ) (passed : TooLarge)

@@ -61,7 +61,8 @@ exact_value_fits m is h some most mode qs policy =
     let started = (mode_can_update_weights m is h some most true mode).started in
     let fits = exact_worth_fits m is h mode (λ s. A.start (start_at m s)) qs started.limit policy in
     let small = worth_size_le A m h (λ s. A.start (start_at m s)) qs in
-    let same = ap size (sym ((mode_quantities m is true).worths h qs) ∙ sym (recursive_worth_is_forward A m h qs)) in
+    let same = ap size (sym ((mode_quantities m is true).worths h qs)
+    ∙ sym (recursive_worth_is_forward A m h qs)) in
     omega (arith, same, small, fits)
 
 -- ---- the lower end, in outward mode
@@ -104,12 +105,14 @@ earn_size A m p h (suc f) =
     let reward = λ (j : ℕ). weighted_reward_in A m (h - suc f) (W j) (joint_row_action m p f j) in
     let before = earn_size A m p h f in
     let here = span_sum_size R reward in
-    let each = nat_sum_le R (λ j. size (reward j)) (λ j. reward_size A m (h - suc f) (W j) (joint_row_action m p f j))
+    let each = nat_sum_le R (λ j. size (reward j)) (λ j. reward_size A m (h - suc f) (W j)
+    (joint_row_action m p f j))
     (λ j lt. reward_size_le A m (h - suc f) (W j) (joint_row_action m p f j)) in
     let sum = size_add (rows_earn_in A m p h f) (span_sum R reward) in
     omega arith
 
-outward_low_fits : (m : Model) → IsModel m → (h : ℕ) → 0 < h → h ≤ 24 → false ≡ is_exact_mode m h → (p : SharedPolicy)
+outward_low_fits : (m : Model) → IsModel m → (h : ℕ) → 0 < h → h ≤ 24 → false ≡ is_exact_mode m h
+    → (p : SharedPolicy)
     → IsSharedOf m h p → unsigned_abs (shared_worth_in (outward m.scales) m h p).low ≤ 2 ^ 126
 unfolding shared_worth_in
 outward_low_fits m is h some most mode p shared =
@@ -129,7 +132,8 @@ lower_fits m c is v = by c.is_exact refl
     by true e =
         let value = ap unsigned_abs (lower_is_value m c v e) in
         let policy = unfolded_is_policy m c.horizon c.policy v.policy.shared in
-        let small = exact_value_fits m is c.horizon steps.0 steps.1 (sym e ∙ v.mode) (unfolded c.policy) policy in
+        let small = exact_value_fits m is c.horizon steps.0 steps.1 (sym e ∙ v.mode) (unfolded c.policy)
+        policy in
         omega (arith, value, small)
     by false e =
         let low = ap unsigned_abs
@@ -167,14 +171,16 @@ mutual
   leaves_below : (A : Arithmetic) (m : Model) (h look above : ℕ) (T : BoundTree) (F : Front) (cap u : ℤ)
       → FitsFront A m h look above T F cap → cap ≤ℤ u → LeavesAtMost u T
   leaves_below A m h look above (leaf x) F cap u fits le = omega (arith, ints, fits, le)
-  leaves_below A m h look above (branch i c ks) F cap u fits le = each_below A m h look (suc above) ks F i c 0 cap
+  leaves_below A m h look above (branch i c ks) F cap u fits le = each_below A m h look (suc above)
+      ks F i c 0 cap
       u fits.2 le
   leaves_below A m h look above (merge i a b k) F cap u fits le =
       let least = front_bound A m h look (merged_front F i a b) in
       leaves_below A m h look (suc above) k (merged_front F i a b) (int_min cap least) u fits.5
       (zle_trans (int_min cap least) cap u (least_first cap least) le)
 
-  each_below : (A : Arithmetic) (m : Model) (h look above : ℕ) (ks : BoundTrees) (F : Front) (i c a : ℕ) (cap u : ℤ)
+  each_below : (A : Arithmetic) (m : Model) (h look above : ℕ) (ks : BoundTrees) (F : Front) (i c a : ℕ)
+      (cap u : ℤ)
       → FitEachAction A m h look above ks F i c a cap → cap ≤ℤ u → AllLeavesAtMost u ks
   each_below A m h look above no_bound_trees F i c a cap u fits le = tt
   each_below A m h look above (more_bound_trees k ks) F i c a cap u fits le =
@@ -196,10 +202,12 @@ root_fits m is h look some most e mode =
     let F = root_front m in
     let few = is.sizes.states_limit in
     let cells : m.states * joint_observations m ^ F.stage ≤ 2 ^ 22 =
-    let none = ap (λ t. m.states * joint_observations m ^ t) start in let one = pow-zero (joint_observations m) in
+    let none = ap (λ t. m.states * joint_observations m ^ t) start in
+    let one = pow-zero (joint_observations m) in
     let times = ap (λ t. m.states * t) one in omega (arith, none, times, few) in
     bound_fits (arithmetic e m.scales) m h look (h - 1) F (omega (arith, start, some))
-    (mode_can_refine m is h some most e mode F (root_is_front m h is) (omega (arith, start, some)) (λ outward. cells))
+    (mode_can_refine m is h some most e mode F (root_is_front m h is) (omega (arith, start, some))
+    (λ outward. cells))
 
 pub upper_fits : (m : Model) (c : Certificate) → IsModel m → IsValid m c → unsigned_abs c.upper ≤ 2 ^ 126
 upper_fits m c is v =
@@ -207,7 +215,8 @@ upper_fits m c is v =
     let A = arithmetic_for m c in
     let cap = front_bound A m c.horizon c.look (root_front m) in
     let root = root_fits m is c.horizon c.look steps.0 steps.1 c.is_exact v.mode in
-    let below = leaves_below A m c.horizon c.look 0 c.tree (root_front m) cap cap v.tree (zle_of cap cap refl) in
+    let below = leaves_below A m c.horizon c.look 0 c.tree (root_front m) cap cap v.tree
+    (zle_of cap cap refl) in
     let most : greatest_leaf c.tree ≤ℤ cap =
     greatest_leaf_below A m is c.horizon c.look cap 0 c.tree (root_front m) cap (root_is_front m c.horizon is)
     v.tree below in

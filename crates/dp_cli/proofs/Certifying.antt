@@ -32,7 +32,8 @@ none_given shelf = record {
 }
 
 -- one more file is held
-hold_more : {old between : ShelfView} (files : List File) (texts : List (List ℕ)) (told : Option Contents) (file : File)
+hold_more : {old between : ShelfView} (files : List File) (texts : List (List ℕ)) (told : Option Contents)
+    (file : File)
     (text : Vec ℕ Global) → old.told ≡ told
     → Fetches old between file.name (most_bytes file.role) (Ok text)
     → IfSome told (λ contents. Hold contents (length old.log + 1) files texts)
@@ -50,15 +51,19 @@ pub more_given : {old between new : ShelfView} {files : List File} {texts : List
 more_given {old} {between} {new} {files} {texts} file text fetched h =
     let next : length between.log ≡ length old.log + 1 = ap length fetched.logged ∙ simp length-append refl in
     let later = subst (λ (n : ℕ). IfSome between.told (λ contents. Hold contents n files texts)) next h.held in
-    let here = subst (λ (told : Option Contents). IfSome told (λ contents. Hold contents (length old.log + 1) files texts)) fetched.unchanged later in
+    let here = subst (λ (told : Option Contents). IfSome told
+    (λ contents. Hold contents (length old.log + 1) files texts)) fetched.unchanged later in
     record {
-      logged = after_entry old.log between.log new.log (map given_entry files) (given_entry file) h.logged fetched.logged;
-      given = h.given ∙ ap (λ (given : List (List ℕ)). given ++ texts) fetched.given ∙ append_assoc old.given (text.items ∷ []) texts;
+      logged = after_entry old.log between.log new.log (map given_entry files) (given_entry file)
+          h.logged fetched.logged;
+      given = h.given ∙ ap (λ (given : List (List ℕ)). given ++ texts) fetched.given
+          ∙ append_assoc old.given (text.items ∷ []) texts;
       held = hold_more files texts old.told file text refl fetched here;
     }
 
 -- What a command that is done was given, after these texts, and the text that it puts.
-record IsWorked (command : Command) (files : List File) (texts : List (List ℕ)) (old new : ShelfView) (answer : Answer) : Type 0 where
+record IsWorked (command : Command) (files : List File) (texts : List (List ℕ)) (old new : ShelfView)
+    (answer : Answer) : Type 0 where
   more : List (List ℕ)
   given : AreGiven files more old new
   fine : command.fault (texts ++ more) ≡ None
@@ -86,8 +91,11 @@ worked {command} {files} {texts} {old} {new} {answer} (Answers.goes_on file text
     record {
       more = text.items ∷ h.more;
       given = more_given file text fetched h.given;
-      fine = subst (λ (ts : List (List ℕ)). command.fault ts ≡ None) (append_assoc texts (text.items ∷ []) h.more) h.fine;
-      is_text = subst (λ (ts : List (List ℕ)). command.IsText ts answer.text) (append_assoc texts (text.items ∷ []) h.more) h.is_text;
+      fine = subst (λ (ts : List (List ℕ)). command.fault ts ≡ None)
+          (append_assoc texts (text.items ∷ []) h.more)
+          h.fine;
+      is_text = subst (λ (ts : List (List ℕ)). command.IsText ts answer.text)
+          (append_assoc texts (text.items ∷ []) h.more) h.is_text;
     }
 worked Answers.wants_memory e = cc
 

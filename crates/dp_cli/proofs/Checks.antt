@@ -30,13 +30,15 @@ computed : (m : Model) → IsModel m → (bytes : List ℕ) (r : Result Certific
 computed m is bytes r answer =
     let few = is.sizes.agents_limit in
     let proper = certificate_proper m (omega (arith, few)) in
-    one_answer (certificate_grammar m) proper 1 bytes _ r (read_answer (certificate_grammar m) proper 1 bytes) answer
+    one_answer (certificate_grammar m) proper 1 bytes _ r (read_answer (certificate_grammar m)
+    proper 1 bytes) answer
 
 -- bytes that are no certificate are refused by what is wrong with them
 pub stops_reading : (m : Model) → IsModel m → (bytes : List ℕ) (fault : CertFault)
     → Answers certificate_of (Err fault) (certificate_grammar m) bytes
     → Stops (certificate_fault bytes m) (certificate_refusal fault)
-stops_reading m is bytes (faults.At line why) has = ap (said_fault m) (computed m is bytes (Err (bad line why)) has)
+stops_reading m is bytes (faults.At line why) has = ap (said_fault m)
+    (computed m is bytes (Err (bad line why)) has)
 stops_reading m is bytes (faults.TooLarge passed) has = ap (said_fault m)
     (computed m is bytes (Err (limit passed)) has)
 stops_reading m is bytes faults.Memory has = tt

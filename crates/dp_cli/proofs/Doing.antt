@@ -41,7 +41,8 @@ answer_to_fault role (TooLong count) = inl refl
 answer_to_fault role Memory = refl
 
 -- a command whose next file was not given answers why
-pub lacks_file : {command : Command} {files : List File} {texts : List (List ℕ)} {old new : ShelfView} (file : File)
+pub lacks_file : {command : Command} {files : List File} {texts : List (List ℕ)} {old new : ShelfView}
+    (file : File)
     (refusal : Refusal) → command.fault texts ≡ None
     → FetchesFile old new file (Err refusal) → Answers command (file ∷ files) texts old new (refused refusal)
 lacks_file {command} {files} {texts} {old} {new} file refusal fine fetched =
@@ -49,7 +50,8 @@ lacks_file {command} {files} {texts} {old} {new} file refusal fine fetched =
     (Answers.lacks file fetched.0 fine fetched.1 (answer_to_fault file.role fetched.0))
 
 -- a command whose code stops answers why
-pub stops_by : {command : Command} {files : List File} {texts : List (List ℕ)} {shelf : ShelfView} (refusal : Refusal)
+pub stops_by : {command : Command} {files : List File} {texts : List (List ℕ)} {shelf : ShelfView}
+    (refusal : Refusal)
     → Stops (command.fault texts) refusal
     → Answers command files texts shelf shelf (refused refusal)
 stops_by refusals.Usage h = absurd h
@@ -58,7 +60,8 @@ stops_by (refusals.Fault fault) h = Answers.faults fault h
 stops_by refusals.Memory h = Answers.wants_memory
 
 -- a command that has been given all its texts answers what its code gives
-pub works_by : {command : Command} {texts : List (List ℕ)} {shelf : ShelfView} (result : Result (Vec ℕ Global) Refusal)
+pub works_by : {command : Command} {texts : List (List ℕ)} {shelf : ShelfView}
+    (result : Result (Vec ℕ Global) Refusal)
     → GivesText (command.fault texts) (λ text. command.IsText texts text) result
     → Answers command [] texts shelf shelf (answer_of result)
 works_by (Ok text) h = Answers.works h.0 h.1
@@ -74,12 +77,14 @@ pub works_on : {command : Command} {texts : List (List ℕ)} {old new : ShelfVie
 works_on {command} {texts} file text result fine fetched is h =
     Answers.goes_on file text fine fetched
     (works_by result
-    (subst (λ (bs : List ℕ). GivesText (command.fault (texts ++ bs ∷ [])) (λ t. command.IsText (texts ++ bs ∷ []) t) result) is h))
+    (subst (λ (bs : List ℕ). GivesText (command.fault (texts ++ bs ∷ []))
+    (λ t. command.IsText (texts ++ bs ∷ []) t) result) is h))
 
 -- A command whose first file is a model
 
 -- what is wrong with a file that means no model is so whatever may be wrong with a model
-stops_as : (after : Model → Option JobFault) (meant : Meaning) (refusal : Refusal) → Stops (model_fault (λ m. None) meant) refusal
+stops_as : (after : Model → Option JobFault) (meant : Meaning) (refusal : Refusal)
+    → Stops (model_fault (λ m. None) meant) refusal
     → Stops (model_fault after meant) refusal
 stops_as after (FaultAt place why) refusal h = h
 stops_as after (Passes passed) refusal h = h
@@ -96,7 +101,8 @@ stops_reading bytes (model_faults.TooLarge passed) h = ap (λ (m : Meaning). mod
 stops_reading bytes model_faults.Memory h = tt
 
 -- it answers why, where the file was not given or means no model
-pub lacks_model : {command : Command} {files : List File} {old new : ShelfView} (name : List ℕ) (refusal : Refusal)
+pub lacks_model : {command : Command} {files : List File} {old new : ShelfView} (name : List ℕ)
+    (refusal : Refusal)
     (after : Model → Option JobFault) → command.fault [] ≡ None
     → ((text : List ℕ) → command.fault (text ∷ []) ≡ model_fault after (meaning text))
     → FetchesModel old new name (Err refusal)
@@ -105,36 +111,48 @@ lacks_model name refusal after fine faults (inl fetched) = lacks_file (model_fil
 lacks_model name refusal after fine faults (inr read) =
     let stops = stops_as after (meaning read.0.items) refusal read.2 in
     Answers.goes_on (model_file name) read.0 fine read.1
-    (stops_by refusal (subst (λ (fault : Option JobFault). Stops fault refusal) (sym (faults read.0.items)) stops))
+    (stops_by refusal (subst (λ (fault : Option JobFault). Stops fault refusal) (sym (faults read.0.items))
+    stops))
 
 -- and it goes on with what the file means
-pub has_model : {command : Command} {files : List File} {old between new : ShelfView} {answer : Answer} (name : List ℕ)
+pub has_model : {command : Command} {files : List File} {old between new : ShelfView} {answer : Answer}
+    (name : List ℕ)
     (read : ReadModel) → command.fault [] ≡ None
     → FetchesModel old between name (Ok read)
-    → ((text : List ℕ) → meaning text ≡ Means (meant_model read) → Answers command files (text ∷ []) between new answer)
+    → ((text : List ℕ) → meaning text ≡ Means (meant_model read)
+    → Answers command files (text ∷ []) between new answer)
     → Answers command (model_file name ∷ files) [] old new answer
 has_model name read fine fetched rest =
     Answers.goes_on (model_file name) fetched.0 fine fetched.1 (rest fetched.0.items fetched.2)
 
 -- What code gives of the model that a text means is what it gives of the text.
-pub gives_of_model : {read : meant.ReadModel} {Old New : List ℕ → Type 0} (text : List ℕ) (fault : Model → Option JobFault)
+pub gives_of_model : {read : meant.ReadModel} {Old New : List ℕ → Type 0} (text : List ℕ)
+    (fault : Model → Option JobFault)
     (result : Result (Vec ℕ Global) Refusal) → meaning text ≡ Means read
     → ((t : List ℕ) → Old t → New t)
     → GivesText (fault read.model.model) Old result → GivesText (model_fault fault (meaning text)) New result
-gives_of_model text fault (Ok t) means to h = (ap (λ (m : Meaning). model_fault fault m) means ∙ h.0, to t.items h.1)
+gives_of_model text fault (Ok t) means to h = (
+  ap (λ (m : Meaning). model_fault fault m) means
+      ∙ h.0,
+  to t.items h.1,
+)
 gives_of_model text fault (Err refusal) means to h =
     subst (λ (f : Option JobFault). Stops f refusal) (sym (ap (λ (m : Meaning). model_fault fault m) means)) h
 
 -- Memory may run out over each answer but that of a fetch that failed.
-or_memory : {command : Command} {files : List File} {texts : List (List ℕ)} {old new : ShelfView} {answer : Answer}
+or_memory : {command : Command} {files : List File} {texts : List (List ℕ)} {old new : ShelfView}
+    {answer : Answer}
     → Answers command files texts old new answer
     → answer.status ≢ statuses.ReadFault → Answers command files texts old new (refused refusals.Memory)
 or_memory (Answers.works fine is) h = Answers.wants_memory
 or_memory (Answers.faults fault found) h = Answers.wants_memory
 or_memory (Answers.lacks file Failed fine fetched why) h = absurd (h (ap (λ (a : Answer). a.status) why))
-or_memory (Answers.lacks file (TooLong count) fine fetched why) h = Answers.lacks file (TooLong count) fine fetched (inr refl)
+or_memory (Answers.lacks file (TooLong count) fine fetched why) h = Answers.lacks file (TooLong count)
+    fine fetched
+    (inr refl)
 or_memory (Answers.lacks file Memory fine fetched why) h = Answers.lacks file Memory fine fetched refl
-or_memory (Answers.goes_on file text fine fetched rest) h = Answers.goes_on file text fine fetched (or_memory rest h)
+or_memory (Answers.goes_on file text fine fetched rest) h = Answers.goes_on file text fine fetched
+    (or_memory rest h)
 or_memory Answers.wants_memory h = Answers.wants_memory
 
 replies_memory : (job : Option Job) (old new : ShelfView) (answer : Answer) → Replies job old new answer
@@ -172,11 +190,25 @@ pub runs_by : (job : Option Job) {shelf shelf' : ShelfView} {sink sink' : SinkVi
     → Replies job shelf shelf' (answer_of outcome) → PutsOutcome sink sink' outcome result
     → Runs job shelf shelf' sink sink' result
 runs_by job (Ok text) replies puts = record { answer = done text.items; replies = replies; puts = puts }
-runs_by job (Err refusals.Usage) replies puts = record { answer = refused refusals.Usage; replies = replies; puts = puts }
-runs_by job (Err (refusals.Read role)) replies puts = record { answer = refused (refusals.Read role); replies = replies; puts = puts }
+runs_by job (Err refusals.Usage) replies puts = record {
+  answer = refused refusals.Usage;
+  replies = replies;
+  puts = puts;
+}
+runs_by job (Err (refusals.Read role)) replies puts = record
+    { answer = refused (refusals.Read role); replies = replies; puts = puts }
 runs_by job (Err (refusals.Fault fault)) replies puts =
     ⊎_elim
     (λ h. record { answer = refused (refusals.Fault fault); replies = replies; puts = h })
-    (λ h. record { answer = refused refusals.Memory; replies = replies_memory job _ _ _ replies (fault_apart fault).read; puts = h })
+    (λ h. record {
+      answer = refused refusals.Memory;
+      replies = replies_memory job _ _ _ replies
+          (fault_apart fault).read;
+      puts = h;
+    })
     puts
-runs_by job (Err refusals.Memory) replies puts = record { answer = refused refusals.Memory; replies = replies; puts = puts }
+runs_by job (Err refusals.Memory) replies puts = record {
+  answer = refused refusals.Memory;
+  replies = replies;
+  puts = puts;
+}

@@ -54,7 +54,8 @@ model_is_other text =
     (before (other limits.JointActions _ refl) (before (other limits.JointObservations _ refl)
     (before (other limits.TransCells _ refl) (before (other limits.ObsCells _ refl)
     (before (other limits.RewardCells _ refl) (before (other limits.RewardLines _ refl)
-    (before (other limits.Scale _ refl) (before (other limits.Scale _ refl) (before (other limits.Scale _ refl) none_left)))))))))))
+    (before (other limits.Scale _ refl) (before (other limits.Scale _ refl)
+    (before (other limits.Scale _ refl) none_left)))))))))))
 
 -- the limits of a horizon
 pub horizon_is_other : (m : Model) (h : ℕ) → IsOther (first_passed (horizon_limits m h))
@@ -92,7 +93,8 @@ limit_told (Some (job_faults.TooLarge passed)) = Some passed
 limit_told fault = None
 
 -- what is wrong with the file of a model tells none of these limits, where what is wrong with its model does not
-pub model_fault_is_other : (fault : Model → Option JobFault) → ((m : Model) → IsOther (limit_told (fault m))) → (bytes : List ℕ)
+pub model_fault_is_other : (fault : Model → Option JobFault) → ((m : Model) → IsOther (limit_told (fault m)))
+    → (bytes : List ℕ)
     → IsOther (limit_told (model_fault fault (meaning bytes)))
 model_fault_is_other fault h bytes = by (meaning bytes) (meaning_is_other bytes)
   where
@@ -105,7 +107,8 @@ model_fault_is_other fault h bytes = by (meaning bytes) (meaning_is_other bytes)
 pub of_no_role : (fault : Option JobFault) → IsOther (limit_told fault) → (passed : TooLarge) (role : FileRole)
     → fault ≡ Some (job_faults.TooLarge passed) → passed.what ≡ role_limit role → ⊥
 of_no_role fault h passed role e is =
-    let other : IsOther (limit_told (Some (job_faults.TooLarge passed))) = subst (λ (f : Option JobFault). IsOther (limit_told f)) e h in
+    let other : IsOther (limit_told (Some (job_faults.TooLarge passed))) = subst
+    (λ (f : Option JobFault). IsOther (limit_told f)) e h in
     by role (sym (ap is_of_file is) ∙ other)
   where
     by : (role : FileRole) → is_of_file (role_limit role) ≡ false → ⊥

@@ -23,7 +23,8 @@ plan_certifies : (m : Model) (job : PlanJob) (bytes : List ℕ) → IsPlanOf m j
     → CertifiesFor m job.horizon job.look bytes
 plan_certifies m job bytes h =
     let best : Certificate = constant_certificate m job.look h.text.action in
-    let text = best_constant_has_text m job.look h.text.action h.is_model h.look.0 h.look.1 h.exact_mode h.text.best in
+    let text = best_constant_has_text m job.look h.text.action h.is_model h.look.0 h.look.1 h.exact_mode
+    h.text.best in
     let valid = best_constant_is_valid m job.look h.text.action h.is_model h.exact_mode h.text.best in
     certifies_for m best job.horizon job.look bytes h.is_model valid
     (subst (λ (text : List ℕ). IsCertificateText m text best) (sym h.text.spelled) text)
@@ -42,20 +43,24 @@ plan_claims job (file ∷ next ∷ texts) text h = absurd h
 
 -- what is wrong with its file tells no limit on the bytes of a file
 horizon_fault_is_other : (horizon : ℕ) (m : Model) → IsOther (limit_told (horizon_fault m horizon))
-horizon_fault_is_other horizon m = by (first_passed (horizon_limits m horizon)) (unbuilt_part m horizon) (horizon_is_other m horizon)
+horizon_fault_is_other horizon m = by (first_passed (horizon_limits m horizon)) (unbuilt_part m horizon)
+    (horizon_is_other m horizon)
   where
-    by : (tried : Option TooLarge) (part : Option UnbuiltPart) → IsOther tried → IsOther (limit_told (fault_by tried part))
+    by : (tried : Option TooLarge) (part : Option UnbuiltPart) → IsOther tried
+        → IsOther (limit_told (fault_by tried part))
     by (Some passed) part h = h
     by None (Some part) h = tt
     by None None h = tt
 
 plan_fault_is_other : (horizon : ℕ) (texts : List (List ℕ)) → IsOther (limit_told (fault_of_plan horizon texts))
 plan_fault_is_other horizon [] = tt
-plan_fault_is_other horizon (file ∷ []) = model_fault_is_other (λ m. horizon_fault m horizon) (horizon_fault_is_other horizon) file
+plan_fault_is_other horizon (file ∷ []) = model_fault_is_other (λ m. horizon_fault m horizon)
+    (horizon_fault_is_other horizon) file
 plan_fault_is_other horizon (file ∷ next ∷ texts) = tt
 
 pub plan_is_sound : (job : PlanJob) → IsSound (plan_command job)
 plan_is_sound job = record {
   claims = λ texts text fine h. plan_claims job texts text h;
-  limits = λ texts passed role fault is. absurd (of_no_role _ (plan_fault_is_other job.horizon texts) passed role fault is);
+  limits = λ texts passed role fault is. absurd (of_no_role _ (plan_fault_is_other job.horizon texts)
+      passed role fault is);
 }

@@ -11,9 +11,11 @@ use Rattle.dp_cli.specs.Refusal.{policy_refusal}
 use Rattle.dp_cli.specs.ValueCommand.{lines_fault, policy_fault}
 
 -- bytes that are no policy are refused by what is wrong with them
-pub stops_reading : (m : Model) → IsModel m → (bytes : List ℕ) (fault : PolicyFault) → HasPolicyFault m bytes fault
+pub stops_reading : (m : Model) → IsModel m → (bytes : List ℕ) (fault : PolicyFault)
+    → HasPolicyFault m bytes fault
     → Stops (policy_fault bytes m) (policy_refusal fault)
-stops_reading m is bytes (faults.At line why) has = ap lines_fault (fault_is_computed m is bytes (bad line why) has)
+stops_reading m is bytes (faults.At line why) has = ap lines_fault
+    (fault_is_computed m is bytes (bad line why) has)
 stops_reading m is bytes (faults.TooLarge passed) has = ap lines_fault
     (fault_is_computed m is bytes (limit passed) has)
 stops_reading m is bytes faults.Memory has = tt

@@ -56,7 +56,8 @@ text_limit {V = V} g bytes passed are e = by (front_of g 1 bytes) refl e
         ≡ Err (limit passed)
         → is_of_file passed.what ≡ false
     by (Ok rest) is e = absurd (whole_limit rest rest.bytes refl e)
-    by (Err fault) is e = let same : fault ≡ limit passed = cc in front_limit g 1 bytes passed are (is ∙ ap Err same)
+    by (Err fault) is e = let same : fault ≡ limit passed = cc in
+        front_limit g 1 bytes passed are (is ∙ ap Err same)
 
 -- ---- the grammar of policies
 
@@ -70,7 +71,8 @@ agents_other : (h agent : ℕ) (bs ns : List ℕ) → AreOther (agent_rows h age
 agents_other h agent [] ns = tt
 agents_other h agent (b ∷ bs) [] = tt
 agents_other h agent (b ∷ bs) (n ∷ ns) = λ k zs.
-    AreOther-bind (stage_rows b n 0 h) (λ rows. agent_rows h (agent + 1) bs ns >>= λ others. ends (rows ∷ others))
+    AreOther-bind (stage_rows b n 0 h) (λ rows. agent_rows h (agent + 1) bs ns >>= λ others. ends
+    (rows ∷ others))
     (stages_other b n 0 h)
     (λ rows. AreOther-bind (agent_rows h (agent + 1) bs ns) (λ others. ends (rows ∷ others))
     (agents_other h (agent + 1) bs ns) (λ others. tt))

@@ -17,7 +17,8 @@ pub record IsOfFault (fault : JobFault) : Type 0 where
   pub done : fault_status fault ≢ statuses.Done
   pub usage : fault_status fault ≢ statuses.Usage
   pub read : fault_status fault ≢ statuses.ReadFault
-  pub limit : fault_status fault ≡ statuses.TooLarge → (passed : TooLarge) × (fault ≡ job_faults.TooLarge passed)
+  pub limit : fault_status fault ≡ statuses.TooLarge → (passed : TooLarge)
+      × (fault ≡ job_faults.TooLarge passed)
 
 -- each fault has one line here
 pub fault_apart : (fault : JobFault) → IsOfFault fault
@@ -39,8 +40,18 @@ fault_apart (job_faults.TooLarge passed) = record {
   read = λ e. cc;
   limit = λ e. (passed, refl);
 }
-fault_apart (job_faults.Rejected reason) = record { done = λ e. cc; usage = λ e. cc; read = λ e. cc; limit = λ e. cc }
-fault_apart (job_faults.Unbuilt part) = record { done = λ e. cc; usage = λ e. cc; read = λ e. cc; limit = λ e. cc }
+fault_apart (job_faults.Rejected reason) = record {
+  done = λ e. cc;
+  usage = λ e. cc;
+  read = λ e. cc;
+  limit = λ e. cc;
+}
+fault_apart (job_faults.Unbuilt part) = record {
+  done = λ e. cc;
+  usage = λ e. cc;
+  read = λ e. cc;
+  limit = λ e. cc;
+}
 
 -- the status of an answer
 pub answer_status : (refusal : Option Refusal) (IsText : List ℕ → Type 0) (answer : Answer)

@@ -27,40 +27,56 @@ module _ (command : Command) (contents : Contents) where
   -- what is determined where these files are asked for next
   abbrev IsTold : ℕ → List File → List (List ℕ) → Answer → Type 0
   IsTold number files texts answer =
-      IsAnswerOf (refusal_after command contents number files texts) (λ text. IsWorkAfter command contents number files texts text) answer
+      IsAnswerOf (refusal_after command contents number files texts)
+      (λ text. IsWorkAfter command contents number files texts text) answer
 
   -- what the answer of a fetch leads to
   abbrev after_fetch : ℕ → File → List File → List (List ℕ) → Result (List ℕ) FetchFault → Option Refusal
   after_fetch number file files texts fetched =
-      refusal_of_file file.role fetched (λ text. refusal_after command contents (number + 1) files (texts ++ text ∷ []))
+      refusal_of_file file.role fetched (λ text. refusal_after command contents (number + 1) files
+      (texts ++ text ∷ []))
 
-  determined_as : (number : ℕ) (files : List File) (texts : List (List ℕ)) (answer : Answer) (refusal : Option Refusal)
+  determined_as : (number : ℕ) (files : List File) (texts : List (List ℕ)) (answer : Answer)
+      (refusal : Option Refusal)
       → refusal_after command contents number files texts ≡ refusal
       → IsAnswerOf refusal (λ text. IsWorkAfter command contents number files texts text) answer
       → IsTold number files texts answer
   determined_as number files texts answer refusal e h =
-      subst (λ (r : Option Refusal). IsAnswerOf r (λ text. IsWorkAfter command contents number files texts text) answer) (sym e) h
+      subst (λ (r : Option Refusal). IsAnswerOf r (λ text. IsWorkAfter command contents number files texts text)
+      answer) (sym e) h
 
   -- what is wrong with the texts comes before any further file
-  fault_first : (number : ℕ) (files : List File) (texts : List (List ℕ)) (fault : JobFault) → command.fault texts ≡ Some fault
+  fault_first : (number : ℕ) (files : List File) (texts : List (List ℕ)) (fault : JobFault)
+      → command.fault texts ≡ Some fault
       → refusal_after command contents number files texts ≡ Some (refusals.Fault fault)
   fault_first number [] texts fault e = ap (λ (f : Option JobFault). refused_by f None) e
   fault_first number (file ∷ files) texts fault e =
-      ap (λ (f : Option JobFault). refused_by f (after_fetch number file files texts (fetch_answer contents number file.name (most_bytes file.role)))) e
+      ap (λ (f : Option JobFault). refused_by f (after_fetch number file files texts
+      (fetch_answer contents number file.name (most_bytes file.role)))) e
 
   -- where nothing is wrong, the next fetch decides
-  fetch_next : (number : ℕ) (file : File) (files : List File) (texts : List (List ℕ)) (fetched : Result (List ℕ) FetchFault)
+  fetch_next : (number : ℕ) (file : File) (files : List File) (texts : List (List ℕ))
+      (fetched : Result (List ℕ) FetchFault)
       → command.fault texts ≡ None → fetched ≡ fetch_answer contents number file.name (most_bytes file.role)
       → refusal_after command contents number (file ∷ files) texts ≡ after_fetch number file files texts fetched
   fetch_next number file files texts fetched fine told =
-      ap (λ (f : Option JobFault). refused_by f (after_fetch number file files texts (fetch_answer contents number file.name (most_bytes file.role)))) fine
+      ap (λ (f : Option JobFault). refused_by f (after_fetch number file files texts
+      (fetch_answer contents number file.name (most_bytes file.role)))) fine
       ∙ ap (λ (r : Result (List ℕ) FetchFault). after_fetch number file files texts r) (sym told)
 
-  told_works : (number : ℕ) (texts : List (List ℕ)) (text : List ℕ) → command.fault texts ≡ None → command.IsText texts text
+  told_works : (number : ℕ) (texts : List (List ℕ)) (text : List ℕ) → command.fault texts ≡ None
+      → command.IsText texts text
       → IsTold number [] texts (done text)
   told_works number texts text fine is =
-      determined_as number [] texts (done text) None (ap (λ (f : Option JobFault). refused_by f None) fine)
-      (refl, record { more = []; held = tt; is_text = subst (λ (ts : List (List ℕ)). command.IsText ts text) (sym (append-nil texts)) is })
+      determined_as number [] texts (done text) None (ap (λ (f : Option JobFault). refused_by f None) fine) (
+        refl,
+        record {
+          more = [];
+          held = tt;
+          is_text = subst (λ (ts : List (List ℕ)). command.IsText ts text)
+              (sym (append-nil texts)) is;
+        },
+      )
 
   -- the work after one more text
   work_more : (number : ℕ) (file : File) (files : List File) (texts : List (List ℕ)) (given text : List ℕ)
@@ -70,15 +86,18 @@ module _ (command : Command) (contents : Contents) where
   work_more number file files texts given text told h = record {
     more = given ∷ h.more;
     held = (sym told, h.held);
-    is_text = subst (λ (ts : List (List ℕ)). command.IsText ts text) (append_assoc texts (given ∷ []) h.more) h.is_text;
+    is_text = subst (λ (ts : List (List ℕ)). command.IsText ts text) (append_assoc texts (given ∷ []) h.more)
+        h.is_text;
   }
 
-  told_more : (number : ℕ) (file : File) (files : List File) (texts : List (List ℕ)) (given : List ℕ) (answer : Answer)
+  told_more : (number : ℕ) (file : File) (files : List File) (texts : List (List ℕ)) (given : List ℕ)
+      (answer : Answer)
       → command.fault texts ≡ None → Ok given ≡ fetch_answer contents number file.name (most_bytes file.role)
       → IsTold (number + 1) files (texts ++ given ∷ []) answer → IsTold number (file ∷ files) texts answer
   told_more number file files texts given answer fine told h =
       let next = refusal_after command contents (number + 1) files (texts ++ given ∷ []) in
-      determined_as number (file ∷ files) texts answer next (fetch_next number file files texts (Ok given) fine told)
+      determined_as number (file ∷ files) texts answer next (fetch_next number file files texts (Ok given)
+      fine told)
       (answer_as next _ _ answer (λ text work. work_more number file files texts given text told work) h)
 
 -- a fault is answered by its refusal, or by want of memory
@@ -96,23 +115,28 @@ memory_fault role (TooLong count) answer is why = cc
 memory_fault role Memory answer is why = why
 
 -- a command answers what the contents determine
-told_answer : {command : Command} {contents : Contents} {files : List File} {texts : List (List ℕ)} {old new : ShelfView}
+told_answer : {command : Command} {contents : Contents} {files : List File} {texts : List (List ℕ)}
+    {old new : ShelfView}
     {answer : Answer} → Answers command files texts old new answer
     → old.told ≡ Some contents
     → IsTold command contents (length old.log) files texts answer ⊎ (answer ≡ refused refusals.Memory)
 told_answer {command} {contents} {files} {texts} {old} (Answers.works {text = text} fine is) e =
     inl (told_works command contents (length old.log) texts text fine is)
 told_answer {command} {contents} {files} {texts} {old} (Answers.faults fault found) e =
-    inl (determined_as command contents (length old.log) files texts (refused (refusals.Fault fault)) _ (fault_first command contents (length old.log) files texts fault found) refl)
-told_answer {command} {contents} {files} {texts} {old} {new} {answer} (Answers.lacks {files = rest} file fault fine fetched why) e =
+    inl (determined_as command contents (length old.log) files texts (refused (refusals.Fault fault)) _
+    (fault_first command contents (length old.log) files texts fault found) refl)
+told_answer {command} {contents} {files} {texts} {old} {new} {answer}
+    (Answers.lacks {files = rest} file fault fine fetched why) e =
     ⊎_elim
     (λ memory. inr (memory_fault file.role fault answer (cc) why))
     (λ told. ⊎_elim
-    (λ is. inl (determined_as command contents (length old.log) (file ∷ rest) texts answer _ (fetch_next command contents (length old.log) file rest texts (Err fault) fine told) is))
+    (λ is. inl (determined_as command contents (length old.log) (file ∷ rest) texts answer _
+    (fetch_next command contents (length old.log) file rest texts (Err fault) fine told) is))
     (λ is. inr is)
     (fault_answer file.role fault answer why))
     (told_fetch old new contents file.name (most_bytes file.role) (Err fault) e fetched)
-told_answer {command} {contents} {files} {texts} {old} {new} {answer} (Answers.goes_on {files = more} {between = between} file text fine fetched rest) e =
+told_answer {command} {contents} {files} {texts} {old} {new} {answer}
+    (Answers.goes_on {files = more} {between = between} file text fine fetched rest) e =
     let next : length between.log ≡ length old.log + 1 = ap length fetched.logged ∙ simp length-append refl in
     ⊎_elim
     (λ memory. cc)
@@ -125,9 +149,11 @@ told_answer {command} {contents} {files} {texts} {old} {new} {answer} (Answers.g
 told_answer Answers.wants_memory e = inr refl
 
 -- so does a job
-told_reply : (contents : Contents) (job : Option Job) (old new : ShelfView) (answer : Answer) → Replies job old new answer
+told_reply : (contents : Contents) (job : Option Job) (old new : ShelfView) (answer : Answer)
+    → Replies job old new answer
     → old.told ≡ Some contents
-    → IsAnswerOf (first_refusal contents (length old.log) job) (λ text. IsWorkOver contents (length old.log) job text) answer
+    → IsAnswerOf (first_refusal contents (length old.log) job)
+    (λ text. IsWorkOver contents (length old.log) job text) answer
     ⊎ (answer ≡ refused refusals.Memory)
 told_reply contents None old new answer h e = h.1
 told_reply contents (Some job) old new answer h e = told_answer h e
@@ -138,7 +164,11 @@ by_told : (told : Option Contents) (job : Option Job) (shelf shelf' : ShelfView)
     → IfSome told (λ contents. RunsAsTold contents (length shelf.log) job sink sink' result)
 by_told None job shelf shelf' sink sink' result e h = tt
 by_told (Some contents) job shelf shelf' sink sink' result e h =
-    record { answer = h.answer; determined = told_reply contents job shelf shelf' h.answer h.replies e; puts = h.puts }
+    record {
+      answer = h.answer;
+      determined = told_reply contents job shelf shelf' h.answer h.replies e;
+      puts = h.puts;
+    }
 
 -- What a call does over any shelf says what it answers over one that tells its contents.
 pub runs_as_told : (job : Option Job) (shelf shelf' : ShelfView) (sink sink' : SinkView) (result : Status)
@@ -150,7 +180,8 @@ runs_as_told job shelf shelf' sink sink' result h = by_told shelf.told job shelf
 
 cause : (contents : Contents) (number : ℕ) (job : Option Job) (old new : SinkView) (result : Status)
     → RunsAsTold contents number job old new result
-    → result ≢ statuses.WriteFault → result ≢ statuses.NoMemory → result ≡ status_by (first_refusal contents number job)
+    → result ≢ statuses.WriteFault → result ≢ statuses.NoMemory
+    → result ≡ status_by (first_refusal contents number job)
 cause contents number job old new result h no_fault found =
     let kept = kept_status h.puts.reply _ _ h.puts.ended no_fault in
     ⊎_elim
@@ -159,7 +190,8 @@ cause contents number job old new result h no_fault found =
     h.determined
 
 -- the line of an answer that is refused so
-puts_refusal : (refusal : Option Refusal) (IsText : List ℕ → Type 0) (answer : Answer) (old new : SinkView) (result : Status)
+puts_refusal : (refusal : Option Refusal) (IsText : List ℕ → Type 0) (answer : Answer) (old new : SinkView)
+    (result : Status)
     → PutsAnswer old new answer result
     → IsAnswerOf refusal IsText answer ⊎ (answer ≡ refused refusals.Memory)
     → IfSome refusal (λ r. PutsOrMemory old new r result)
@@ -171,15 +203,19 @@ puts_refusal (Some refusal) IsText answer old new result puts h =
     h
 
 -- the same over a shelf that may tell its contents
-pub cause_as_told : (told : Option Contents) (number : ℕ) (job : Option Job) (old new : SinkView) (result : Status)
+pub cause_as_told : (told : Option Contents) (number : ℕ) (job : Option Job) (old new : SinkView)
+    (result : Status)
     → IfSome told (λ contents. RunsAsTold contents number job old new result) → result ≢ statuses.WriteFault
     → result ≢ statuses.NoMemory
     → IfSome told (λ contents. result ≡ status_by (first_refusal contents number job))
 cause_as_told told number job old new result h no_fault found =
     IfSome_then told h (λ contents runs. cause contents number job old new result runs no_fault found)
 
-pub refused_as_told : (told : Option Contents) (number : ℕ) (job : Option Job) (old new : SinkView) (result : Status)
+pub refused_as_told : (told : Option Contents) (number : ℕ) (job : Option Job) (old new : SinkView)
+    (result : Status)
     → IfSome told (λ contents. RunsAsTold contents number job old new result)
-    → IfSome told (λ contents. IfSome (first_refusal contents number job) (λ refusal. PutsOrMemory old new refusal result))
+    → IfSome told (λ contents. IfSome (first_refusal contents number job)
+    (λ refusal. PutsOrMemory old new refusal result))
 refused_as_told told number job old new result h =
-    IfSome_then told h (λ contents runs. puts_refusal (first_refusal contents number job) _ runs.answer old new result runs.puts runs.determined)
+    IfSome_then told h (λ contents runs. puts_refusal (first_refusal contents number job)
+    _ runs.answer old new result runs.puts runs.determined)

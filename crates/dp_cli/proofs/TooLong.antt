@@ -30,34 +30,39 @@ role_of_limit roles.Second roles.Model e = cc
 role_of_limit roles.Second roles.Second e = refl
 
 -- what is told where a cause has the status of a passed limit
-tells_limit : {command : Command} {shelf shelf' : ShelfView} {sink sink' : SinkView} {refusal : Option Refusal} (answer : Answer)
+tells_limit : {command : Command} {shelf shelf' : ShelfView} {sink sink' : SinkView} {refusal : Option Refusal}
+    (answer : Answer)
     → IsSound command → IsCause command command.files [] shelf shelf' refusal
     → IsAnswerOf refusal (λ text. Unit {0}) answer → answer.status ≡ statuses.TooLarge
-    → Puts {T = Unit {0}} {E = SinkFailed} sink sink' answer.text (Ok tt) → TellsLimit command shelf shelf' sink sink'
+    → Puts {T = Unit {0}} {E = SinkFailed} sink sink' answer.text (Ok tt)
+    → TellsLimit command shelf shelf' sink sink'
 tells_limit answer sound (IsCause.failed file front rest asked logged) is e put =
     let status = sym (status_of is) ∙ e in absurd cc
-tells_limit {sink = sink} {sink' = sink'} answer sound (IsCause.long file count front rest asked logged over) is e put = record {
-  passed = record { what = role_limit file.role; count = count };
-  put = subst (λ (a : Answer). Puts {T = Unit {0}} {E = SinkFailed} sink sink' a.text (Ok tt)) is put;
-  long = λ role of_file none.
-      let same = role_of_limit file.role role of_file in
-      record {
-        file = file;
-        is_of = same;
-        front = front;
-        rest = rest;
-        asked = asked;
-        appended = logged;
-        over = subst (λ (r : FileRole). most_bytes r < count) same over;
-      };
-}
-tells_limit {sink = sink} {sink' = sink'} answer sound (IsCause.wrong fault more front rest asked given before wrong) is e put =
+tells_limit {sink = sink} {sink' = sink'} answer sound (IsCause.long file count front rest asked logged over)
+    is e put = record {
+      passed = record { what = role_limit file.role; count = count };
+      put = subst (λ (a : Answer). Puts {T = Unit {0}} {E = SinkFailed} sink sink' a.text (Ok tt)) is put;
+      long = λ role of_file none.
+          let same = role_of_limit file.role role of_file in
+          record {
+            file = file;
+            is_of = same;
+            front = front;
+            rest = rest;
+            asked = asked;
+            appended = logged;
+            over = subst (λ (r : FileRole). most_bytes r < count) same over;
+          };
+    }
+tells_limit {sink = sink} {sink' = sink'} answer sound (IsCause.wrong fault more front rest asked given before
+    wrong) is e put =
     let limit = (fault_apart fault).limit (sym (status_of is) ∙ e) in
     let told = subst (λ (f : JobFault). answer ≡ refused (refusals.Fault f)) limit.1 is in
     record {
       passed = limit.0;
       put = subst (λ (a : Answer). Puts {T = Unit {0}} {E = SinkFailed} sink sink' a.text (Ok tt)) told put;
-      long = λ role of_file none. absurd (none (sound.limits more limit.0 role (wrong ∙ ap Some limit.1) of_file));
+      long = λ role of_file none. absurd (none (sound.limits more limit.0 role (wrong ∙ ap Some limit.1)
+          of_file));
     }
 tells_limit answer sound (IsCause.nothing more given before fine) is e put =
     let status = sym is.0 ∙ e in absurd cc

@@ -49,7 +49,8 @@ policy_is_other bytes m = by (text_from (policy_grammar m) 1 bytes) refl
 value_is_other : (texts : List (List ℕ)) → IsOther (limit_told (fault_of_value texts))
 value_is_other [] = tt
 value_is_other (file ∷ []) = model_fault_is_other (λ m. None) (λ m. tt) file
-value_is_other (file ∷ policy ∷ []) = model_fault_is_other (policy_fault policy) (λ m. policy_is_other policy m) file
+value_is_other (file ∷ policy ∷ []) = model_fault_is_other (policy_fault policy)
+    (λ m. policy_is_other policy m) file
 value_is_other (file ∷ policy ∷ next ∷ texts) = tt
 
 pub value_is_sound : (job : ValueJob) → IsSound (value_command job)

@@ -17,7 +17,8 @@ end_pushed t0 t1 t2 t3 t4 t5 word number fraction e1 e2 e3 e4 e5 =
     (and_then t3 t4 t5 fraction (10 ∷ []) e4 e5)))
 
 -- the parts of the first lines
-pub head_pushed : (t0 t1 t2 t3 t4 t5 t6 t7 a repaired b mode c unit d : List ℕ) → t1 ≡ t0 ++ a → t2 ≡ t1 ++ repaired
+pub head_pushed : (t0 t1 t2 t3 t4 t5 t6 t7 a repaired b mode c unit d : List ℕ) → t1 ≡ t0 ++ a
+    → t2 ≡ t1 ++ repaired
     → t3 ≡ t2 ++ b → t4 ≡ t3 ++ mode → t5 ≡ t4 ++ c → t6 ≡ t5 ++ unit → t7 ≡ t6 ++ d
     → t7 ≡ t0 ++ (a ++ (repaired ++ (b ++ (mode ++ (c ++ (unit ++ d))))))
 head_pushed t0 t1 t2 t3 t4 t5 t6 t7 a repaired b mode c unit d e1 e2 e3 e4 e5 e6 e7 =
@@ -29,7 +30,8 @@ head_pushed t0 t1 t2 t3 t4 t5 t6 t7 a repaired b mode c unit d e1 e2 e3 e4 e5 e6
     (and_then t5 t6 t7 unit d e6 e7)))))
 
 -- the lines of a worth
-pub worth_pushed : (t0 t1 t2 t3 head low high : List ℕ) → t0 ≡ [] → t1 ≡ t0 ++ head → t2 ≡ t1 ++ low → t3 ≡ t2 ++ high
+pub worth_pushed : (t0 t1 t2 t3 head low high : List ℕ) → t0 ≡ [] → t1 ≡ t0 ++ head → t2 ≡ t1 ++ low
+    → t3 ≡ t2 ++ high
     → t3 ≡ head ++ (low ++ high)
 worth_pushed t0 t1 t2 t3 head low high none e1 e2 e3 =
     and_then t0 t1 t3 head (low ++ high) e1 (and_then t1 t2 t3 low high e2 e3)

@@ -52,7 +52,8 @@ count_more n (suc r) some =
     let one = one-le-pow (suc r) n some in
     omega arith
 
-worth_room : (m : Model) → IsModel m → (h : ℕ) → h ≤ 24 → (t r : ℕ) (ws : ℕ → Span) (qs : List PolicyTree) → t + r ≡ h
+worth_room : (m : Model) → IsModel m → (h : ℕ) → h ≤ 24 → (t r : ℕ) (ws : ℕ → Span) (qs : List PolicyTree)
+    → t + r ≡ h
     → AreWeights false m t ws → IsPolicyOf m r qs
     → worth_size (outward m.scales) m r ws qs ≤ reward_count (joint_observations m) r * 2 ^ 82
 worth_room m is h horizon t zero ws qs e are p = omega arith
@@ -63,12 +64,14 @@ worth_room m is h horizon t (suc r) ws qs e are p =
     let reward = reward_room m is h horizon t r ws a (omega arith) are a_in in
     let each = nat_sum_most O (reward_count O r * 2 ^ 82)
     (λ o. worth_size (outward m.scales) m r (weights_after_in (outward m.scales) m ws a o) (trees_after m qs o))
-    (λ o q. worth_room m is h horizon (suc t) r (weights_after_in (outward m.scales) m ws a o) (trees_after m qs o)
+    (λ o q. worth_room m is h horizon (suc t) r (weights_after_in (outward m.scales) m ws a o)
+    (trees_after m qs o)
     (omega arith) (next_weights m is h horizon t ws a o are a_in q) (trees_after_fit m r qs o q p)) in
     let more = mul-le-mul_right (2 ^ 82) (count_more O r (some_joint_observation m is)) in
     omega arith
 
-outward_worth_fits : (m : Model) → IsModel m → (h : ℕ) → IsWithinLimits m h → (ws : ℕ → Span) (qs : List PolicyTree)
+outward_worth_fits : (m : Model) → IsModel m → (h : ℕ) → IsWithinLimits m h
+    → (ws : ℕ → Span) (qs : List PolicyTree)
     → AreWeights false m 0 ws → IsPolicyOf m h qs → worth_size (outward m.scales) m h ws qs ≤ 2 ^ 126
 outward_worth_fits m is zero within ws qs are policy = let some = within.some_step in absurd (omega arith)
 outward_worth_fits m is (suc r) within ws qs are policy =

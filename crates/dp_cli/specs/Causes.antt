@@ -62,7 +62,8 @@ refusal_after command contents number (file ∷ files) texts =
 -- has this number, give no text.
 abbrev pub first_refusal : Contents → ℕ → Option Job → Option Refusal
 first_refusal contents number None = Some refusals.Usage
-first_refusal contents number (Some job) = refusal_after (command_of job) contents number (command_of job).files []
+first_refusal contents number (Some job) = refusal_after (command_of job) contents number
+    (command_of job).files []
 
 -- The contents give these files, whose fetches have this number and those after it, and they are these texts.
 abbrev pub Hold : Contents → ℕ → List File → List (List ℕ) → Type 0
@@ -70,10 +71,12 @@ Hold contents number [] [] = Unit {0}
 Hold contents number [] (text ∷ texts) = ⊥
 Hold contents number (file ∷ files) [] = ⊥
 Hold contents number (file ∷ files) (text ∷ texts) =
-    (fetch_answer contents number file.name (most_bytes file.role) ≡ Ok text) × Hold contents (number + 1) files texts
+    (fetch_answer contents number file.name (most_bytes file.role) ≡ Ok text)
+    × Hold contents (number + 1) files texts
 
 -- The text is the work of a command that asks for these files next, and has been given these texts.
-pub record IsWorkAfter (command : Command) (contents : Contents) (number : ℕ) (files : List File) (texts : List (List ℕ)) (text : List ℕ) : Type 0 where
+pub record IsWorkAfter (command : Command) (contents : Contents) (number : ℕ) (files : List File)
+    (texts : List (List ℕ)) (text : List ℕ) : Type 0 where
   pub more : List (List ℕ)
   pub held : Hold contents number files more
   pub is_text : command.IsText (texts ++ more) text
@@ -122,12 +125,14 @@ IsCertified (Some job) shelf shelf' sink sink' = IsDone (command_of job) shelf s
 -- the next ones was asked for.
 abbrev pub AreFineBefore : Command → List (List ℕ) → List (List ℕ) → Type 0
 AreFineBefore command texts [] = Unit {0}
-AreFineBefore command texts (text ∷ more) = (command.fault texts ≡ None) × AreFineBefore command (texts ++ text ∷ []) more
+AreFineBefore command texts (text ∷ more) = (command.fault texts ≡ None)
+    × AreFineBefore command (texts ++ text ∷ []) more
 
 -- The cause of a refusal, or of none, of a command that asks for these files next and has been given
 -- these texts, by what was appended to the log and what was given: a file failed, or was too long, or
 -- something is wrong with the texts that were given and was not before the last of them, or nothing is.
-pub data IsCause (command : Command) (files : List File) (texts : List (List ℕ)) (old new : ShelfView) : Option Refusal → Type 0 where
+pub data IsCause (command : Command) (files : List File) (texts : List (List ℕ))
+    (old new : ShelfView) : Option Refusal → Type 0 where
   failed : (file : File) (front rest : List File) → files ≡ front ++ file ∷ rest
       → new.log ≡ old.log ++ (map given_entry front ++ record { name = file.name; ending = Failed } ∷ [])
       → IsCause command files texts old new (Some (refusals.Read file.role))
@@ -136,9 +141,11 @@ pub data IsCause (command : Command) (files : List File) (texts : List (List ℕ
       → most_bytes file.role < count
       → IsCause command files texts old new (Some (long_file file.role count))
   wrong : (fault : JobFault) (more : List (List ℕ)) (front rest : List File) → files ≡ front ++ rest
-      → AreGiven front more old new → AreFineBefore command texts more → command.fault (texts ++ more) ≡ Some fault
+      → AreGiven front more old new → AreFineBefore command texts more
+      → command.fault (texts ++ more) ≡ Some fault
       → IsCause command files texts old new (Some (refusals.Fault fault))
-  nothing : (more : List (List ℕ)) → AreGiven files more old new → AreFineBefore command texts more → command.fault (texts ++ more) ≡ None
+  nothing : (more : List (List ℕ)) → AreGiven files more old new → AreFineBefore command texts more
+      → command.fault (texts ++ more) ≡ None
       → IsCause command files texts old new None
 
 -- The last of the fetches that were appended to the log is of the file of this role, which has so many

@@ -127,7 +127,8 @@ pub record TellsCertificate (file cert text : List ℕ) : Type 0 where
   pub claims : ClaimsHold model certificate
   pub ordered : certificate.lower ≤ℤ certificate.upper
   pub optimal : IsClosed model certificate → certificate.is_exact ≡ true →
-      (certificate.lower ≡ certificate.upper) × IsOptimal model certificate.horizon (unfolded certificate.policy)
+      (certificate.lower ≡ certificate.upper) × IsOptimal model certificate.horizon
+      (unfolded certificate.policy)
   pub repaired : ℕ
   pub accepts : Accepts model repaired certificate text
 

@@ -19,7 +19,9 @@ use Rattle.dp_cli.specs.ModelText.{model_fault, model_of_text}
 
 -- what a plan over so many steps needs that is not built yet: more than one step, or outward mode
 abbrev pub unbuilt_part : Model → ℕ → Option UnbuiltPart
-unbuilt_part m horizon = if nat_lt 1 horizon then Some Horizon else if is_exact_mode m horizon then None else Some Outward
+unbuilt_part m horizon = if nat_lt 1 horizon then Some Horizon else if is_exact_mode m horizon then None else
+    Some
+    Outward
 
 -- a limit that is passed comes before what is not built yet
 abbrev pub fault_by : Option TooLarge → Option UnbuiltPart → Option JobFault

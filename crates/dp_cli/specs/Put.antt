@@ -21,4 +21,5 @@ pub record PutsAnswer (old new : SinkView) (answer : Answer) (result : Status) :
 
 -- one put, of a refusal's line, or of the line that tells that memory ran out
 abbrev pub PutsOrMemory : SinkView → SinkView → Refusal → Status → Type 0
-PutsOrMemory old new refusal result = PutsAnswer old new (refused refusal) result ⊎ PutsAnswer old new (refused refusals.Memory) result
+PutsOrMemory old new refusal result = PutsAnswer old new (refused refusal) result ⊎ PutsAnswer old new
+    (refused refusals.Memory) result

@@ -89,7 +89,8 @@ refusal_status refusals.Memory = statuses.NoMemory
 
 -- the word of a limit that was passed, and the count that passed it
 abbrev pub large_line : TooLarge → List ℕ
-large_line passed = codes "refused large " ++ limit_word passed.what ++ codes " " ++ decimal passed.count ++ codes "\n"
+large_line passed = codes "refused large " ++ limit_word passed.what ++ codes " " ++ decimal passed.count
+    ++ codes "\n"
 
 -- what is wrong with a model, and where
 abbrev pub model_line : ℕ → ℕ → Why → List ℕ
@@ -105,7 +106,8 @@ line_word Range = codes "range"
 
 -- the first line of a second file that is not as required
 abbrev pub file_line : ℕ → FileWhy → List ℕ
-file_line line why = codes "refused file line " ++ (decimal line ++ (codes " " ++ (line_word why ++ codes "\n")))
+file_line line why = codes "refused file line " ++ (decimal line
+    ++ (codes " " ++ (line_word why ++ codes "\n")))
 
 -- the number of the fetch that failed
 abbrev pub read_line : FileRole → List ℕ

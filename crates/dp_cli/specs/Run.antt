@@ -40,7 +40,8 @@ pub data Answers (command : Command) : List File → List (List ℕ) → ShelfVi
   -- Its next file is not given.
   lacks : {files : List File} {texts : List (List ℕ)} {shelf shelf' : ShelfView} {answer : Answer} (file : File)
       (fault : FetchFault) → command.fault texts ≡ None
-      → Fetches shelf shelf' file.name (most_bytes file.role) (Err fault) → IsAnswerToFault file.role fault answer
+      → Fetches shelf shelf' file.name (most_bytes file.role) (Err fault)
+      → IsAnswerToFault file.role fault answer
       → Answers command (file ∷ files) texts shelf shelf' answer
   -- Its next file is given, and it goes on.
   goes_on : {files : List File} {texts : List (List ℕ)} {shelf between shelf' : ShelfView} {answer : Answer}
@@ -59,24 +60,29 @@ Does command shelf shelf' answer = Answers command command.files [] shelf shelf'
 -- what a job does; words that give none are refused before the first fetch
 abbrev pub Replies : Option Job → ShelfView → ShelfView → Answer → Type 0
 Replies (Some job) shelf shelf' answer = Does (command_of job) shelf shelf' answer
-Replies None shelf shelf' answer = (shelf' ≡ shelf) × ((answer ≡ refused refusals.Usage) ⊎ (answer ≡ refused refusals.Memory))
+Replies None shelf shelf' answer = (shelf' ≡ shelf) × ((answer ≡ refused refusals.Usage) ⊎
+    (answer ≡ refused refusals.Memory))
 
 -- what a call does over a shelf and a sink
-pub record Runs (job : Option Job) (shelf shelf' : ShelfView) (sink sink' : SinkView) (result : Status) : Type 0 where
+pub record Runs (job : Option Job) (shelf shelf' : ShelfView) (sink sink' : SinkView)
+    (result : Status) : Type 0 where
   pub answer : Answer
   pub replies : Replies job shelf shelf' answer
   pub puts : PutsAnswer sink sink' answer result
 
 -- What a call answers by the contents of the shelf, where its first fetch has this number: what they
 -- determine, or want of memory.
-pub record RunsAsTold (contents : Contents) (number : ℕ) (job : Option Job) (sink sink' : SinkView) (result : Status) : Type 0 where
+pub record RunsAsTold (contents : Contents) (number : ℕ) (job : Option Job) (sink sink' : SinkView)
+    (result : Status) : Type 0 where
   pub answer : Answer
-  pub determined : IsAnswerOf (first_refusal contents number job) (λ text. IsWorkOver contents number job text) answer
+  pub determined : IsAnswerOf (first_refusal contents number job)
+      (λ text. IsWorkOver contents number job text) answer
       ⊎ (answer ≡ refused refusals.Memory)
   pub puts : PutsAnswer sink sink' answer result
 
 -- What a command found, over every shelf: the status is that of the cause, whose line was put.
-pub record Finds (command : Command) (shelf shelf' : ShelfView) (sink sink' : SinkView) (result : Status) : Type 0 where
+pub record Finds (command : Command) (shelf shelf' : ShelfView) (sink sink' : SinkView)
+    (result : Status) : Type 0 where
   pub refusal : Option Refusal
   pub cause : IsCause command command.files [] shelf shelf' refusal
   pub status : result ≡ status_by refusal

@@ -55,7 +55,8 @@ head_text repaired exact unit =
 -- an end of the worth, and what it is over the unit, rounded down, or up
 abbrev pub end_text : List ℕ → ℤ → ℤ → Bool → List ℕ
 end_text word number unit up =
-    word ++ (signed_decimal number ++ (codes " " ++ (fraction_text number (unsigned_abs unit) up ++ codes "\n")))
+    word ++ (signed_decimal number ++ (codes " " ++ (fraction_text number (unsigned_abs unit) up
+    ++ codes "\n")))
 
 -- the lines of a worth in a unit
 abbrev pub value_text : ℕ → Bool → ℤ → Span → List ℕ
@@ -88,8 +89,9 @@ IsTextOfValue texts text = ⊥
 
 -- ---- what is so
 
--- The bytes of the file mean a model, those of the policy are the text of a joint policy for it, and the text tells two
--- numbers over the unit: in exact mode both are the value of the policy, and in outward mode it lies between them.
+-- The bytes of the file mean a model, those of the policy are the text of a joint policy for it, and the text tells
+-- two numbers over the unit: in exact mode both are the value of the policy, and in outward mode it lies between
+-- them.
 pub record TellsValue (file policy text : List ℕ) : Type 0 where
   pub model : Model
   pub meant : model_of_text file ≡ Some model

@@ -57,7 +57,8 @@ differ next = by (begins_with_dash next) refl (bytes_eq next (codes "-")) refl
     by true dash false is = inl (rw (dash, is) refl)
     by true dash true is = inr (same_text next (codes "-") is, (rw (dash, is) refl, rw dash refl))
 
-takes_parts : (word : Text) → takes_next word ≡ true → (is_option word ≡ true) × (is_flag (name_of word) ≡ false)
+takes_parts : (word : Text) → takes_next word ≡ true → (is_option word ≡ true)
+    × (is_flag (name_of word) ≡ false)
 takes_parts word takes = by (is_option word) (list_any is_equals word) (is_flag (name_of word)) takes
   where
     by : (a b d : Bool) → (a && not b && not d) ≡ true → (a ≡ true) × (d ≡ false)
@@ -68,7 +69,8 @@ takes_parts word takes = by (is_option word) (list_any is_equals word) (is_flag 
 
 alike_next : (word next : Text) (rest : List Text) → Alike next rest → Alike word (next ∷ rest)
 alike_next word next rest (inr wrong) = inr (
-  has_dash-more (is_option word) (name_of word, value_of may_be word (next ∷ rest)) (options_in may_be (next ∷ rest))
+  has_dash-more (is_option word) (name_of word, value_of may_be word (next ∷ rest))
+      (options_in may_be (next ∷ rest))
       wrong.0,
   lacks_value-more (is_option word) (name_of word, value_of may_be_value word (next ∷ rest))
       (options_in may_be_value (next ∷ rest)) wrong.1,
@@ -80,7 +82,11 @@ alike_next word next rest (inl same) = by (differ next) (takes_next word) refl
         → takes_next word ≡ t → Alike word (next ∷ rest)
     by (inl agree) t takes = inl (
       λ i. cond (is_option word)
-          ((name_of word, cond (takes_next word) (cond (agree i) (Some next) None) (attached_value word)) ∷ same.0 i)
+          ((
+            name_of word,
+            cond (takes_next word) (cond (agree i) (Some next) None)
+                (attached_value word),
+          ) ∷ same.0 i)
           (same.0 i),
       λ i. cond (is_option next || (takes_next word && agree i)) (same.1 i) (next ∷ same.1 i),
     )
@@ -139,7 +145,8 @@ dash_value (o ∷ os) valued once is =
     Found : List Given → Type 0
     Found xs = (n : Text) × ((is_in n value_names ≡ true) × (value_in xs n ≡ Some dash))
 
-    here : (text : Text) → bytes_eq text dash ≡ true → (f : Bool) → cond f false (is_named value_names o.0 && true)
+    here : (text : Text) → bytes_eq text dash ≡ true → (f : Bool)
+        → cond f false (is_named value_names o.0 && true)
         ≡ true → (n : Text) × ((is_in n value_names ≡ true) × (value_in ((o.0, Some text) ∷ os) n ≡ Some dash))
     here text e true valued = cc
     here text e false valued =
@@ -179,18 +186,21 @@ unfolding is_index
 options_refuse_dash = refl
 
 -- an option with a dash does not hold
-dash_fails : (os : List Given) (n : Text) (rows : List OptionRow) → RefuseDash rows → is_in n (map (λ o. o.name) rows)
+dash_fails : (os : List Given) (n : Text) (rows : List OptionRow) → RefuseDash rows
+    → is_in n (map (λ o. o.name) rows)
     ≡ true
     → value_in os n ≡ Some dash → list_all (holds (value_in os)) rows ≡ false
 dash_fails os n [] all is e = cc
 dash_fails os n (o ∷ rows) all is e =
     let parts = and_parts (not (o.allows dash)) (list_all (λ x. not (x.allows dash)) rows) all in
-    by (bytes_eq o.name n) refl is (not-true (o.allows dash) parts.0) (λ more. dash_fails os n rows parts.1 more e)
+    by (bytes_eq o.name n) refl is (not-true (o.allows dash) parts.0)
+    (λ more. dash_fails os n rows parts.1 more e)
   where
     rest : Bool
     rest = list_all (holds (value_in os)) rows
 
-    by : (b : Bool) → bytes_eq o.name n ≡ b → (b || is_in n (map (λ x. x.name) rows)) ≡ true → o.allows dash ≡ false
+    by : (b : Bool) → bytes_eq o.name n ≡ b → (b || is_in n (map (λ x. x.name) rows)) ≡ true
+        → o.allows dash ≡ false
         → (is_in n (map (λ x. x.name) rows) ≡ true → rest ≡ false) → (holds (value_in os) o && rest) ≡ false
     by true same is refused next =
         let value : value_in os o.name ≡ Some dash = ap (value_in os) (same_text o.name n same) ∙ e in
@@ -205,7 +215,8 @@ no_job_with_dash : (os : List Given) (plain : List Text) → HasDash os → job_
 no_job_with_dash os plain is = by (is_well_given value_names os) refl
   where
     by : (b : Bool) → is_well_given value_names os ≡ b
-        → cond (is_well_given value_names os) (job_of_values (value_in os) (is_given os no_merge) plain) None ≡ None
+        → cond (is_well_given value_names os) (job_of_values (value_in os) (is_given os no_merge) plain) None
+        ≡ None
     by false e = rw e refl
     by true e =
         let parts = and_parts (list_all (is_valued value_names) os) (is_once os) e in

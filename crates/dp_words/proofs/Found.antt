@@ -53,7 +53,8 @@ tells : (words : List Text) (m : ArgMatches) → HaveKinds words → fault_of co
     → rows_of (found_of m) ≡ matches_of command_app words → Tells words m
 tells words m kinds passed rows_are = by (parse_is value_names names_apart words kinds)
   where
-    texts : (id : Text) → first_value (found_of m) id ≡ slice_get (values_at id (matches_of command_app words)) 0
+    texts : (id : Text) → first_value (found_of m) id ≡ slice_get
+        (values_at id (matches_of command_app words)) 0
     texts id = first_value-rows (found_of m) id ∙ ap (first_of id) rows_are
         ∙ first_values (matches_of command_app words) id
 

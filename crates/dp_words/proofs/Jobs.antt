@@ -92,7 +92,8 @@ flag_is : (words : List Text) (m : ArgMatches) → Tells words m
     → merging_off m ≡ is_given (options_of may_be words) flag_id
 flag_is words m t = by (values_of m flag_id) refl (is_given (options_of may_be words) flag_id) refl
   where
-    by : (v : Option Text) → values_of m flag_id ≡ v → (b : Bool) → is_given (options_of may_be words) flag_id ≡ b
+    by : (v : Option Text) → values_of m flag_id ≡ v → (b : Bool)
+        → is_given (options_of may_be words) flag_id ≡ b
         → option_map_or (λ x. bytes_eq x (codes "true")) v false ≡ b
     by v e true g = ap (λ o. option_map_or (λ x. bytes_eq x (codes "true")) o false) (sym e ∙ t.no_flag g)
     by None e false g = refl
@@ -114,11 +115,13 @@ told_job words m t =
     ∙ job_is words
 
 -- words whose options are not well given
-pub no_job : (words : List Text) → is_well_given value_names (options_of may_be words) ≡ false → job_of words ≡ None
+pub no_job : (words : List Text) → is_well_given value_names (options_of may_be words) ≡ false
+    → job_of words ≡ None
 no_job words bad = sym (job_is words) ∙ not_well_given (options_of may_be words) (plain_of may_be words) bad
 
 -- what a parse that fails says of the job
-pub failed_job : (words : List Text) (e : WordFault) → IsParsedAs words (Err e) → IsReadAs (job_of words) (Err e)
+pub failed_job : (words : List Text) (e : WordFault) → IsParsedAs words (Err e)
+    → IsReadAs (job_of words) (Err e)
 failed_job words faults.Usage bad = no_job words bad
 failed_job words faults.Memory bad = tt
 
@@ -148,11 +151,13 @@ no_command v off word files none = ap (option_and_then (row_job v off files)) (n
 -- the first plain word and the rest
 pub split_job : (v : Values) (off : Bool) (r : Result Job WordFault) (plain : List Text) (bs : List (Bor Text))
     (d : Bor Text) → all_hold v ≡ true → 1 ≤ length bs → map (λ s. s.now) bs ≡ plain
-    → IsReadAs (command_job v off ((slice_index_or bs 0 d).now ∷ map (λ s. s.now) (take (length bs - 1) (drop 1 bs))))
+    → IsReadAs (command_job v off ((slice_index_or bs 0 d).now ∷ map (λ s. s.now)
+    (take (length bs - 1) (drop 1 bs))))
     r → IsReadAs (job_of_values v off plain) r
 split_job v off r plain [] d in_range some is read = absurd (omega arith)
 split_job v off r plain (b ∷ bs) d in_range some is read =
-    let job : job_of_values v off (b.now ∷ map (λ s. s.now) bs) ≡ command_job v off (b.now ∷ map (λ s. s.now) bs) =
+    let job : job_of_values v off (b.now ∷ map (λ s. s.now) bs)
+    ≡ command_job v off (b.now ∷ map (λ s. s.now) bs) =
     ap (λ x. cond x (command_job v off (b.now ∷ map (λ s. s.now) bs)) None) in_range in
     let rest : take (length (b ∷ bs) - 1) bs ≡ bs = take_all (length (b ∷ bs) - 1) bs (omega arith) in
     subst (λ j. IsReadAs j r)

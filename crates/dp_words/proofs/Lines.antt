@@ -96,12 +96,14 @@ module _ (ns : List Text) (all : AreApart ns) where
       by false false d e = refl
 
   may_follow-more : (rows after : List Row) (o : Given) (os : List Given)
-      → ((m : Text) → option_has_row m after ≡ (option_has_row m rows || bytes_eq o.0 m)) → is_valued ns o ≡ true
+      → ((m : Text) → option_has_row m after ≡ (option_has_row m rows || bytes_eq o.0 m))
+      → is_valued ns o ≡ true
       → option_has_row o.0 rows ≡ false
       → may_follow rows (o ∷ os) ≡ may_follow after os
   may_follow-more rows after o os more valued new =
       rw (valued, new, none_more rows after o.0 os more)
-      (by (list_all (is_valued ns) os) (list_any (λ p. bytes_eq o.0 p.0) os) (is_once os) (none_has_row rows os))
+      (by (list_all (is_valued ns) os) (list_any (λ p. bytes_eq o.0 p.0) os) (is_once os)
+      (none_has_row rows os))
     where
       by : (v a u e : Bool) → (v && ((not a && u) && e)) ≡ (v && (u && (not a && e)))
       by false a u e = refl
@@ -122,7 +124,8 @@ module _ (ns : List Text) (all : AreApart ns) where
 
   have_values-more : (rows after end : List Row) (n : Text) (v : Option Text) (os : List Given) (ps : List Text)
       → bytes_eq n plain_id ≡ false
-      → ((m : Text) → values_at m after ≡ values_at m rows ++ if_id n m (text_of v ∷ [])) → HaveValues after os ps end
+      → ((m : Text) → values_at m after ≡ values_at m rows ++ if_id n m (text_of v ∷ []))
+      → HaveValues after os ps end
       → HaveValues rows ((dashed n, v) ∷ os) ps end
   have_values-more rows after end n v os ps other more have =
       (λ m is. have.0 m is ∙ ap (λ xs. xs ++ given_to m os) (more m) ∙ by m (bytes_eq n m), plain)
@@ -141,15 +144,18 @@ module _ (ns : List Text) (all : AreApart ns) where
   option_has_row-id : (n : Text) (rows : List Row) → bytes_eq n plain_id ≡ false
       → option_has_row (dashed n) rows ≡ has_row n rows
   option_has_row-id n [] other = refl
-  option_has_row-id n (r ∷ rs) other = ap₂ (λ a b. a || b) (by (bytes_eq r.id n) refl) (option_has_row-id n rs other)
+  option_has_row-id n (r ∷ rs) other = ap₂ (λ a b. a || b) (by (bytes_eq r.id n) refl)
+      (option_has_row-id n rs other)
     where
       by : (b : Bool) → bytes_eq r.id n ≡ b → (b && not (bytes_eq r.id plain_id)) ≡ b
       by true e = ap (λ x. not (bytes_eq x plain_id)) (same_text r.id n e) ∙ ap not other
       by false e = refl
 
-  option_has_row-after : (n : Text) (how : Reading) (ts : List Text) (rows : List Row) → bytes_eq n plain_id ≡ false
+  option_has_row-after : (n : Text) (how : Reading) (ts : List Text) (rows : List Row)
+      → bytes_eq n plain_id ≡ false
       → (m : Text)
-      → option_has_row m (with_values n how CommandLine ts rows) ≡ (option_has_row m rows || bytes_eq (dashed n) m)
+      → option_has_row m (with_values n how CommandLine ts rows)
+      ≡ (option_has_row m rows || bytes_eq (dashed n) m)
   option_has_row-after n how ts rows other m =
       any_after (is_row_of m) n how CommandLine ts rows
       ∙ rw other (ap (λ b. option_has_row m rows || b) (by (bytes_eq (dashed n) m)))
@@ -175,7 +181,8 @@ module _ (ns : List Text) (all : AreApart ns) where
       passed new good =
           let fresh : option_has_row (dashed n) rows ≡ false = option_has_row-id n rows other ∙ new in
           let same : may_follow rows ((dashed n, v) ∷ os) ≡ may_follow after os =
-          may_follow-more rows after (dashed n, v) os (option_has_row-after n how (text_of v ∷ []) rows other) valued
+          may_follow-more rows after (dashed n, v) os (option_has_row-after n how (text_of v ∷ [])
+          rows other) valued
           fresh in
           let rows_are : used a values rows ≡ after =
           row ∙ ap (with_values n how CommandLine (text_of v ∷ [])) (without_none n rows new) in
@@ -296,7 +303,8 @@ module _ (ns : List Text) (all : AreApart ns) where
   unknown name v named flag = rw (flag, named) refl
 
   -- an option without its value
-  value_missing : (rows : List Row) (n : Text) (us : List Use) (os : List Given) (ps : List Text) (v : Option Text)
+  value_missing : (rows : List Row) (n : Text) (us : List Use) (os : List Given) (ps : List Text)
+      (v : Option Text)
       → v ≡ None
       → is_in n ns ≡ true
       → Agree rows (given (built_option n) [] ∷ us) ((dashed n, v) ∷ os) ps
@@ -305,11 +313,13 @@ module _ (ns : List Text) (all : AreApart ns) where
       (ap (λ x. is_valued ns (dashed n, x)) none ∙ without_value n is) refl
 
   -- an option with its value
-  with_value : (rows : List Row) (n v : Text) (us : List Use) (os : List Given) (ps : List Text) → is_in n ns ≡ true
+  with_value : (rows : List Row) (n v : Text) (us : List Use) (os : List Given) (ps : List Text)
+      → is_in n ns ≡ true
       → ((after : List Row) → Agree after us os ps)
       → Agree rows (given (built_option n) (v ∷ []) ∷ us) ((dashed n, Some v) ∷ os) ps
   with_value rows n v us os ps is next =
-      use_agrees rows (built_option n) (v ∷ []) us n AsWritten (Some v) os ps (not_plain n is) (option_valued n v is)
+      use_agrees rows (built_option n) (v ∷ []) us n AsWritten (Some v) os ps (not_plain n is)
+      (option_valued n v is)
       (or_else_nil (repeat_fault false n rows)) refl next
 
   -- the option without a value
@@ -321,27 +331,33 @@ module _ (ns : List Text) (all : AreApart ns) where
       (or_else_nil (repeat_fault false flag_id rows)) refl next
 
   given_options-option : (word : Text) (rest : List Text) → ends_options word ≡ false → is_option word ≡ true
-      → given_options (word ∷ rest) ≡ (name_of word, value_of may_be word (before_end rest)) ∷ given_options rest
-  given_options-option word rest e is = ap (options_in may_be) (before_next ends_options word rest e) ∙ rw is refl
+      → given_options (word ∷ rest) ≡ (name_of word, value_of may_be word (before_end rest)) ∷ given_options
+      rest
+  given_options-option word rest e is = ap (options_in may_be) (before_next ends_options word rest e)
+      ∙ rw is refl
 
   given_options-plain : (word : Text) (rest : List Text) → ends_options word ≡ false → is_option word ≡ false
       → given_options (word ∷ rest) ≡ given_options rest
-  given_options-plain word rest e is = ap (options_in may_be) (before_next ends_options word rest e) ∙ rw is refl
+  given_options-plain word rest e is = ap (options_in may_be) (before_next ends_options word rest e)
+      ∙ rw is refl
 
-  plain_words-option : (before word : Text) (rest : List Text) → ends_options word ≡ false → is_option word ≡ true
+  plain_words-option : (before word : Text) (rest : List Text) → ends_options word ≡ false
+      → is_option word ≡ true
       → plain_words before (word ∷ rest) ≡ plain_words word rest
   plain_words-option before word rest e is =
       ap₂ (λ a b. plain_after may_be before a ++ b) (before_next ends_options word rest e)
       (after_next ends_options word rest e) ∙ rw is refl
 
-  plain_words-plain : (before word : Text) (rest : List Text) → ends_options word ≡ false → is_option word ≡ false
+  plain_words-plain : (before word : Text) (rest : List Text) → ends_options word ≡ false
+      → is_option word ≡ false
       → takes_next before ≡ false
       → plain_words before (word ∷ rest) ≡ word ∷ plain_words word rest
   plain_words-plain before word rest e is takes =
       ap₂ (λ a b. plain_after may_be before a ++ b) (before_next ends_options word rest e)
       (after_next ends_options word rest e) ∙ rw (is, takes) refl
 
-  plain_words-value : (before word : Text) (rest : List Text) → ends_options word ≡ false → is_option word ≡ false
+  plain_words-value : (before word : Text) (rest : List Text) → ends_options word ≡ false
+      → is_option word ≡ false
       → takes_next before ≡ true
       → plain_words before (word ∷ rest) ≡ plain_words word rest
   plain_words-value before word rest e is takes =
@@ -369,7 +385,8 @@ module _ (ns : List Text) (all : AreApart ns) where
       by false e = refl
 
   -- a long flag, where no option waits
-  long_agrees : (word name : Text) (v : Option Text) (rest : List Text) (rows : List Row) → is_option word ≡ true
+  long_agrees : (word name : Text) (v : Option Text) (rest : List Text) (rows : List Row)
+      → is_option word ≡ true
       → name_of word ≡ dashed name → attached_value word ≡ v
       → Free rest → Wait rest
       → Agree rows (uses_of_rule (rules ns) (arg_by_long (rules ns) name) v (uses (rules ns) rest None)
@@ -387,7 +404,8 @@ module _ (ns : List Text) (all : AreApart ns) where
       flagged : is_flag (name_of word) ≡ bytes_eq flag_id name
       flagged = ap is_flag named
 
-      by : (b f : Bool) (u : Option Text) → is_in name ns ≡ b → bytes_eq flag_id name ≡ f → attached_value word ≡ u
+      by : (b f : Bool) (u : Option Text) → is_in name ns ≡ b → bytes_eq flag_id name ≡ f
+          → attached_value word ≡ u
           → Agree rows (uses_of_rule (rules ns) (arg_by_long (rules ns) name) u (uses (rules ns) rest None)
           (λ a. uses (rules ns) rest (Some a)))
           ((name_of word, value_of may_be word (before_end rest)) ∷ given_options rest) (plain_words word rest)
@@ -407,7 +425,8 @@ module _ (ns : List Text) (all : AreApart ns) where
           let takes : takes_next word ≡ false = rw (is, equals) refl in
           let found = by_long_is ns name in
           rw (found, named_is, flag_is, takes, value, named)
-          (refused_agrees rows (refused ∷ uses (rules ns) rest None) (dashed name, Some x) os ps (rw flag_is refl)
+          (refused_agrees rows (refused ∷ uses (rules ns) rest None) (dashed name, Some x) os ps
+          (rw flag_is refl)
           refl)
       by false true None named_is flag_is value =
           let equals = attached_none word value in
@@ -429,7 +448,8 @@ module _ (ns : List Text) (all : AreApart ns) where
 
   -- short flags
   short_unknown : (names : List Text) (word : Text) (v : Option Text)
-      → ((name : Text) → bytes_eq (dashed name) (name_of word) ≡ false) → is_valued names (name_of word, v) ≡ false
+      → ((name : Text) → bytes_eq (dashed name) (name_of word) ≡ false)
+      → is_valued names (name_of word, v) ≡ false
   short_unknown names word v none = rw (none flag_id) (by names)
     where
       by : (xs : List Text) → (is_named xs (name_of word) && is_some v) ≡ false
@@ -451,7 +471,8 @@ module _ (ns : List Text) (all : AreApart ns) where
   first_free word rest before rows (kind_long name v h is named attached) takes free wait =
       agree_as rows (uses_of_rule (rules ns) (arg_by_long (rules ns) name) v (uses (rules ns) rest None)
       (λ a. uses (rules ns) rest (Some a))) (given_options (word ∷ rest))
-      ((name_of word, value_of may_be word (before_end rest)) ∷ given_options rest) (plain_words before (word ∷ rest))
+      ((name_of word, value_of may_be word (before_end rest)) ∷ given_options rest)
+      (plain_words before (word ∷ rest))
       (plain_words word rest)
       (given_options-option word rest h.0 is) (plain_words-option before word rest h.0 is)
       (long_agrees word name v rest rows is named attached free wait)
@@ -487,7 +508,8 @@ module _ (ns : List Text) (all : AreApart ns) where
   first_wait word rest before n rows (kind_end e) takes named free wait =
       value_missing rows n (plain_uses rest) (given_options (word ∷ rest))
       (plain_words before (word ∷ rest))
-      (next_value may_be (before_end (word ∷ rest))) (ap (next_value may_be) (before_here ends_options word rest e))
+      (next_value may_be (before_end (word ∷ rest))) (ap (next_value may_be)
+      (before_here ends_options word rest e))
       named
   first_wait word rest before n rows (kind_long name v h is known attached) takes named free wait =
       value_missing rows n (uses_of_rule (rules ns) (arg_by_long (rules ns) name) v (uses (rules ns) rest None)
@@ -527,7 +549,8 @@ module _ (ns : List Text) (all : AreApart ns) where
             (λ s. Agree rows (uses_by (rules ns) s (Some (built_option n)) word rest (uses (rules ns) rest))
             ((dashed n, next_value may_be (before_end (word ∷ rest))) ∷ given_options (word ∷ rest))
             (plain_words before (word ∷ rest)))
-            (sym (sort_is (view_of kinds.0))) (first_wait word rest before n rows kinds.0 takes named next.0 next.1),
+            (sym (sort_is (view_of kinds.0))) (first_wait word rest before n rows kinds.0 takes named next.0
+            next.1),
       )
 
   -- the uses of the words

@@ -33,15 +33,19 @@ plain_passes rows = rw or-true refl
 
 defaults_none : (ns : List Text) (rows : List Row) → defaults_fault rows (rules ns) ≡ []
 unfolding defaults_fault
-defaults_none [] rows = λ i. or_else (flag_passes rows i) (or_else (plain_passes (with_default rows built_flag) i) [])
+defaults_none [] rows = λ i. or_else (flag_passes rows i) (or_else
+    (plain_passes (with_default rows built_flag) i) [])
 defaults_none (n ∷ ns) rows = rw (or-true, same_both) (defaults_none ns rows)
 
-finished_rows : (ns : List Text) (rows : List Row) → fold with_default rows (rules ns) ≡ with_default rows built_flag
-finished_rows [] rows = same_both (has_row plain_id (with_default rows built_flag)) (with_default rows built_flag)
+finished_rows : (ns : List Text) (rows : List Row) → fold with_default rows (rules ns)
+    ≡ with_default rows built_flag
+finished_rows [] rows = same_both (has_row plain_id (with_default rows built_flag))
+    (with_default rows built_flag)
 finished_rows (n ∷ ns) rows = ap (λ x. fold with_default x (rules ns)) (same_both (has_row n rows) rows)
     ∙ finished_rows ns rows
 
-none_required : (ns : List Text) (rows : List Row) → list_any (λ a. a.required && not (is_used a.id rows)) (rules ns)
+none_required : (ns : List Text) (rows : List Row) → list_any (λ a. a.required && not (is_used a.id rows))
+    (rules ns)
     ≡ false
 none_required [] rows = refl
 none_required (n ∷ ns) rows = none_required ns rows
@@ -111,7 +115,8 @@ matches_are ns words = ap (λ (a : App). rows_after a.top.rules (names_of a) wor
     ∙ finished_rows ns (settled (rules ns) (walk_end ns words)).rows
 
 -- a fault, by the rows at the end
-ends_none : {X : Type 0} (a b : Kinds) (x : X) → if_passes a (if_passes b (Some x)) ≡ None → (or_else a b ≡ []) → ⊥
+ends_none : {X : Type 0} (a b : Kinds) (x : X) → if_passes a (if_passes b (Some x)) ≡ None
+    → (or_else a b ≡ []) → ⊥
 ends_none [] [] x none passed = cc
 ends_none [] (k ∷ ks) x none passed = cc
 ends_none (k ∷ ks) b x none passed = cc
@@ -183,7 +188,8 @@ default_values : (rows : List Row) (n : Text) → bytes_eq flag_id n ≡ false
     ≡ values_at n rows
 default_values rows n other = by (has_row flag_id rows)
   where
-    by : (b : Bool) → values_at n (cond b rows (with_values flag_id AsWritten DefaultValue (codes "false" ∷ []) rows))
+    by : (b : Bool) → values_at n (cond b rows (with_values flag_id AsWritten DefaultValue
+        (codes "false" ∷ []) rows))
         ≡ values_at n rows
     by true = refl
     by false = values_after flag_id n AsWritten DefaultValue (codes "false" ∷ []) rows

@@ -46,15 +46,18 @@ values_after id n how s vs (r ∷ rs) = by (bytes_eq r.id id) refl (values_after
         (cond b (Some (record r
         { values = r.values ++ vs; source = Some (Rattle.clap.specs.Walk.stronger r.source s) }))
         (find (λ x. bytes_eq x.id n) rs)) []
-        ≡ option_map_or (λ (x : Row). x.values) (cond b (Some r) (find (λ x. bytes_eq x.id n) rs)) [] ++ cond b vs []
+        ≡ option_map_or (λ (x : Row). x.values) (cond b (Some r) (find (λ x. bytes_eq x.id n) rs)) []
+        ++ cond b vs []
     here true = refl
     here false = sym (append-nil _)
 
-    there : (b : Bool) → bytes_eq r.id n ≡ b → bytes_eq r.id id ≡ false → values_at n (with_values id how s vs rs)
+    there : (b : Bool) → bytes_eq r.id n ≡ b → bytes_eq r.id id ≡ false
+        → values_at n (with_values id how s vs rs)
         ≡ values_at n rs ++ if_id id n vs
         → option_map_or (λ (x : Row). x.values)
         (cond b (Some r) (find (λ x. bytes_eq x.id n) (with_values id how s vs rs))) []
-        ≡ option_map_or (λ (x : Row). x.values) (cond b (Some r) (find (λ x. bytes_eq x.id n) rs)) [] ++ if_id id n vs
+        ≡ option_map_or (λ (x : Row). x.values) (cond b (Some r) (find (λ x. bytes_eq x.id n) rs)) []
+        ++ if_id id n vs
     there true e other next =
         let differs : bytes_eq id n ≡ false = elim (bytes_eq id n) as (λ b. bytes_eq id n ≡ b → b ≡ false) [
           | true ↦ λ same. absurd
@@ -73,7 +76,8 @@ values_after id n how s vs (r ∷ rs) = by (bytes_eq r.id id) refl (values_after
     by false e next = rw e (there (bytes_eq r.id n) refl e next)
 
 -- a test of the ids
-pub any_after : (f : Text → Bool) (id : Text) (how : Reading) (s : ValueSource) (vs : List Text) (rows : List Row)
+pub any_after : (f : Text → Bool) (id : Text) (how : Reading) (s : ValueSource) (vs : List Text)
+    (rows : List Row)
     → list_any (λ r. f r.id) (with_values id how s vs rows) ≡ (list_any (λ r. f r.id) rows || f id)
 any_after f id how s vs [] = by (f id)
   where

@@ -107,7 +107,8 @@ table ns all = record {
         → takes_values a ≡ true → (arg_by_id (rules ns) a.id ≡ Some a) × (most_values a ≡ 1)
     by name a true e f found takes =
         let is = some_same (built_option name) a found in
-        subst (λ (x : Rule). (arg_by_id (rules ns) x.id ≡ Some x) × (most_values x ≡ 1)) is (by_id_is ns name e, refl)
+        subst (λ (x : Rule). (arg_by_id (rules ns) x.id ≡ Some x) × (most_values x ≡ 1)) is
+        (by_id_is ns name e, refl)
     by name a false e true found takes =
         let is = some_same built_flag a found in
         absurd (true≢false (sym takes ∙ ap takes_values (sym is)))

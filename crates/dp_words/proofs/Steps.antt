@@ -63,8 +63,13 @@ required (m ∷ ms) v n is all =
 
 -- one entry for each command of the table
 commands_have : (v : Values) → holds v (number_option horizon) ≡ true → EachHas v commands
-commands_have v holds =
-    ((λ off files ok. (horizon_of plan_row.options plan_row.required refl off files ok, (omega arith, omega arith))), (λ off files ok. (tt, tt), (λ off files ok. (tt, tt), tt)))
+commands_have v holds = (
+  (λ off files ok. (
+    horizon_of plan_row.options plan_row.required refl off files ok,
+    (omega arith, omega arith),
+  )),
+  (λ off files ok. (tt, tt), (λ off files ok. (tt, tt), tt)),
+)
   where
     horizon_of : (options names : List Text) → is_in (codes "horizon") names ≡ true
         → (off : Bool) (files : List Text) → fits options names v off ≡ true
@@ -115,7 +120,8 @@ job_has words job is = by (is_well_given value_names os) is
     os : List Given
     os = options_of may_be_value words
 
-    by : (b : Bool) → cond b (job_of_values (value_in os) (is_given os no_merge) (plain_of may_be_value words)) None
+    by : (b : Bool) → cond b (job_of_values (value_in os) (is_given os no_merge)
+        (plain_of may_be_value words)) None
         ≡ Some job
         → IsRunnable job
     by true is = values_have (value_in os) (is_given os no_merge) (plain_of may_be_value words) job is

@@ -23,7 +23,8 @@ pub or_else_nil : (a : Kinds) → or_else a [] ≡ a
 or_else_nil [] = refl
 or_else_nil (k ∷ ks) = refl
 
-passes_both : {X : Type 0} (a b : Kinds) (x : Option X) → if_passes (or_else a b) x ≡ if_passes a (if_passes b x)
+passes_both : {X : Type 0} (a b : Kinds) (x : Option X) → if_passes (or_else a b) x
+    ≡ if_passes a (if_passes b x)
 passes_both [] b x = refl
 passes_both (k ∷ ks) b x = refl
 
@@ -193,7 +194,8 @@ module _ (c : List Rule) where
   end_rows w words = if_passes (walk_fault built_shape [] w words) (end_of (fold (walked c []) w words).held)
 
   -- one word more
-  next_word : (w after : Walk) (word : Text) (rest : List Text) (k : Kinds) → turn_fault built_shape [] w word ≡ k
+  next_word : (w after : Walk) (word : Text) (rest : List Text) (k : Kinds)
+      → turn_fault built_shape [] w word ≡ k
       → walked c [] w word ≡ after
       → end_rows w (word ∷ rest) ≡ if_passes k (end_rows after rest)
   unfolding walk_fault
@@ -265,11 +267,13 @@ module _ (c : List Rule) where
       ∙ settle_run rows p (given built_plain (word ∷ []) ∷ plain_uses rest)
 
   -- a word that is `--`
-  ends_turn : (rows : List Row) (p : Pending) (waiting : Waiting) (word : Text) → bytes_eq word (45 ∷ 45 ∷ []) ≡ true
+  ends_turn : (rows : List Row) (p : Pending) (waiting : Waiting) (word : Text)
+      → bytes_eq word (45 ∷ 45 ∷ []) ≡ true
       → turn_fault built_shape [] (at rows p waiting false) word ≡ []
   ends_turn rows p waiting word is = rw (no_subcommand waiting word, is) refl
 
-  ends_walk : (rows : List Row) (p : Pending) (waiting : Waiting) (word : Text) → bytes_eq word (45 ∷ 45 ∷ []) ≡ true
+  ends_walk : (rows : List Row) (p : Pending) (waiting : Waiting) (word : Text)
+      → bytes_eq word (45 ∷ 45 ∷ []) ≡ true
       → walked c [] (at rows p waiting false) word ≡ at rows p waiting true
   unfolding walked
   ends_walk rows p waiting word is = rw (no_subcommand waiting word, is) refl
@@ -346,7 +350,8 @@ module _ (c : List Rule) where
   -- short flags, none of which there is
   short_turn : (t : Table) (rows : List Row) (p : Pending) (waiting : Waiting) (word flags : Text) (x y : ℕ)
       → IsShort word x flags
-      → slice_get (chars (x ∷ flags)) 0 ≡ Some y → Fails (turn_fault built_shape [] (at rows p waiting false) word)
+      → slice_get (chars (x ∷ flags)) 0 ≡ Some y → Fails (turn_fault built_shape [] (at rows p waiting false)
+      word)
   unfolding flags_fault
   short_turn t rows p waiting word flags x y is first =
       (kind.UnknownArgument, [], rw (no_subcommand waiting word, is.0, is.1, is.2, first, t.by_short y) refl)
@@ -371,7 +376,8 @@ module _ (c : List Rule) where
   unfolding walked
   plain_after t rows p (option id) word is free = cc
   plain_after t rows p idle word is free = rw (is.0, is.1, is.2) (value_walk t rows p idle false word)
-  plain_after t rows p positional word is free = rw (is.0, is.1, is.2) (value_walk t rows p positional false word)
+  plain_after t rows p positional word is free = rw (is.0, is.1, is.2)
+      (value_walk t rows p positional false word)
 
   -- a plain word that an option takes for its value
   taken_turn : (rows : List Row) (a : Rule) (word : Text) → IsPlainWord word
@@ -428,7 +434,8 @@ module _ (c : List Rule) where
   tail_of s rest = uses_by s None [] rest (uses rest)
 
   -- a long flag, by what its name finds
-  found_long : (t : Table) (rows : List Row) (p : Pending) (waiting : Waiting) (word name : Text) (v : Option Text)
+  found_long : (t : Table) (rows : List Row) (p : Pending) (waiting : Waiting) (word name : Text)
+      (v : Option Text)
       (rest : List Text) (o : Option Rule)
       → arg_by_long c name ≡ o → IsLong word name v → Free rest → Wait rest
       → end_rows (at rows p waiting false) (word ∷ rest)
@@ -473,7 +480,8 @@ module _ (c : List Rule) where
       → Free rest → Wait rest → end_rows (at rows p waiting false) (word ∷ rest)
       ≡ run rows (pending_uses p ++ tail_of (sort_of_view v) rest)
   flagged t rows p waiting word rest (an_end e) other free wait =
-      next_word (at rows p waiting false) (at rows p waiting true) word rest [] (ends_turn rows p waiting word e)
+      next_word (at rows p waiting false) (at rows p waiting true) word rest []
+      (ends_turn rows p waiting word e)
       (ends_walk rows p waiting word e)
       ∙ trailing_is t rows p waiting rest
   flagged t rows p waiting word rest (a_long name v is) other free wait =

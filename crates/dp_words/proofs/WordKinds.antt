@@ -53,7 +53,8 @@ attached_two es = ap (λ xs. cond (list_any is_equals es) (Some xs) None) (after
 swap_test : (x y : ℕ) → (x == y) ≡ false → (y == x) ≡ false
 swap_test x y e = grind (arith, nat_tests)
 
-no_two : (d : ℕ) (ds name : Text) → (d == 45) ≡ false → bytes_eq (45 ∷ 45 ∷ name) (name_of (45 ∷ d ∷ ds)) ≡ false
+no_two : (d : ℕ) (ds name : Text) → (d == 45) ≡ false → bytes_eq (45 ∷ 45 ∷ name) (name_of (45 ∷ d ∷ ds))
+    ≡ false
 no_two d ds name e = by (is_equals d) refl
   where
     other : (45 == d) ≡ false

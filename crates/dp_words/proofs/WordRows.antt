@@ -74,17 +74,20 @@ value_of_files = refl
 value_without_policy : job_of (codes "value" ∷ codes "m" ∷ []) ≡ None
 value_without_policy = refl
 
-value_with_a_horizon : job_of (codes "value" ∷ codes "m" ∷ codes "p" ∷ codes "--horizon" ∷ codes "1" ∷ []) ≡ None
+value_with_a_horizon : job_of (codes "value" ∷ codes "m" ∷ codes "p" ∷ codes "--horizon" ∷ codes "1" ∷ [])
+    ≡ None
 unfolding is_index
 value_with_a_horizon = refl
 
 -- ---- what is refused
 
-given_twice : job_of (codes "plan" ∷ codes "m" ∷ codes "--horizon=1" ∷ codes "--horizon" ∷ codes "1" ∷ []) ≡ None
+given_twice : job_of (codes "plan" ∷ codes "m" ∷ codes "--horizon=1" ∷ codes "--horizon" ∷ codes "1" ∷ [])
+    ≡ None
 unfolding is_index
 given_twice = refl
 
-option_of_no_command : job_of (codes "plan" ∷ codes "m" ∷ codes "--horizon" ∷ codes "1" ∷ codes "--no-merge" ∷ [])
+option_of_no_command : job_of (codes "plan" ∷ codes "m" ∷ codes "--horizon" ∷ codes "1" ∷ codes
+    "--no-merge" ∷ [])
     ≡ None
 unfolding is_index
 option_of_no_command = refl

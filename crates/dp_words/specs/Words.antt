@@ -98,19 +98,21 @@ command_row word files options required job =
 
 -- `plan MODEL`: what no word sets has its default
 abbrev pub plan_row : CommandRow
-plan_row = command_row (codes "plan") 1 (codes "horizon" ∷ []) (codes "horizon" ∷ []) (λ read file. Plan (record {
-  model = file 0;
-  version = 1;
-  horizon = read.number horizon;
-  nodes = 100000;
-  look = 1;
-  merge = read.merge;
-  order = First;
-}))
+plan_row = command_row (codes "plan") 1 (codes "horizon" ∷ []) (codes "horizon" ∷ [])
+    (λ read file. Plan (record {
+      model = file 0;
+      version = 1;
+      horizon = read.number horizon;
+      nodes = 100000;
+      look = 1;
+      merge = read.merge;
+      order = First;
+    }))
 
 -- `value MODEL POLICY`
 abbrev pub value_row : CommandRow
-value_row = command_row (codes "value") 2 [] [] (λ read file. Value (record { model = file 0; policy = file 1 }))
+value_row = command_row (codes "value") 2 [] [] (λ read file. Value
+    (record { model = file 0; policy = file 1 }))
 
 -- `check MODEL CERT`
 abbrev pub check_row : CommandRow

@@ -28,7 +28,8 @@ returns c =
     c.in_ok-push_quality.ensures
     c.in_ok-push_quality-2.ensures
     c.in_ok-push_quality-3.ensures
-    (c.in_ok-push_counts.ensures ∙ ap (λ u. c.push_quality-3.new.text.items ++ counts_text c.args.repaired u) unit)
+    (c.in_ok-push_counts.ensures ∙ ap (λ u. c.push_quality-3.new.text.items ++ counts_text c.args.repaired u)
+    unit)
     (c.in_ok-push_end.ensures ∙
     (λ i. c.push_counts.new.text.items ++ end_text (codes "lower ") (lower i) (unit i) false))
     (c.in_ok-push_end-2.ensures ∙

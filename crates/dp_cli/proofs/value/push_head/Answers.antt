@@ -16,7 +16,8 @@ returns c =
     let unit = c.as_bytes-3.ensures.value ∙ c.format-2.ensures.text
     ∙ ap signed_decimal (to_z-of_z w128 c.args.unit c.ranges.unit) in
     head_pushed c.args.text.now.items c.extend_from_slice.new.self.items c.extend_from_slice-2.new.self.items
-    c.extend_from_slice-3.new.self.items c.extend_from_slice-4.new.self.items c.extend_from_slice-5.new.self.items
+    c.extend_from_slice-3.new.self.items c.extend_from_slice-4.new.self.items
+    c.extend_from_slice-5.new.self.items
     c.extend_from_slice-6.new.self.items c.push.new.self.items
     (codes "repaired ") (decimal c.args.repaired) (codes "\nmode ") (mode_word c.args.exact) (codes "\nunit ")
     (signed_decimal c.args.unit) (10 ∷ [])

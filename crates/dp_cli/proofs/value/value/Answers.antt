@@ -10,7 +10,8 @@ use Rattle.dp_cli.proofs.value.value.Goals as goal
 pub returns-in_err-read : goal.returns-in_err-read
 returns-in_err-read g c =
     let exit = err_from_is_err_and c.from_residual.result c.from_residual.ensures.1 in
-    rw (exit.1, exit.2) (lacks_model _ c.in_err-read.field-0.0 (λ m. None) refl (λ text. refl) c.in_err-read.ensures)
+    rw (exit.1, exit.2) (lacks_model _ c.in_err-read.field-0.0 (λ m. None) refl (λ text. refl)
+    c.in_err-read.ensures)
 
 pub returns-in_err-text : goal.returns-in_err-text
 returns-in_err-text g c =
@@ -25,6 +26,7 @@ returns g c =
     has_model _ c.in_ok-read.read refl c.in_ok-read.ensures
     (λ text means. works_on (record { name = c.args.job.now.policy; role = Second })
     c.in_ok-text.text c.value_of.result
-    (ap (λ (meant : Meaning). model_fault (λ m. None) meant) means) c.in_ok-text.ensures.fetched c.deref.ensures.value
+    (ap (λ (meant : Meaning). model_fault (λ m. None) meant) means)
+    c.in_ok-text.ensures.fetched c.deref.ensures.value
     (gives_of_model text (policy_fault c.deref.result.now) c.value_of.result means
     (λ t worth. record { read = _; meant = means; worth = worth }) c.value_of.ensures))

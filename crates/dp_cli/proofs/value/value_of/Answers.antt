@@ -17,7 +17,8 @@ pub returns-in_err-policy : goal.returns-in_err-policy
 returns-in_err-policy c =
     let exit = err_from_is_err_and c.from_residual.result c.from_residual.ensures.1 in
     rw (exit.1, exit.2)
-    (stops_reading c.args.read.now.model.model c.invariant.ensures.model c.args.bytes.now c.in_err-policy.field-0.0
+    (stops_reading c.args.read.now.model.model c.invariant.ensures.model c.args.bytes.now
+    c.in_err-policy.field-0.0
     c.in_err-policy.ensures.err)
 
 -- the horizon, the mode and the unit of the room are those of the policy
@@ -27,7 +28,8 @@ horizon_is c = ap (λ (f : Fit). f.horizon) c.in_ok-fit.ensures.fit ∙ c.horizo
 exact_is : (c : goal.After-worth-worth)
     → c.in_ok-room.room.fit.exact ≡ is_exact_mode c.args.read.now.model.model c.in_ok-policy.policy.horizon
 exact_is c =
-    ap (λ (f : Fit). f.exact) c.in_ok-room.ensures.fit ∙ ap (is_exact_mode c.args.read.now.model.model) (horizon_is c)
+    ap (λ (f : Fit). f.exact) c.in_ok-room.ensures.fit ∙ ap (is_exact_mode c.args.read.now.model.model)
+    (horizon_is c)
 
 unit_is : (c : goal.After-worth-worth)
     → c.worth-worth.result.unit ≡ pos (unit_of c.args.read.now.model.model c.in_ok-policy.policy.horizon)
@@ -43,7 +45,8 @@ ends c =
     let p = c.in_ok-policy.policy in
     worth_fits m c.invariant.ensures.model p.horizon c.in_ok-policy.ensures.within c.in_ok-room.room.fit.exact
     (exact_is c)
-    (joint_policy p) c.in_ok-policy.ensures.ok.0.policy (ends_of c.worth-worth.result) c.worth-worth.ensures.sums
+    (joint_policy p) c.in_ok-policy.ensures.ok.0.policy (ends_of c.worth-worth.result)
+    c.worth-worth.ensures.sums
 
 pub worth_text-requires-clause-low : goal.worth_text-requires-clause-low
 worth_text-requires-clause-low c = (ends c).0
@@ -82,6 +85,7 @@ returns c =
         horizon = p.horizon;
         trees = joint_policy p;
         says = answer.0;
-        tells = c.in_ok-worth_text.ensures ∙ (λ i. value_text c.args.read.now.repaired (mode i) (unit i) (sums i));
+        tells = c.in_ok-worth_text.ensures ∙ (λ i. value_text c.args.read.now.repaired (mode i) (unit i)
+            (sums i));
       },
     )

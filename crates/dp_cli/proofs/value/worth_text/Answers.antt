@@ -19,6 +19,9 @@ returns c =
     (head_text c.args.repaired c.args.exact w.unit) (end_text (codes "low ") w.low w.unit false)
     (end_text (codes "high ") w.high w.unit true)
     c.new-text.ensures.items
-    (c.in_ok-push_head.ensures ∙ ap (λ u. c.new-text.result.items ++ head_text c.args.repaired c.args.exact u) unit)
-    (c.in_ok-push_end.ensures ∙ (λ i. c.push_head.new.text.items ++ end_text (codes "low ") (low i) (unit i) false))
-    (c.in_ok-push_end-2.ensures ∙ (λ i. c.push_end.new.text.items ++ end_text (codes "high ") (high i) (unit i) true))
+    (c.in_ok-push_head.ensures ∙ ap (λ u. c.new-text.result.items
+    ++ head_text c.args.repaired c.args.exact u) unit)
+    (c.in_ok-push_end.ensures ∙ (λ i. c.push_head.new.text.items
+    ++ end_text (codes "low ") (low i) (unit i) false))
+    (c.in_ok-push_end-2.ensures ∙ (λ i. c.push_end.new.text.items
+    ++ end_text (codes "high ") (high i) (unit i) true))

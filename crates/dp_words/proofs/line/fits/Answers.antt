@@ -23,9 +23,11 @@ returns c =
     let names_are : map (λ n. n.now) c.as_slice.result.now ≡ value_names = search rules in
     let allowed : list_all (is_allowed (map (λ n. n.now) c.args.options.now) (values_of c.args.given.now))
     (map (λ n. n.now) c.as_slice.result.now) ≡ true = search rules in
-    let all : list_all (is_allowed (map (λ n. n.now) c.args.options.now) (values_of c.args.given.now)) value_names
+    let all : list_all (is_allowed (map (λ n. n.now) c.args.options.now) (values_of c.args.given.now))
+    value_names
     ≡ true =
-    ap (λ (ns : List Text). list_all (is_allowed (map (λ n. n.now) c.args.options.now) (values_of c.args.given.now))
+    ap (λ (ns : List Text). list_all (is_allowed (map (λ n. n.now) c.args.options.now)
+    (values_of c.args.given.now))
     ns) (sym names_are) ∙ allowed in
     let among : merging_off c.args.given.now ≡ true
     → list_any (λ n. bytes_eq n (codes "no-merge")) (map (λ n. n.now) c.args.options.now) ≡ true = λ off.

@@ -18,4 +18,5 @@ returns-in_default-2 c =
 
 pub returns-in_default-3 : goal.returns-in_default-3
 returns-in_default-3 c =
-    number_high c.args.least c.args.most c.args.word.now (search rules) (search rules) c.in_default.ensures.value.0
+    number_high c.args.least c.args.most c.args.word.now (search rules) (search rules)
+    c.in_default.ensures.value.0

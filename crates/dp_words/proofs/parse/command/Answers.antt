@@ -22,4 +22,5 @@ returns c =
     c.in_ok-with_options.ensures ∙ ap₂ with_options empty_is names_are in
     let flag_added : app_of c.in_ok-arg.field-0 ≡ with_rule (with_options empty_app value_names) flag_rule =
     c.in_ok-arg.ensures.shape (search rules) ∙ ap₂ with_rule options_are flag_is in
-    IfOk-weaker c.arg-2.result _ _ (λ m h. h.shape (search rules) ∙ ap₂ with_rule flag_added plain_is) c.arg-2.ensures
+    IfOk-weaker c.arg-2.result _ _ (λ m h. h.shape (search rules) ∙ ap₂ with_rule flag_added plain_is)
+    c.arg-2.ensures

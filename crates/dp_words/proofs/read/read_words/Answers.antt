@@ -8,10 +8,19 @@ returns-in_err-given c =
     let words = map string_bytes c.args.words.now in
     let read = fault_up words c.from_residual.result c.in_err-given.field-0.0 c.from_residual.ensures.1
     c.in_err-given.ensures in
-    record { read = read; some_step = read_has words c.from_residual.result read; look = read_looks words c.from_residual.result read }
+    record {
+      read = read;
+      some_step = read_has words c.from_residual.result read;
+      look = read_looks words c.from_residual.result read;
+    }
 
 pub returns : goal.returns
 returns c =
     let words = map string_bytes c.args.words.now in
-    let read = told_as words c.in_ok-given.given c.matches_job.result c.in_ok-given.ensures c.matches_job.ensures in
-    record { read = read; some_step = read_has words c.matches_job.result read; look = read_looks words c.matches_job.result read }
+    let read = told_as words c.in_ok-given.given c.matches_job.result c.in_ok-given.ensures
+    c.matches_job.ensures in
+    record {
+      read = read;
+      some_step = read_has words c.matches_job.result read;
+      look = read_looks words c.matches_job.result read;
+    }
