@@ -149,5 +149,32 @@ answers 'a number that begins with 0' 2 'refused usage' plan short --horizon 01
 answers 'a number with a sign' 2 'refused usage' plan short --horizon +1
 answers 'a number that is out of range' 2 'refused usage' plan short --horizon 4294967296
 
+# The certificates that come with the repository: each is closed, so its interval is one point.
+printf 'accepted\nclosed yes\n' >want
+for certificate in "$root"/certificates/*.cert; do
+    name=$(basename "$certificate" .cert)
+    limited check "$root/models/${name%-*}.dpomdp" "$certificate" >text 2>err </dev/null
+    echo $? >status
+    head -n 2 text >out
+    judge "the certificate $name" 0
+done
+# One that says more than it shows, and one of another model.
+sed 's/^upper .*/upper 1/' "$root/certificates/tiger-2.cert" >upper
+answers 'a certificate with another upper end' 1 'rejected upper -3200000000' check "$root/models/tiger.dpomdp" upper
+answers 'a certificate for another model' 4 'refused file line 12 shape' \
+    check "$root/models/solo.dpomdp" "$root/certificates/tiger-2.cert"
+
+# The policy that comes with the repository, and a text that is none.
+printf '%s\n' 'repaired 0' 'mode exact' 'unit 16000000000000' 'low 83053000000000 5.190812' \
+    'high 83053000000000 5.190813' >want
+limited value "$root/models/tiger.dpomdp" "$root/policies/tiger-3.policy" >out 2>err </dev/null
+echo $? >status
+judge 'the policy tiger-3' 0
+answers 'a policy file that is none' 4 'refused file line 1 shape' value "$root/models/tiger.dpomdp" short
+answers 'a second file that is missing' 6 'refused read 2' value "$root/models/tiger.dpomdp" missing
+dd if=/dev/null of=long-policy bs=1 seek=268435457 count=0 2>err
+answers 'a second file of one byte too many' 5 'refused large file-bytes 268435457' \
+    check "$root/models/tiger.dpomdp" long-policy
+
 echo "$passed passed, $failed failed"
 [ "$failed" = 0 ]
