@@ -15,7 +15,8 @@ plain-requires-clause-policy c =
     (subst (λ (qs : List PolicyTree). IsPolicyOf m c.args.fit.horizon qs) (sym c.in_ok-policy.ensures.policy)
     (constant_policy_fits m c.invariant.ensures.model c.args.fit.horizon c.args.action c.requires.action))
 
-first_kept : (c : goal.After-drop-policy-inside-then-version-eq1) → IsFormOf c.args.model.now.model c.args.fit c.args.version
+first_kept : (c : goal.After-drop-policy-inside-then-version-eq1)
+    → IsFormOf c.args.model.now.model c.args.fit c.args.version
     (constant_policy c.args.model.now.model c.args.fit.horizon c.args.action) c.in_ok-rows.rows
 first_kept c =
     let m = c.args.model.now.model in

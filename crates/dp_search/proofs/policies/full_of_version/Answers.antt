@@ -11,7 +11,8 @@ kept c =
     let m = c.args.model.now.model in
     let h = c.args.fit.horizon in
     let qs = full_policy m c.args.front.now.front in
-    let of_front = subst (λ (z : ℕ). IsPolicyOf m z (joint_policy c.in_ok-policy.policy)) c.requires.horizon c.in_ok-policy.ensures.of_model in
+    let of_front = subst (λ (z : ℕ). IsPolicyOf m z (joint_policy c.in_ok-policy.policy)) c.requires.horizon
+    c.in_ok-policy.ensures.of_model in
     let of_model : IsPolicyOf m h qs = subst (λ (rs : List PolicyTree). IsPolicyOf m h rs)
     c.in_ok-policy.ensures.policy of_front in
     plain_made m c.args.fit c.args.version qs c.invariant.ensures.model c.requires.first c.requires.within of_model
