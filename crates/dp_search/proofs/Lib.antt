@@ -8,3 +8,5 @@ pub mod FrontSteps
 pub mod UpperWeights
 pub mod SpreadSteps
 pub mod PlaceLists
+pub mod WideNodes
+pub mod VersionPolicies

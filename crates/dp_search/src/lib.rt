@@ -13,10 +13,12 @@ mod look;
 mod options;
 mod place;
 mod planner;
+mod policies;
 mod search;
 mod state;
 #[cfg(test)]
 mod tests;
+mod wide;
 
 pub use chooser::Chooser;
 pub use front_places::places;
