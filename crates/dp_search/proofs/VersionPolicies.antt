@@ -17,7 +17,8 @@ use Rattle.dp_search.specs.FrontPlanners.{IsPlannerPolicy, planner_worth}
 use Rattle.dp_search.proofs.ConstantPolicies.{second_worth}
 
 -- what is kept of rows that mean a joint policy, in the form of a version
-pub record IsFormOf (m : Model) (fit : Fit) (version : ℕ) (qs : List PolicyTree) (p : HorizonRows) : Type 0 where
+pub record IsFormOf (m : Model) (fit : Fit) (version : ℕ) (qs : List PolicyTree)
+    (p : HorizonRows) : Type 0 where
   pub policy : IsPlannerPolicy m fit.horizon version p
   pub means : unfolded p.rows ≡ qs
   pub worth : planner_worth m fit p ≡ low_worth (arithmetic fit.exact m.scales) m version fit.horizon qs
@@ -29,7 +30,10 @@ pub plain_kept : (m : Model) (fit : Fit) (version : ℕ) (qs : List PolicyTree) 
 unfolding low_worth form_in
 plain_kept m fit version qs is one within policy =
     let are = plain_form_is m fit.horizon qs is within.some_step within.stage_cells policy in
-    subst (λ (v : ℕ). IsFormOf m fit v qs (record { horizon = fit.horizon; rows = plain_form m fit.horizon qs }))
+    subst (λ (v : ℕ). IsFormOf m fit v qs (record {
+      horizon = fit.horizon;
+      rows = plain_form m fit.horizon qs;
+    }))
     (sym one) (record {
       policy = record {
         horizon = refl;

@@ -15,7 +15,8 @@ kept c =
     c.in_ok-policy.ensures.of_model in
     let of_model : IsPolicyOf m h qs = subst (λ (rs : List PolicyTree). IsPolicyOf m h rs)
     c.in_ok-policy.ensures.policy of_front in
-    plain_made m c.args.fit c.args.version qs c.invariant.ensures.model c.requires.first c.requires.within of_model
+    plain_made m c.args.fit c.args.version qs c.invariant.ensures.model c.requires.first c.requires.within
+    of_model
     _ _ (c.in_ok-policy.ensures.horizon ∙ c.requires.horizon) c.in_ok-policy.ensures.policy c.in_ok-rows.rows
     c.in_ok-rows.ensures
 
