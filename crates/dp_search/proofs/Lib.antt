@@ -8,3 +8,6 @@ pub mod FrontSteps
 pub mod UpperWeights
 pub mod SpreadSteps
 pub mod PlaceLists
+pub mod UnfinishedFronts
+pub mod BranchPlaces
+pub mod Expansions
