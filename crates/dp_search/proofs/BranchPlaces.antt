@@ -51,7 +51,8 @@ module _ (A : Arithmetic) (m : Model) (h look : ℕ) (F : Front) where
       → All IsFree (places_below A m h look F i n)
   free_below i zero agent le = λ k d lt. absurd (omega arith)
   free_below i (suc n) agent le =
-      free_more i n agent (omega arith) (free_below i n agent (omega arith)) (get_or (chosen_of F i) n None) refl
+      free_more i n agent (omega arith) (free_below i n agent (omega arith)) (get_or (chosen_of F i) n None)
+      refl
 
   free_agents : (n : ℕ) → n ≤ length F.agents
       → All IsFree (flat_map (agent_places_of A m h look F) (range_with_len 0 n))

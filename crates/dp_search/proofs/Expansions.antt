@@ -178,8 +178,12 @@ module _ (m : Model) (h : ℕ) (opts : PlanOpts) (k : KeptFront) (is : IsPlanner
       let own = length-map-range_with_len (front_after_choice m k.front i c) 0 (get_or m.actions i 0) in
       let some = some_action m k.horizon k.front i c is.of_model.model is.of_model.front free in
       let few = within_widest m.actions i in
-      expands May x (Branch i c) step fronts children
-      (lt, free, (λ merging exact. no_pair merging (same_mode ∙ mode_of (is_exact_mode m h) m.scales exact)), picked)
+      expands May x (Branch i c) step fronts children (
+        lt,
+        free,
+        (λ merging exact. no_pair merging (same_mode ∙ mode_of (is_exact_mode m h) m.scales exact)),
+        picked,
+      )
       (omega (arith, many, own, some)) (omega (arith, many, own, few))
 
   pub merge_expands : (May : List Place → ℕ → Type 0) (x : Expanded KeptFront) (i a b : ℕ)

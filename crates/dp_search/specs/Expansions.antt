@@ -18,7 +18,8 @@ use Rattle.dp_search.specs.FrontPlanners.{IsPlannerFront}
 -- each has a class without an action.
 pub record IsExpansion (S : Space) (m : Model) (h width : ℕ) (F : Front) (x : Expanded KeptFront) : Type 0 where
   pub of_planner : All (λ (c : Child KeptFront). IsPlannerFront m h c.front) x.children.items
-  pub unfinished : All (λ (c : Child KeptFront). c.front.front.stage < h → is_complete c.front.front.agents ≡ false)
+  pub unfinished : All (λ (c : Child KeptFront). c.front.front.stage < h
+      → is_complete c.front.front.agents ≡ false)
       x.children.items
   pub allowed : S.May F x.step
   pub fronts : map (λ (c : Child KeptFront). c.front.front) x.children.items ≡ S.next F x.step

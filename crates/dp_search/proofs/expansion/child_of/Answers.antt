@@ -9,12 +9,14 @@ use Rattle.dp_search.proofs.expansion.child_of.Goals as goal
 pub chosen_bound-bound-requires-clause-agent : goal.chosen_bound-bound-requires-clause-agent
 chosen_bound-bound-requires-clause-agent c =
     (unassigned_in_game c.args.model.now.model c.args.bounder.now.horizon c.args.bounder.now.look
-    c.args.front.now.front c.args.game.now c.requires.game c.args.agent c.args.class c.requires.unassigned).agent
+    c.args.front.now.front c.args.game.now c.requires.game c.args.agent c.args.class
+    c.requires.unassigned).agent
 
 pub chosen_bound-bound-requires-clause-class : goal.chosen_bound-bound-requires-clause-class
 chosen_bound-bound-requires-clause-class c =
     (unassigned_in_game c.args.model.now.model c.args.bounder.now.horizon c.args.bounder.now.look
-    c.args.front.now.front c.args.game.now c.requires.game c.args.agent c.args.class c.requires.unassigned).class
+    c.args.front.now.front c.args.game.now c.requires.game c.args.agent c.args.class
+    c.requires.unassigned).class
 
 pub chosen_bound-bound-requires-clause-unassigned : goal.chosen_bound-bound-requires-clause-unassigned
 chosen_bound-bound-requires-clause-unassigned c =
@@ -43,7 +45,8 @@ returns-in_ok-bound-clause-child c =
     let look = c.args.bounder.now.look in
     let k = c.args.front.now in
     let next = c.in_ok-next.next in
-    let is = next_of_planner m h look k c.requires.front c.requires.stage c.args.agent c.args.class c.args.action
+    let is = next_of_planner m h look k c.requires.front c.requires.stage c.args.agent c.args.class
+    c.args.action
     next c.in_ok-next.ensures.front c.in_ok-next.ensures.of_planner in
     next_is_child m h look k c.requires.front c.requires.stage c.args.agent c.args.class c.args.action next
     c.in_ok-next.ensures.front c.in_ok-next.ensures.of_planner _

@@ -21,6 +21,7 @@ loop-action-preserved c =
       rw c.in_ok-push.ensures.items (child_more (λ (x : Child KeptFront). x.front.front)
           (front_after_choice m c.args.front.now.front c.args.agent c.args.class) c.loop-action.action kept
           c.in_ok-child.child c.loop-action.invariant.1 c.in_ok-child.ensures.front),
-      rw c.in_ok-push.ensures.items (all_more (IsChild m c.args.bounder.now.horizon c.args.bounder.now.look) kept
+      rw c.in_ok-push.ensures.items (all_more (IsChild m c.args.bounder.now.horizon c.args.bounder.now.look)
+          kept
           c.in_ok-child.child c.loop-action.invariant.2 c.in_ok-child.ensures.child),
     )
