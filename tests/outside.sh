@@ -164,6 +164,23 @@ answers 'a certificate with another upper end' 1 'rejected upper -3200000000' ch
 answers 'a certificate for another model' 4 'refused file line 12 shape' \
     check "$root/models/solo.dpomdp" "$root/certificates/tiger-2.cert"
 
+# Every proper prefix of a certificate has the fault 'shape' at the line of the cut.
+limited plan "$root/models/tiger.dpomdp" --horizon 1 >whole 2>err </dev/null
+: >out
+: >want
+: >err
+echo 0 >status
+bytes=$(wc -c <whole)
+kept=0
+while [ "$kept" -lt "$bytes" ]; do
+    head -c "$kept" whole >cut
+    limited check "$root/models/tiger.dpomdp" cut >>out 2>>err </dev/null
+    [ $? = 4 ] || echo 1 >status
+    echo "refused file line $(($(wc -l <cut) + 1)) shape" >>want
+    kept=$((kept + 1))
+done
+judge 'every proper prefix of a certificate' 0
+
 # The policy that comes with the repository, and a text that is none.
 printf '%s\n' 'repaired 0' 'mode exact' 'unit 16000000000000' 'low 83053000000000 5.190812' \
     'high 83053000000000 5.190813' >want
