@@ -26,12 +26,12 @@ full_bound A m h look F full =
 
 -- ---- after a choice
 
-after_complete : (m : Model) (F : Front) (i c a : ℕ) → is_complete (chosen_front F i c a).agents ≡ true
+pub after_complete : (m : Model) (F : Front) (i c a : ℕ) → is_complete (chosen_front F i c a).agents ≡ true
     → front_after_choice m F i c a ≡ advanced_front m (chosen_front F i c a)
 unfolding front_after_choice
 after_complete m F i c a e = ap (advanced_if m (chosen_front F i c a)) e
 
-after_incomplete : (m : Model) (F : Front) (i c a : ℕ) → is_complete (chosen_front F i c a).agents ≡ false
+pub after_incomplete : (m : Model) (F : Front) (i c a : ℕ) → is_complete (chosen_front F i c a).agents ≡ false
     → front_after_choice m F i c a ≡ chosen_front F i c a
 unfolding front_after_choice
 after_incomplete m F i c a e = ap (advanced_if m (chosen_front F i c a)) e

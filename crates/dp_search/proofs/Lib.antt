@@ -10,3 +10,6 @@ pub mod SpreadSteps
 pub mod PlaceLists
 pub mod WideNodes
 pub mod VersionPolicies
+pub mod UnfinishedFronts
+pub mod BranchPlaces
+pub mod Expansions

@@ -7,3 +7,4 @@ pub mod FrontPlanners
 pub mod Toy
 pub mod GreatestLeaves
 pub mod FrontPlaces
+pub mod Expansions

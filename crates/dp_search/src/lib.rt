@@ -5,6 +5,7 @@ mod bounding;
 mod children;
 mod chooser;
 mod constants;
+mod expansion;
 mod front_places;
 mod greatest_leaf;
 mod held_leaf;

@@ -1,0 +1,26 @@
+use Rattle.std.proofs.Common.{◌∙◌, arith}
+use Rattle.dp_spec.specs.Steps.{front_after_choice}
+use Rattle.dp_cluster.specs.KeptFronts.{KeptFront}
+use Rattle.dp_cluster.proofs.ChosenActions.{agents_of}
+use Rattle.dp_cluster.proofs.FrontParts.{unassigned_in}
+use Rattle.dp_search.specs.declared.planner.Child.{Child}
+use Rattle.dp_search.specs.Expansions.{IsChild}
+use Rattle.dp_search.proofs.Expansions.{all_more, child_more}
+use Rattle.dp_search.proofs.expansion.children_of.Goals as goal
+
+pub actions-action-end-requires : goal.actions-action-end-requires
+actions-action-end-requires c =
+    let within = unassigned_in c.args.front.now.front.agents c.args.agent c.args.class c.requires.unassigned in
+    omega (arith, within.0, agents_of c.requires.front.of_model.front.agents)
+
+pub loop-action-preserved : goal.loop-action-preserved
+loop-action-preserved c =
+    let m = c.args.model.now.model in
+    let kept = c.loop-action.children.items in (
+      c.in_ok-child.ensures.game ∙ c.loop-action.invariant.0,
+      rw c.in_ok-push.ensures.items (child_more (λ (x : Child KeptFront). x.front.front)
+          (front_after_choice m c.args.front.now.front c.args.agent c.args.class) c.loop-action.action kept
+          c.in_ok-child.child c.loop-action.invariant.1 c.in_ok-child.ensures.front),
+      rw c.in_ok-push.ensures.items (all_more (IsChild m c.args.bounder.now.horizon c.args.bounder.now.look) kept
+          c.in_ok-child.child c.loop-action.invariant.2 c.in_ok-child.ensures.child),
+    )
