@@ -10,3 +10,5 @@ pub mod SpreadSteps
 pub mod PlaceLists
 pub mod WideNodes
 pub mod VersionPolicies
+pub mod PlannerFronts
+pub mod PlannedCertificates

@@ -4,6 +4,8 @@ pub mod SearchStates
 pub mod Rules
 pub mod Constants
 pub mod FrontPlanners
+pub mod FrontPlanning
+pub mod Expansions
 pub mod Toy
 pub mod GreatestLeaves
 pub mod FrontPlaces
