@@ -13,3 +13,5 @@ pub mod VersionPolicies
 pub mod UnfinishedFronts
 pub mod BranchPlaces
 pub mod Expansions
+pub mod PlannerFronts
+pub mod PlannedCertificates

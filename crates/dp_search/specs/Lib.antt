@@ -4,6 +4,7 @@ pub mod SearchStates
 pub mod Rules
 pub mod Constants
 pub mod FrontPlanners
+pub mod FrontPlanning
 pub mod Toy
 pub mod GreatestLeaves
 pub mod FrontPlaces
