@@ -62,4 +62,5 @@ module _ (m : Model) (May : List Place → ℕ → Type 0) (fit : Fit) (opts : P
 
   pub certificate_is_planned : (given : Certificate) → given ≡ c
       → IsPlanned m May fit.horizon (asked_for opts) given
-  certificate_is_planned given is = subst (IsPlanned m May fit.horizon (asked_for opts)) (sym is) found_is_planned
+  certificate_is_planned given is = subst (IsPlanned m May fit.horizon (asked_for opts)) (sym is)
+      found_is_planned
