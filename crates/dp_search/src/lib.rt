@@ -1,4 +1,4 @@
-//! Best-first search for a bound tree, over any space of fronts.
+//! Best-first search for a bound tree, over any space of fronts, and the planner over the fronts of a model.
 #![tactic(auto)]
 
 mod bounding;
