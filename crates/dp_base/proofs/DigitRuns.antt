@@ -1,5 +1,6 @@
 -- The digits at the front of a text, one by one.
-use Rattle.std.proofs.Common.{◌≡◌, ℕ, ◌+◌, ◌-◌, ◌<◌, ◌≤◌, true, false, leb, inl, inr, List, [], ◌∷◌, ◌++◌, length, get_or, take, sym, ap, subst, ◌∙◌, append_assoc, arith}
+use Rattle.std.proofs.Common.{◌≡◌, ℕ, ◌+◌, ◌-◌, ◌<◌, ◌≤◌, true, false, leb, inl, inr, List, [], ◌∷◌, ◌++◌, length,
+    get_or, take, sym, ap, subst, ◌∙◌, append_assoc, arith}
 use Rattle.std.specs.Char.{is_ascii_digit}
 use Rattle.std.specs.List.{prefix_len}
 use Rattle.std.proofs.lemmas.Bool.{and_parts, leb-true}
@@ -22,7 +23,8 @@ pub run_more : (text : List ℕ) (i : ℕ) → i ≤ prefix_len is_ascii_digit t
     → is_ascii_digit (get_or text i 0) ≡ true → i + 1 ≤ prefix_len is_ascii_digit text
 run_more text i le lt digit =
     elim (equal_or_less i (prefix_len is_ascii_digit text) le) [
-      | inl e ↦ let stop = prefix_len_stops is_ascii_digit text 0 (omega arith) in let here = rw (← e) at stop in absurd cc
+      | inl e ↦ let stop = prefix_len_stops is_ascii_digit text 0 (omega arith) in let here = rw (← e) at stop in
+            absurd cc
       | inr more ↦ omega arith
     ]
 
@@ -41,13 +43,15 @@ pub run_end : (text : List ℕ) (i : ℕ) → i ≤ prefix_len is_ascii_digit te
 run_end text i le end = omega (arith, prefix_len-le-length is_ascii_digit text)
 
 -- a significand of the first digits and one more
-pub seen_more : (ds text : List ℕ) (i : ℕ) (s : Significand) → i < length text → is_ascii_digit (get_or text i 0) ≡ true
+pub seen_more : (ds text : List ℕ) (i : ℕ) (s : Significand) → i < length text
+    → is_ascii_digit (get_or text i 0) ≡ true
     → IsSeen ((ds ++ take i text) ++ (48 + (get_or text i 0 - 48)) ∷ []) s → IsSeen (ds ++ take (i + 1) text) s
 seen_more ds text i s lt digit seen =
     let low = digit_low (get_or text i 0) digit in
     let back : 48 + (get_or text i 0 - 48) ≡ get_or text i 0 = omega arith in
     let same : (ds ++ take i text) ++ (48 + (get_or text i 0 - 48)) ∷ [] ≡ ds ++ take (i + 1) text =
-    append_assoc ds (take i text) (_ ∷ []) ∙ ap (λ b. ds ++ (take i text ++ b ∷ [])) back ∙ ap (λ (l : List ℕ). ds ++ l) (sym (take_more text i 0 lt)) in
+    append_assoc ds (take i text) (_ ∷ []) ∙ ap (λ b. ds ++ (take i text ++ b ∷ [])) back
+        ∙ ap (λ (l : List ℕ). ds ++ l) (sym (take_more text i 0 lt)) in
     subst (λ (l : List ℕ). IsSeen l s) same seen
 
 -- one of all of them

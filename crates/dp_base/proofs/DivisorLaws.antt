@@ -1,7 +1,9 @@
 -- The least common multiple by the greatest common divisor.
 use Rattle.std.proofs.Common.{◌≡◌, ℕ, zero, suc, ◌+◌, ◌*◌, ◌/◌, ◌%◌, ◌<◌, ◌≤◌, refl, sym, ap, subst, arith}
 use Rattle.std.specs.Int.{◌∣◌, IsGcd}
-use Rattle.std.proofs.Math.Nat.{dvd-add_iff_left, dvd-mod_iff, dvd-mul_left, dvd-mul_right, dvd-mul_right_of_dvd, mul-pos, mul-dvd-mul_left, mul-dvd-mul_right, div-mul_cancel, pos_of_dvd_of_pos, dvd_of_mul-dvd-mul_right, mod-add-div}
+use Rattle.std.proofs.Math.Nat.{dvd-add_iff_left, dvd-mod_iff, dvd-mul_left, dvd-mul_right, dvd-mul_right_of_dvd,
+    mul-pos, mul-dvd-mul_left, mul-dvd-mul_right, div-mul_cancel, pos_of_dvd_of_pos, dvd_of_mul-dvd-mul_right,
+    mod-add-div}
 use Rattle.std.proofs.lemmas.Nat.Gcd.{same_from_IsGcd, IsGcd-from_zero, IsGcd-from_mod, dvd_antisymm, le_of_dvd}
 use Rattle.dp_base.specs.Divisors.{IsLcm, gcd_within, gcd_of, lcm_of}
 
@@ -11,10 +13,12 @@ IsGcd-mod a b g h = (h.1, (dvd-mod_iff g h.1).1 h.0, λ d p q. h.2 d ((dvd-mod_i
 
 -- what divides both multiples divides the multiple of the greatest common divisor
 pub dvd-scaled : (steps n a b g d : ℕ) → b ≤ steps → IsGcd a b g → d ∣ n * a → d ∣ n * b → d ∣ n * g
-dvd-scaled steps n a zero g d le h p q = subst (λ k. d ∣ n * k) (same_from_IsGcd a 0 a g (IsGcd-from_zero a 0 refl) h) p
+dvd-scaled steps n a zero g d le h p q = subst (λ k. d ∣ n * k)
+    (same_from_IsGcd a 0 a g (IsGcd-from_zero a 0 refl) h) p
 dvd-scaled zero n a (suc b) g d le h p q = absurd (omega arith)
 dvd-scaled (suc steps) n a (suc b) g d le h p q =
-    let split : n * (a % suc b) + n * suc b * (a / suc b) ≡ n * a = spread n (a % suc b) (suc b) (a / suc b) a (mod-add-div a (suc b)) in
+    let split : n * (a % suc b) + n * suc b * (a / suc b) ≡ n * a =
+        spread n (a % suc b) (suc b) (a / suc b) a (mod-add-div a (suc b)) in
     let more : d ∣ n * suc b * (a / suc b) = dvd-mul_right_of_dvd d q (a / suc b) in
     let rest : d ∣ n * (a % suc b) = (dvd-add_iff_left d more).1 (subst (λ k. d ∣ k) (sym split) p) in
     let less : a % suc b ≤ steps = omega arith in
@@ -61,7 +65,8 @@ same_from_IsLcm a b m k p q = dvd_antisymm (p.least k q.of_left q.of_right) (q.l
 gcd_within-IsGcd : (steps a b : ℕ) → b < steps → IsGcd a b (gcd_within steps a b)
 gcd_within-IsGcd zero a b lt = absurd (omega arith)
 gcd_within-IsGcd (suc steps) a zero lt = IsGcd-from_zero a 0 refl
-gcd_within-IsGcd (suc steps) a (suc b) lt = IsGcd-from_mod a (suc b) _ (gcd_within-IsGcd steps (suc b) (a % suc b) (omega arith))
+gcd_within-IsGcd (suc steps) a (suc b) lt = IsGcd-from_mod a (suc b) _
+    (gcd_within-IsGcd steps (suc b) (a % suc b) (omega arith))
 
 -- the number that computes is the greatest common divisor
 pub gcd_of-IsGcd : (a b : ℕ) → IsGcd a b (gcd_of a b)

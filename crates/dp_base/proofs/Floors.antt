@@ -1,5 +1,6 @@
 -- Division rounded down and up.
-use Rattle.std.proofs.Common.{◌≡◌, ℕ, zero, suc, ◌*◌, ◌/◌, ◌<◌, ◌≤◌, ℤ, pos, negsuc, ◌*ℤ◌, neg_ℤ, ◌≤ℤ◌, unsigned_abs, arith}
+use Rattle.std.proofs.Common.{◌≡◌, ℕ, zero, suc, ◌*◌, ◌/◌, ◌<◌, ◌≤◌, ℤ, pos, negsuc, ◌*ℤ◌, neg_ℤ, ◌≤ℤ◌, unsigned_abs,
+    arith}
 use Rattle.std.proofs.lemmas.Int.{ints}
 use Rattle.std.proofs.Math.Nat.{div-lt_iff_lt-mul, div-mul-le_self, mul-le-mul_left}
 use Rattle.dp_base.specs.Rounding.{ceiling_of, floor_of, mul_down, mul_up}
@@ -18,7 +19,8 @@ le_mul_up a b d h = le-ceiling_of (a *ℤ b) d h
 -- ---- a part of a natural, rounded
 
 quotient_most : (k n d : ℕ) → 0 < d → k ≤ n * d → k / d ≤ n
-quotient_most k n d some h = let lt : k < suc n * d = omega arith in let q : k / d < suc n = (div-lt_iff_lt-mul some).1 lt in omega arith
+quotient_most k n d some h = let lt : k < suc n * d = omega arith in
+    let q : k / d < suc n = (div-lt_iff_lt-mul some).1 lt in omega arith
 
 -- rounded down
 pub part_down : (n p d : ℕ) → 0 < d → p ≤ d
@@ -33,7 +35,8 @@ part_down n p d some le =
 rounded : (k n d : ℕ) → 0 < d → k ≤ n * d → (pos 0 ≤ℤ ceiling_of (pos k) d) × (ceiling_of (pos k) d ≤ℤ pos n)
 unfolding ceiling_of
 rounded zero n d some h = let e : 0 / d ≡ 0 = omega arith in rw e (omega (arith, ints), omega (arith, ints))
-rounded (suc k) n d some h = let lt : k < n * d = omega arith in let q : k / d < n = (div-lt_iff_lt-mul some).1 lt in (omega (arith, ints), omega (arith, ints))
+rounded (suc k) n d some h = let lt : k < n * d = omega arith in let q : k / d < n = (div-lt_iff_lt-mul some).1 lt in
+    (omega (arith, ints), omega (arith, ints))
 
 -- and rounded up
 pub part_up : (n p d : ℕ) → 0 < d → p ≤ d → (pos 0 ≤ℤ mul_up (pos n) (pos p) d) × (mul_up (pos n) (pos p) d ≤ℤ pos n)
@@ -45,7 +48,8 @@ pub part_abs : (a : ℤ) (p d : ℕ) → 0 < d → p ≤ d → unsigned_abs (mul
 unfolding mul_up ceiling_of
 part_abs (pos n) p d some le = let both = part_up n p d some le in omega (arith, ints)
 part_abs (negsuc n) p d some le =
-    let e = turned_twice (suc n * p) d in let q = quotient_most (suc n * p) (suc n) d some (mul-le-mul_left (suc n) le) in omega arith
+    let e = turned_twice (suc n * p) d in let q = quotient_most (suc n * p) (suc n) d some
+        (mul-le-mul_left (suc n) le) in omega arith
   where
     turned_twice : (k d : ℕ) → unsigned_abs (neg_ℤ (floor_of (neg_ℤ (neg_ℤ (pos k))) d)) ≡ k / d
     turned_twice zero d = unsigned_abs-neg (pos (0 / d))

@@ -1,5 +1,6 @@
 -- Laws of sums of natural numbers.
-use Rattle.std.proofs.Common.{◌≡◌, inl, inr, ℕ, zero, suc, ◌+◌, ◌*◌, ◌<◌, ◌≤◌, Bool, true, false, cond, eqb, refl, sym, ap, ◌∙◌, arith}
+use Rattle.std.proofs.Common.{◌≡◌, inl, inr, ℕ, zero, suc, ◌+◌, ◌*◌, ◌<◌, ◌≤◌, Bool, true, false, cond, eqb, refl,
+    sym, ap, ◌∙◌, arith}
 use Rattle.std.proofs.lemmas.Bool.{cases_eq}
 use Rattle.std.proofs.lemmas.Bool.Decides.{nat_tests}
 use Rattle.dp_base.specs.Sums.{nat_sum}
@@ -29,7 +30,8 @@ nat_sum_add (suc n) f g = let e = nat_sum_add n f g in omega arith
 pub nat_sum_swap : (n k : ℕ) (f : ℕ → ℕ → ℕ)
     → nat_sum n (λ i. nat_sum k (λ j. f i j)) ≡ nat_sum k (λ j. nat_sum n (λ i. f i j))
 nat_sum_swap zero k f = sym (nat_sum_zero k)
-nat_sum_swap (suc n) k f = ap (λ x. x + nat_sum k (f n)) (nat_sum_swap n k f) ∙ sym (nat_sum_add k (λ j. nat_sum n (λ i. f i j)) (f n))
+nat_sum_swap (suc n) k f = ap (λ x. x + nat_sum k (f n)) (nat_sum_swap n k f)
+    ∙ sym (nat_sum_add k (λ j. nat_sum n (λ i. f i j)) (f n))
 
 -- a common factor on the right, and one on each side
 pub nat_sum_times : (n : ℕ) (f : ℕ → ℕ) (c : ℕ) → nat_sum n (λ i. f i * c) ≡ nat_sum n f * c
@@ -74,7 +76,8 @@ nat_sum_one (suc n) k f h =
 -- smaller numbers have a smaller sum
 pub nat_sum_le : (n : ℕ) (f g : ℕ → ℕ) → ((i : ℕ) → i < n → f i ≤ g i) → nat_sum n f ≤ nat_sum n g
 nat_sum_le zero f g h = omega arith
-nat_sum_le (suc n) f g h = let here = h n (omega arith) in let rest = nat_sum_le n f g (λ i p. h i (omega arith)) in omega arith
+nat_sum_le (suc n) f g h = let here = h n (omega arith) in let rest = nat_sum_le n f g (λ i p. h i (omega arith)) in
+    omega arith
 
 -- n numbers of at most c
 pub nat_sum_most : (n c : ℕ) (f : ℕ → ℕ) → ((i : ℕ) → i < n → f i ≤ c) → nat_sum n f ≤ n * c
@@ -91,7 +94,8 @@ nat_sum_part k (suc n) f h =
 
 -- one number of a sum
 pub nat_sum_at : (n : ℕ) (f : ℕ → ℕ) (i : ℕ) → i < n → f i ≤ nat_sum n f
-nat_sum_at n f i h = let more : nat_sum (suc i) f ≤ nat_sum n f = nat_sum_part (suc i) n f (omega arith) in omega arith
+nat_sum_at n f i h = let more : nat_sum (suc i) f ≤ nat_sum n f = nat_sum_part (suc i) n f (omega arith) in
+    omega arith
 
 -- what has a sum above 0 has a number
 pub some_of_sum : (n : ℕ) (f : ℕ → ℕ) → 0 < nat_sum n f → 0 < n

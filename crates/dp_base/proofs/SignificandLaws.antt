@@ -10,7 +10,8 @@ use Rattle.dp_base.specs.Significands.{IsSeen}
 
 -- the number of digits with one more behind them
 pushed : (ds : List ℕ) (d : ℕ) → d < 10 → digits_value 10 (ds ++ (48 + d) ∷ []) ≡ digits_value 10 ds * 10 + d
-pushed ds d lt = omega (arith, digits_value_push 10 ds (48 + d), digit_value_digit (48 + d) (omega arith, omega arith))
+pushed ds d lt = omega (arith, digits_value_push 10 ds (48 + d),
+    digit_value_digit (48 + d) (omega arith, omega arith))
 
 -- ten times a power of ten
 pub ten_more : (z : ℕ) → 10 ^ (z + 1) ≡ 10 ^ z * 10
@@ -22,7 +23,8 @@ tens_up i j le = let some : 0 < 10 = omega arith in pow-le-pow_right some le
 
 -- ten times a number with zeros behind it
 pub times_ten : (n z : ℕ) → n * 10 ^ (z + 1) ≡ n * 10 ^ z * 10
-times_ten n z = let moved : n * 10 ^ (z + 1) ≡ n * (10 ^ z * 10) = ap (λ p. n * p) (ten_more z) in omega (arith, moved)
+times_ten n z = let moved : n * 10 ^ (z + 1) ≡ n * (10 ^ z * 10) = ap (λ p. n * p) (ten_more z) in
+    omega (arith, moved)
 
 -- a power of ten is above 0
 pub some_tens : (k : ℕ) → 0 < 10 ^ k
@@ -63,7 +65,8 @@ fits_128 n len z d lt digit short =
 
 -- and so does the power of ten
 pub pow_fits : (len z : ℕ) → 0 < len → len + z + 1 ≤ 36 → 10 ^ (z + 1) < 2 ^ 127
-pow_fits len z some short = let most : 10 ^ (z + 1) ≤ 10 ^ 36 = tens_up (z + 1) 36 (omega arith) in omega (arith, most)
+pow_fits len z some short = let most : 10 ^ (z + 1) ≤ 10 ^ 36 = tens_up (z + 1) 36 (omega arith) in
+    omega (arith, most)
 
 -- a zero more
 pub zero_digit : (ds : List ℕ) (s t : Significand) → t.number ≡ s.number → t.len ≡ s.len → t.zeros ≡ s.zeros + 1
@@ -108,11 +111,13 @@ next_digit ds d s t lt some there len zeros number seen =
       record {
         value = rw zeros (omega (arith, pushed ds d lt, was.value, times_ten seen.0 s.zeros));
         none = λ h. absurd (omega arith);
-        some = λ _. rw len (record { high = more_high n s.len s.zeros d long.high lt; low = more_low n s.len s.zeros d long.low; ends = more_ends n s.zeros d lt some });
+        some = λ _. rw len (record { high = more_high n s.len s.zeros d long.high lt; low =
+            more_low n s.len s.zeros d long.low; ends = more_ends n s.zeros d lt some });
         kept = λ short. number short ∙ ap (λ k. k * 10 ^ (s.zeros + 1) + d) (was.kept (omega arith));
       },
     )
 
 -- no digits
 pub nothing_seen : (s : Significand) → s.number ≡ 0 → s.len ≡ 0 → s.zeros ≡ 0 → IsSeen [] s
-nothing_seen s number len zeros = (0, record { value = rw zeros refl; none = λ _. refl; some = λ lt. absurd (omega arith); kept = λ _. number })
+nothing_seen s number len zeros = (0, record { value = rw zeros refl; none = λ _. refl; some =
+    λ lt. absurd (omega arith); kept = λ _. number })

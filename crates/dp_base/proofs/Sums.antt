@@ -1,5 +1,6 @@
 -- Sums over the numbers below n.
-use Rattle.std.proofs.Common.{◌≡◌, ◌≢◌, inl, inr, ℕ, zero, suc, ◌+◌, ◌*◌, ◌<◌, ◌≤◌, ℤ, pos, ◌+ℤ◌, ◌*ℤ◌, ◌≤ℤ◌, cond, eqb, refl, sym, ap, ◌∙◌, arith, add-zero, add-suc}
+use Rattle.std.proofs.Common.{◌≡◌, ◌≢◌, inl, inr, ℕ, zero, suc, ◌+◌, ◌*◌, ◌<◌, ◌≤◌, ℤ, pos, ◌+ℤ◌, ◌*ℤ◌, ◌≤ℤ◌, cond,
+    eqb, refl, sym, ap, ◌∙◌, arith, add-zero, add-suc}
 use Rattle.std.proofs.Math.IntN.{+ℤ_idl, +ℤ_idr, +ℤ_assoc}
 use Rattle.std.proofs.lemmas.Bool.Decides.{nat_tests}
 use Rattle.std.proofs.lemmas.Int.{ints}
@@ -43,7 +44,8 @@ int_sum_swap (suc n) m f = rw (int_sum_swap n m f) (sym (int_sum_add m (λ j. in
 -- n + k numbers
 pub int_sum_plus : (n k : ℕ) (f : ℕ → ℤ) → int_sum (n + k) f ≡ int_sum n f +ℤ int_sum k (λ j. f (n + j))
 int_sum_plus n zero f = rw add-zero (sym (+ℤ_idr (int_sum n f)))
-int_sum_plus n (suc k) f = rw (add-suc, int_sum_plus n k f) (+ℤ_assoc (int_sum n f) (int_sum k (λ j. f (n + j))) (f (n + k)))
+int_sum_plus n (suc k) f = rw (add-suc, int_sum_plus n k f)
+    (+ℤ_assoc (int_sum n f) (int_sum k (λ j. f (n + j))) (f (n + k)))
 
 -- a product range as two ranges
 pub int_sum_prod : (n m : ℕ) (f : ℕ → ℤ) → int_sum (n * m) f ≡ int_sum n (λ i. int_sum m (λ j. f (i * m + j)))
@@ -79,13 +81,15 @@ int_sum_one (suc n) k x h =
 -- c * (sum of sums), inside
 pub mul_two : (c : ℤ) (n k : ℕ) (f : ℕ → ℕ → ℤ)
     → c *ℤ int_sum n (λ i. int_sum k (λ j. f i j)) ≡ int_sum n (λ i. int_sum k (λ j. c *ℤ f i j))
-mul_two c n k f = sym (int_sum_mul c n (λ i. int_sum k (λ j. f i j))) ∙ int_sum_ext n _ _ (λ i h. sym (int_sum_mul c k (f i)))
+mul_two c n k f = sym (int_sum_mul c n (λ i. int_sum k (λ j. f i j)))
+    ∙ int_sum_ext n _ _ (λ i h. sym (int_sum_mul c k (f i)))
 
 -- sums of two, inside
 pub add_two : (n k : ℕ) (f g : ℕ → ℕ → ℤ)
     → int_sum n (λ i. int_sum k (λ j. f i j +ℤ g i j))
     ≡ int_sum n (λ i. int_sum k (λ j. f i j)) +ℤ int_sum n (λ i. int_sum k (λ j. g i j))
-add_two n k f g = int_sum_ext n _ _ (λ i h. int_sum_add k (f i) (g i)) ∙ int_sum_add n (λ i. int_sum k (f i)) (λ i. int_sum k (g i))
+add_two n k f g = int_sum_ext n _ _ (λ i h. int_sum_add k (f i) (g i))
+    ∙ int_sum_add n (λ i. int_sum k (f i)) (λ i. int_sum k (g i))
 
 -- equal numbers, inside
 pub ext_two : (n k : ℕ) (f g : ℕ → ℕ → ℤ) → ((i j : ℕ) → i < n → j < k → f i j ≡ g i j)
@@ -102,12 +106,14 @@ pub rotate : (n m k : ℕ) (f : ℕ → ℕ → ℕ → ℤ)
     → int_sum n (λ s. int_sum m (λ t. int_sum k (λ o. f s t o)))
     ≡ int_sum k (λ o. int_sum m (λ t. int_sum n (λ s. f s t o)))
 rotate n m k f =
-    int_sum_ext n _ _ (λ s h. int_sum_swap m k (f s)) ∙ int_sum_swap n k (λ s o. int_sum m (λ t. f s t o)) ∙ int_sum_ext k _ _ (λ o h. int_sum_swap n m (λ s t. f s t o))
+    int_sum_ext n _ _ (λ s h. int_sum_swap m k (f s)) ∙ int_sum_swap n k (λ s o. int_sum m (λ t. f s t o))
+        ∙ int_sum_ext k _ _ (λ o h. int_sum_swap n m (λ s t. f s t o))
 
 -- weights against one number
 pub int_sum_weigh : (n : ℕ) (f : ℕ → ℕ) (x : ℤ) → int_sum n (λ s. pos (f s) *ℤ x) ≡ pos (nat_sum n f) *ℤ x
 int_sum_weigh zero f x = omega (arith, ints)
-int_sum_weigh (suc n) f x = rw (int_sum_weigh n f x) (by_ring (nat (nat_sum n f) ⊗ v x ⊕ nat (f n) ⊗ v x) (nat (nat_sum n f + f n) ⊗ v x) (omega arith))
+int_sum_weigh (suc n) f x = rw (int_sum_weigh n f x) (by_ring (nat (nat_sum n f) ⊗ v x ⊕ nat (f n) ⊗ v x)
+    (nat (nat_sum n f + f n) ⊗ v x) (omega arith))
 
 -- one place taken out of a sum
 place_split : (a c : ℕ) (f : ℕ → ℤ) → f c ≡ cond (eqb a c) (pos 0) (f c) +ℤ cond (eqb a c) (f a) (pos 0)
@@ -120,7 +126,8 @@ place_split a c f =
 -- a sum is what one place adds to the others
 pub int_sum_out : (n a : ℕ) (f : ℕ → ℤ) → a < n → int_sum n f ≡ int_sum n (λ c. cond (eqb a c) (pos 0) (f c)) +ℤ f a
 int_sum_out n a f h =
-    int_sum_ext n _ _ (λ c p. place_split a c f) ∙ int_sum_add n (λ c. cond (eqb a c) (pos 0) (f c)) (λ c. cond (eqb a c) (f a) (pos 0))
+    int_sum_ext n _ _ (λ c p. place_split a c f) ∙ int_sum_add n (λ c. cond (eqb a c) (pos 0) (f c))
+        (λ c. cond (eqb a c) (f a) (pos 0))
     ∙ ap (λ x. int_sum n (λ c. cond (eqb a c) (pos 0) (f c)) +ℤ x) (int_sum_one n a (f a) h)
 
 -- two numbers aside
@@ -131,14 +138,18 @@ two_le r s fa fb ga gb e h = omega (arith, ints)
 pub int_sum_two : (n a b : ℕ) (f g : ℕ → ℤ) → a < n → b < n → a ≢ b → ((c : ℕ) → c < n → a ≢ c → b ≢ c → f c ≡ g c)
     → (f a +ℤ f b) ≤ℤ (g a +ℤ g b) → int_sum n f ≤ℤ int_sum n g
 int_sum_two n a b f g p q ne same h =
-    let out : (f : ℕ → ℤ) → int_sum n f ≡ int_sum n (λ c. cond (eqb b c) (pos 0) (cond (eqb a c) (pos 0) (f c))) +ℤ f b +ℤ f a =
-    λ f. int_sum_out n a f p ∙ ap (λ x. x +ℤ f a) (int_sum_out n b _ q ∙ ap (λ x. int_sum n (λ c. cond (eqb b c) (pos 0) (cond (eqb a c) (pos 0) (f c))) +ℤ x) (ite_other a b (pos 0) (f b) ne)) in
+    let out : (f : ℕ → ℤ) → int_sum n f ≡ int_sum n (λ c. cond (eqb b c) (pos 0) (cond (eqb a c) (pos 0) (f c)))
+        +ℤ f b +ℤ f a =
+    λ f. int_sum_out n a f p ∙ ap (λ x. x +ℤ f a) (int_sum_out n b _ q
+        ∙ ap (λ x. int_sum n (λ c. cond (eqb b c) (pos 0) (cond (eqb a c) (pos 0) (f c))) +ℤ x)
+        (ite_other a b (pos 0) (f b) ne)) in
     rw (out f, out g)
     (two_le _ _ _ _ _ _
     (int_sum_ext n _ _ (λ c u. elim (cases_eq a c) [
       | inl e ↦ rw (e, ite_same c (pos 0) (f c), ite_same c (pos 0) (g c))
       | inr na ↦ elim (cases_eq b c) [
-        | inl e ↦ rw (e, ite_same c (pos 0) (cond (eqb a c) (pos 0) (f c)), ite_same c (pos 0) (cond (eqb a c) (pos 0) (g c)))
+        | inl e ↦ rw (e, ite_same c (pos 0) (cond (eqb a c) (pos 0) (f c)),
+              ite_same c (pos 0) (cond (eqb a c) (pos 0) (g c)))
         | inr nb ↦ rw (same c u na nb)
       ]
     ]))

@@ -1,5 +1,7 @@
 -- The number that a text of the decimal shape writes, and what is read from it.
-use Rattle.std.specs.Prelude.{◌≡◌, Result, Ok, Err, ℕ, zero, suc, ◌+◌, ◌*◌, ◌^◌, ◌/◌, ◌%◌, ◌<◌, ◌≤◌, Bool, true, false, ◌==◌, nat_lt, nat_le, if◌then◌else◌, List, [], ◌++◌, length, drop, slice_index, ℤ, pos, neg_ℤ, ◌*ℤ◌, unsigned_abs}
+use Rattle.std.specs.Prelude.{◌≡◌, Result, Ok, Err, ℕ, zero, suc, ◌+◌, ◌*◌, ◌^◌, ◌/◌, ◌%◌, ◌<◌, ◌≤◌, Bool, true,
+    false, ◌==◌, nat_lt, nat_le, if◌then◌else◌, List, [], ◌++◌, length, drop, slice_index, ℤ, pos, neg_ℤ, ◌*ℤ◌,
+    unsigned_abs}
 use Rattle.std.specs.List.{take_while}
 use Rattle.std.specs.Char.{is_ascii_digit}
 use Rattle.std.specs.Str.Parse.{digits_value}
@@ -31,7 +33,8 @@ tens_more power = if slice_index power 1 == minus then 0 else digits_value 10 (u
 abbrev pub tens_less : List ℕ → ℕ
 tens_less power = if slice_index power 1 == minus then digits_value 10 (unsigned (drop 1 power)) else 0
 
--- ---- what it writes: its significand times ten to the power `numerator_tens`, divided by ten to the power `denominator_tens`
+-- ---- what it writes: its significand times ten to the power `numerator_tens`, divided by ten to the power
+-- `denominator_tens`
 
 -- all its digits as one number
 unfoldable pub significand : List ℕ → ℕ
@@ -53,7 +56,8 @@ signed negative n = if negative then neg_ℤ (pos n) else pos n
 abbrev pub Writes : List ℕ → ℤ → ℕ → Type 0
 Writes text units digits =
     let number = unsigned text in
-    (units *ℤ pos (10 ^ denominator_tens number)) ≡ (signed (first text == minus) (significand number) *ℤ pos (10 ^ (numerator_tens number + digits)))
+    (units *ℤ pos (10 ^ denominator_tens number)) ≡ (signed (first text == minus) (significand number) *ℤ pos
+        (10 ^ (numerator_tens number + digits)))
 
 -- and no fewer digits do
 pub record WritesShortest (text : List ℕ) (units : ℤ) (digits : ℕ) : Type 0 where
@@ -62,11 +66,13 @@ pub record WritesShortest (text : List ℕ) (units : ℤ) (digits : ℕ) : Type 
 
 -- the magnitude of the number that the text writes is at least 10 ^ 18
 abbrev pub IsLarge : List ℕ → Type 0
-IsLarge text = let number = unsigned text in 10 ^ (18 + denominator_tens number) ≤ significand number * 10 ^ numerator_tens number
+IsLarge text = let number = unsigned text in 10 ^ (18 + denominator_tens number) ≤ significand number
+    * 10 ^ numerator_tens number
 
 -- or below that
 abbrev pub IsSmall : List ℕ → Type 0
-IsSmall text = let number = unsigned text in significand number * 10 ^ numerator_tens number < 10 ^ (18 + denominator_tens number)
+IsSmall text = let number = unsigned text in significand number * 10 ^ numerator_tens number
+    < 10 ^ (18 + denominator_tens number)
 
 -- it is small, and the least number of its fraction digits is more than 18
 pub record HasTooManyDigits (text : List ℕ) (digits : ℕ) : Type 0 where
@@ -81,7 +87,8 @@ pub record HasTooManyDigits (text : List ℕ) (digits : ℕ) : Type 0 where
 abbrev pub shortest : Bool → ℕ → ℕ → Decimal
 shortest negative units zero = record { units = signed negative units; digits = 0 }
 shortest negative units (suc digits) =
-    if units % 10 == 0 then shortest negative (units / 10) digits else record { units = signed negative units; digits = suc digits }
+    if units % 10 == 0 then shortest negative (units / 10) digits else record { units =
+        signed negative units; digits = suc digits }
 
 -- the magnitude of a decimal is at least 10 ^ 18
 abbrev pub is_large : Decimal → Bool
@@ -93,7 +100,8 @@ judged d = if is_large d then Err Large else if nat_lt 18 d.digits then Err (Dig
 
 -- what is read from a number without its sign, where that is of the decimal shape
 abbrev pub magnitude_where : Bool → Bool → List ℕ → Result Decimal NumFault
-magnitude_where true negative number = judged (shortest negative (significand number * 10 ^ numerator_tens number) (denominator_tens number))
+magnitude_where true negative number = judged (shortest negative (significand number * 10 ^ numerator_tens number)
+    (denominator_tens number))
 magnitude_where false negative number = Err Shape
 
 -- what is read from a text

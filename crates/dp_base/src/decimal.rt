@@ -107,7 +107,8 @@ fn power_of(digits: &[u8]) -> u32
     power
 }
 
-/// A significand times ten to the power `numerator_tens`, divided by ten to the power `denominator_tens`, in the least
+/// A significand times ten to the power `numerator_tens`, divided by ten to the power `denominator_tens`, in the
+/// least
 /// fraction digits.
 fn judge(
     negative: bool,

@@ -1,5 +1,6 @@
 -- Certificate texts have one answer.
-use Rattle.std.proofs.Common.{◌≡◌, ℕ, zero, suc, ◌+◌, ◌^◌, ◌<◌, Bool, true, false, cond, List, [], ◌∷◌, length, map, Result, Ok, Err, refl, subst, arith}
+use Rattle.std.proofs.Common.{◌≡◌, ℕ, zero, suc, ◌+◌, ◌^◌, ◌<◌, Bool, true, false, cond, List, [], ◌∷◌, length, map,
+    Result, Ok, Err, refl, subst, arith}
 use Rattle.std.specs.Prelude.{ℤ, Option, Some, None, replicate, codes, unsigned_abs, ◌==◌}
 use Rattle.std.specs.Fmt.{decimal}
 use Rattle.std.proofs.lemmas.Fmt.{decimal_digit}
@@ -20,9 +21,12 @@ use Rattle.dp_lines.proofs.FirstLines.{AreProper, are_apart}
 use Rattle.dp_lines.proofs.OneAnswer.{IsProper, IsProper-bind, read_answer, one_answer}
 use Rattle.dp_cert.specs.declared.fault.CertFault.{CertFault}
 use Rattle.dp_cert.specs.declared.fault.CertFault.TheVariants as faults
-use Rattle.dp_cert.specs.CertificateGrammar.{branch_below, certificate_grammar, head_grammar, horizon_grammar, horizon_passed, leaf_only, merge_below, node_below, node_forms, repeated, title_grammar, tree_grammar, tree_lines}
+use Rattle.dp_cert.specs.CertificateGrammar.{branch_below, certificate_grammar, head_grammar, horizon_grammar,
+    horizon_passed, leaf_only, merge_below, node_below, node_forms, repeated, title_grammar, tree_grammar, tree_lines}
 use Rattle.dp_cert.specs.CertificateLaws.{EachCertificateTextHasOneAnswer}
-use Rattle.dp_cert.specs.PolicyGrammar.{agent_words, cells_passed, counts_grammar, first_of_counts, nexts_before, plain_agent, plain_agents, plain_stage, plain_stages, policy_grammar, row_line, row_of, rows_from, rows_of_form, shared_agents, shared_stages}
+use Rattle.dp_cert.specs.PolicyGrammar.{agent_words, cells_passed, counts_grammar, first_of_counts, nexts_before,
+    plain_agent, plain_agents, plain_stage, plain_stages, policy_grammar, row_line, row_of, rows_from, rows_of_form,
+    shared_agents, shared_stages}
 use Rattle.dp_cert.specs.Reading.{Gives, Answers}
 use Rattle.dp_cert.specs.TextSteps.{Text, and_then, first_plain, the_numbers, the_words, unless_passed}
 use Rattle.dp_cert.proofs.AgentWords.{agent_words_are}

@@ -1,5 +1,6 @@
 -- The parts of a certificate text.
-use Rattle.std.proofs.Common.{◌≡◌, ℕ, ◌<◌, ◌≤◌, Bool, true, false, cond, List, [], ◌∷◌, length, Result, Ok, Err, refl, ap, arith}
+use Rattle.std.proofs.Common.{◌≡◌, ℕ, ◌<◌, ◌≤◌, Bool, true, false, cond, List, [], ◌∷◌, length, Result, Ok, Err, refl,
+    ap, arith}
 use Rattle.std.specs.Prelude.{nat_lt, ◌==◌, Option, Some, None, replicate}
 use Rattle.std.proofs.lemmas.Bool.Decides.{nat_tests}
 use Rattle.dp_spec.specs.BoundTree.{BoundTree}
@@ -15,7 +16,8 @@ use Rattle.dp_model.specs.Limits.{first_passed, greatest_allowed, passed_by}
 use Rattle.dp_lines.specs.declared.why.FileWhy.TheVariants.{Shape}
 use Rattle.dp_lines.specs.Grammar.{ends, ◌>>=◌, Fault, bad}
 use Rattle.dp_lines.specs.Scanning.{Rest, front_of, text_from, whole}
-use Rattle.dp_cert.specs.CertificateGrammar.{Head, certificate_from, certificate_grammar, head_grammar, horizon_grammar, horizon_passed, title_grammar, tree_grammar}
+use Rattle.dp_cert.specs.CertificateGrammar.{Head, certificate_from, certificate_grammar, head_grammar,
+    horizon_grammar, horizon_passed, title_grammar, tree_grammar}
 use Rattle.dp_cert.specs.PolicyGrammar.{plain_agents, policy_grammar, shared_agents}
 use Rattle.dp_cert.specs.Reading.{rest_at}
 use Rattle.dp_cert.specs.TextSteps.{Text}

@@ -1,5 +1,6 @@
 -- Stages and agents, one after the other.
-use Rattle.std.proofs.Common.{◌≡◌, ℕ, zero, suc, ◌+◌, ◌*◌, ◌-◌, ◌^◌, ◌<◌, ◌≤◌, List, [], ◌∷◌, length, drop, get_or, map, Result, Ok, Err, refl, sym, ap, ◌∙◌, inl, inr, add-one, arith}
+use Rattle.std.proofs.Common.{◌≡◌, ℕ, zero, suc, ◌+◌, ◌*◌, ◌-◌, ◌^◌, ◌<◌, ◌≤◌, List, [], ◌∷◌, length, drop, get_or,
+    map, Result, Ok, Err, refl, sym, ap, ◌∙◌, inl, inr, add-one, arith}
 use Rattle.std.specs.Prelude.{ℤ, pos, unsigned_abs, Some, None}
 use Rattle.std.proofs.Math.Seq.{drop-cons}
 use Rattle.std.proofs.lemmas.Bool.{cases_lt}
@@ -17,7 +18,9 @@ use Rattle.dp_spec.proofs.JointNumberLaws.{positive_right}
 use Rattle.dp_lines.specs.Grammar.{ends, ◌>>=◌, Fault, limit}
 use Rattle.dp_lines.specs.Scanning.{Rest, front_of}
 use Rattle.dp_model.specs.declared.limit.TooLarge.{TooLarge}
-use Rattle.dp_cert.specs.PolicyGrammar.{agent_words, cells_passed, first_of_counts, nexts_before, plain_agent, plain_agents, plain_stage, plain_stages, row_line, rows_from, rows_of_form, shared_agents, shared_stages, counts_grammar}
+use Rattle.dp_cert.specs.PolicyGrammar.{agent_words, cells_passed, first_of_counts, nexts_before, plain_agent,
+    plain_agents, plain_stage, plain_stages, row_line, rows_from, rows_of_form, shared_agents, shared_stages,
+    counts_grammar}
 use Rattle.dp_cert.specs.Reading.{onto, rest_at}
 use Rattle.dp_cert.specs.TextSteps.{Text, and_then, the_numbers, the_words, unless_passed}
 use Rattle.dp_cert.proofs.RowParts.{numbers_back}

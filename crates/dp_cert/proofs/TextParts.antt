@@ -1,5 +1,6 @@
 -- Parts of texts, one after the other.
-use Rattle.std.proofs.Common.{◌≡◌, ℕ, suc, ◌+◌, List, [], ◌∷◌, ◌++◌, Result, Ok, Err, refl, sym, ap, subst, ◌∙◌, add-one, append_assoc}
+use Rattle.std.proofs.Common.{◌≡◌, ℕ, suc, ◌+◌, List, [], ◌∷◌, ◌++◌, Result, Ok, Err, refl, sym, ap, subst, ◌∙◌,
+    add-one, append_assoc}
 use Rattle.std.specs.Prelude.{ℤ}
 use Rattle.dp_spec.specs.TextLines.{Item}
 use Rattle.dp_model.specs.declared.limit.TooLarge.{TooLarge}

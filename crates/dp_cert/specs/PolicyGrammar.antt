@@ -1,5 +1,6 @@
 -- The policy in a certificate text, in the rows of its version. (Own.)
-use Rattle.std.specs.Prelude.{ℕ, zero, suc, ◌+◌, ◌*◌, ◌^◌, ℤ, unsigned_abs, cond, ◌==◌, List, [], ◌∷◌, map, replicate, option_map, Option, codes}
+use Rattle.std.specs.Prelude.{ℕ, zero, suc, ◌+◌, ◌*◌, ◌^◌, ℤ, unsigned_abs, cond, ◌==◌, List, [], ◌∷◌, map, replicate,
+    option_map, Option, codes}
 use Rattle.std.specs.Fmt.{decimal}
 use Rattle.dp_spec.specs.Model.{Model}
 use Rattle.dp_spec.specs.TextLines.{Item}

@@ -1,5 +1,6 @@
 //! The policy of a certificate text of version 2: rows that own histories share.
-ghost use Rattle.std.specs.Prelude.{◌≡◌, ℕ, ◌+◌, ◌*◌, ◌-◌, ◌^◌, ◌<◌, ◌≤◌, map, pos, replicate, drop, length, IfOk, IfErr, None, [], ◌∷◌, codes};
+ghost use Rattle.std.specs.Prelude.{◌≡◌, ℕ, ◌+◌, ◌*◌, ◌-◌, ◌^◌, ◌<◌, ◌≤◌, map, pos, replicate, drop, length, IfOk,
+    IfErr, None, [], ◌∷◌, codes};
 ghost use Rattle.std.specs.List.{AllByRecursion};
 ghost use Rattle.dp_spec.specs.SharedRows.{counts_form, first_past, products, shared_row_form};
 ghost use Rattle.dp_spec.specs.TextLines.{fixed, plain};

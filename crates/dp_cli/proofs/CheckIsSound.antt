@@ -12,7 +12,8 @@ use Rattle.dp_lines.specs.Scanning.{text_from}
 use Rattle.dp_model.specs.declared.limit.TooLarge.{TooLarge}
 use Rattle.dp_words.specs.declared.job.CheckJob.{CheckJob}
 use Rattle.dp_cli.specs.declared.refusal.JobFault.TheVariants as job_faults
-use Rattle.dp_cli.specs.CheckCommand.{ClaimsOfCheck, IsCheckOfText, IsTextOfCheck, TellsCertificate, certificate_fault, check_command, fault_of_check, reason_fault, said_fault, told_reason}
+use Rattle.dp_cli.specs.CheckCommand.{ClaimsOfCheck, IsCheckOfText, IsTextOfCheck, TellsCertificate,
+    certificate_fault, check_command, fault_of_check, reason_fault, said_fault, told_reason}
 use Rattle.dp_cli.specs.ModelText.{model_meant}
 use Rattle.dp_cli.proofs.CertificateLimits.{limit_of_certificate}
 use Rattle.dp_cli.proofs.FileLimits.{IsOther, limit_told, model_fault_is_other, of_no_role}

@@ -1,5 +1,6 @@
 -- The advance of a front as it is kept: what its calls and sums need, and what it gives.
-use Rattle.std.proofs.Common.{◌≡◌, ℕ, suc, ◌+◌, ◌*◌, ◌^◌, ◌<◌, ◌≤◌, Bool, true, false, inl, inr, pos, List, length, get_or, sym, ap, ◌∙◌, subst, arith}
+use Rattle.std.proofs.Common.{◌≡◌, ℕ, suc, ◌+◌, ◌*◌, ◌^◌, ◌<◌, ◌≤◌, Bool, true, false, inl, inr, pos, List, length,
+    get_or, sym, ap, ◌∙◌, subst, arith}
 use Rattle.dp_spec.specs.declared.span.Span.{Span}
 use Rattle.dp_spec.specs.declared.scales.Scales.{Scales}
 use Rattle.dp_spec.specs.Arithmetic.{Arithmetic, arithmetic, point, span_add}
@@ -7,7 +8,8 @@ use Rattle.dp_spec.specs.Calls.{Calls, calls_in, size}
 use Rattle.dp_spec.specs.Front.{Front, class_counts, fixed_joint_action}
 use Rattle.dp_spec.specs.JointNumbers.{product}
 use Rattle.dp_spec.specs.Model.{Model, joint_actions, joint_observations}
-use Rattle.dp_spec.specs.Quantities.{class_weight_in, earned_reward_in, span_sum, weighted_reward_in, weights_after_in}
+use Rattle.dp_spec.specs.Quantities.{class_weight_in, earned_reward_in, span_sum, weighted_reward_in,
+    weights_after_in}
 use Rattle.dp_spec.specs.Sizes.{reward_size}
 use Rattle.dp_spec.specs.SizesOfEarnings.{earned_size}
 use Rattle.dp_spec.specs.SizesOfFronts.{class_reward_size}
@@ -23,7 +25,8 @@ use Rattle.dp_laws.proofs.WellFormedSteps.{advanced_is_front}
 use Rattle.dp_value.specs.WeightUpdates.{AreUpdatable}
 use Rattle.dp_cluster.specs.Advances.{IsAdvanceable, weight_rows}
 use Rattle.dp_cluster.specs.AgentParts.{OwnPart}
-use Rattle.dp_cluster.specs.KeptFronts.{IsFrontOf, IsStored, KeptFront, kept_front, kept_weight, part_fronts, part_observations}
+use Rattle.dp_cluster.specs.KeptFronts.{IsFrontOf, IsStored, KeptFront, kept_front, kept_weight, part_fronts,
+    part_observations}
 use Rattle.dp_cluster.specs.Rewards.{IsRewardable}
 use Rattle.dp_laws.proofs.AdvancedSpans.{advanced_earned_in, pair_weight_in}
 use Rattle.dp_spec.specs.Wide.{has_room}

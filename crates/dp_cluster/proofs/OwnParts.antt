@@ -1,13 +1,17 @@
 -- The parts of agents as they are kept: their lists, and what each step makes of them.
-use Rattle.std.proofs.Common.{◌≡◌, inl, inr, ℕ, zero, suc, ◌+◌, ◌-◌, ◌*◌, ◌/◌, ◌%◌, ◌^◌, ◌<◌, Bool, true, false, cond, eqb, List, [], ◌∷◌, ◌++◌, map, length, get_or, set, replicate, Option, Some, None, take, append_assoc, add-one, refl, sym, ap, ◌∙◌, subst, arith}
+use Rattle.std.proofs.Common.{◌≡◌, inl, inr, ℕ, zero, suc, ◌+◌, ◌-◌, ◌*◌, ◌/◌, ◌%◌, ◌^◌, ◌<◌, Bool, true, false, cond,
+    eqb, List, [], ◌∷◌, ◌++◌, map, length, get_or, set, replicate, Option, Some, None, take, append_assoc, add-one,
+    refl, sym, ap, ◌∙◌, subst, arith}
 use Rattle.std.specs.Prelude.{unwrap_or, is_some, ◌&&◌}
 use Rattle.std.specs.List.{range_with_len}
 use Rattle.std.proofs.Math.ListN.{length-set}
 use Rattle.std.proofs.Math.Nat.{pow-suc, pow-zero}
 use Rattle.std.proofs.lemmas.Bool.{and_from, cases_eq, cases_lt}
 use Rattle.std.proofs.lemmas.Bool.Decides.{nat_tests}
-use Rattle.std.proofs.lemmas.List.{get_or-map, get_or-replicate, get_or-set_other, get_or-set_same, length-append, length-map, length-replicate, map_push}
-use Rattle.std.proofs.lemmas.List.FromFn.{fill_by_all, get_or-map-range_with_len, length-map-range_with_len, map-range_with_len_more}
+use Rattle.std.proofs.lemmas.List.{get_or-map, get_or-replicate, get_or-set_other, get_or-set_same, length-append,
+    length-map, length-replicate, map_push}
+use Rattle.std.proofs.lemmas.List.FromFn.{fill_by_all, get_or-map-range_with_len, length-map-range_with_len,
+    map-range_with_len_more}
 use Rattle.std.proofs.lemmas.Nat.{mod_below}
 use Rattle.dp_spec.specs.Front.{AgentFront}
 use Rattle.dp_spec.specs.Merge.{merged_agent, renumbered, without, kept_class}
@@ -16,7 +20,8 @@ use Rattle.dp_spec.proofs.JointNumberLaws.{part_below, positive_right, row_below
 use Rattle.dp_laws.proofs.MergedAgents.{get_or-without_above, get_or-without_below, length-without}
 use Rattle.dp_laws.proofs.MergedFronts.{kept_high, kept_low}
 use Rattle.dp_cluster.specs.declared.part.PastStage.{PastStage}
-use Rattle.dp_cluster.specs.AgentParts.{AreMergedStages, ArePastStages, OwnPart, actions_after, class_after, class_led_to, part_of}
+use Rattle.dp_cluster.specs.AgentParts.{AreMergedStages, ArePastStages, OwnPart, actions_after, class_after,
+    class_led_to, part_of}
 
 -- ---- lists made from functions
 

@@ -1,5 +1,6 @@
 -- The trees that the stages behind a front fix.
-use Rattle.std.proofs.Common.{◌≡◌, ℕ, zero, suc, ◌+◌, ◌-◌, ◌*◌, ◌^◌, ◌<◌, ◌≤◌, List, [], ◌∷◌, ◌++◌, map, length, get_or, drop, Option, refl, sym, ap, ◌∙◌, subst, arith}
+use Rattle.std.proofs.Common.{◌≡◌, ℕ, zero, suc, ◌+◌, ◌-◌, ◌*◌, ◌^◌, ◌<◌, ◌≤◌, List, [], ◌∷◌, ◌++◌, map, length,
+    get_or, drop, Option, refl, sym, ap, ◌∙◌, subst, arith}
 use Rattle.std.specs.List.{range_with_len}
 use Rattle.dp_spec.specs.Front.{AgentFront}
 use Rattle.dp_spec.specs.WellFormed.{AreAgentFronts, no_agents, and_agent}
@@ -18,7 +19,8 @@ use Rattle.dp_policy.specs.declared.tree.PTree.TheViews.{roll-PTree}
 use Rattle.dp_policy.specs.declared.tree.PTree.TheFolds.{fold-roll-PTree}
 use Rattle.dp_policy.specs.TreeValue.{policy_tree, policy_tree_node, policy_trees}
 use Rattle.dp_cluster.specs.declared.part.PastStage.{PastStage}
-use Rattle.dp_cluster.specs.AgentParts.{ArePastStages, IsReached, OwnPart, action_after, actions_after, class_after, class_led_to, part_of}
+use Rattle.dp_cluster.specs.AgentParts.{ArePastStages, IsReached, OwnPart, action_after, actions_after, class_after,
+    class_led_to, part_of}
 use Rattle.dp_cluster.proofs.OwnParts.{made_at}
 
 -- ---- trees of a list

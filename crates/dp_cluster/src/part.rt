@@ -1,11 +1,13 @@
 // One agent's part of a front.
-ghost use Rattle.std.specs.Prelude.{◌≡◌, ◌<◌, ◌+◌, ◌-◌, ◌*◌, ◌^◌, [], ◌∷◌, ℕ, List, drop, map, length, get_or, set, None, Some, IfOk};
+ghost use Rattle.std.specs.Prelude.{◌≡◌, ◌<◌, ◌+◌, ◌-◌, ◌*◌, ◌^◌, [], ◌∷◌, ℕ, List, drop, map, length, get_or, set,
+    None, Some, IfOk};
 ghost use Rattle.dp_spec.specs.Front.{AgentFront};
 ghost use Rattle.dp_spec.specs.Steps.{root_agent, all_chosen, advanced_agent};
 ghost use Rattle.dp_spec.specs.Merge.{merged_agent, renumbered, kept_class};
 ghost use Rattle.dp_spec.specs.FullPolicy.{tree_doing, tree_doing_after};
 ghost use Rattle.dp_policy.specs.TreeValue.{policy_tree};
-ghost use Rattle.dp_cluster.specs.AgentParts.{AreMergedStages, ArePastStages, IsReached, action_after, class_after, class_led_to};
+ghost use Rattle.dp_cluster.specs.AgentParts.{AreMergedStages, ArePastStages, IsReached, action_after, class_after,
+    class_led_to};
 
 use crate::shared::shared;
 use dp_base::Memory;

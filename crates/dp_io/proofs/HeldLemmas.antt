@@ -1,5 +1,6 @@
 -- What a shelf holds, found by the name.
-use Rattle.std.proofs.Common.{◌≡◌, ℕ, List, [], ◌∷◌, Bool, true, false, Option, Some, map, find, string_bytes, refl, sym, cond}
+use Rattle.std.proofs.Common.{◌≡◌, ℕ, List, [], ◌∷◌, Bool, true, false, Option, Some, map, find, string_bytes, refl,
+    sym, cond}
 use Rattle.std.proofs.lemmas.Slice.Eq.{bytes_eq-Decides}
 use Rattle.std.specs.Option.{option_map}
 use Rattle.std.specs.Str.{bytes_eq}
@@ -27,7 +28,8 @@ pub held_by_last : (held : List Held) (name : List ℕ)
     ≡ option_map (λ h. h.bytes.items) (find (λ h. bytes_eq (string_bytes h.name) name) held)
 held_by_last [] name = refl
 held_by_last (h ∷ held) name =
-    chosen (bytes_eq (string_bytes h.name) name) h (find (λ pair. bytes_eq pair.0 name) (map pair_of held)) (find (λ h. bytes_eq (string_bytes h.name) name) held) (held_by_last held name)
+    chosen (bytes_eq (string_bytes h.name) name) h (find (λ pair. bytes_eq pair.0 name) (map pair_of held))
+        (find (λ h. bytes_eq (string_bytes h.name) name) held) (held_by_last held name)
 
 -- the latest pair is what its own name holds
 first_found : (name bytes : List ℕ) (held : List (List ℕ × List ℕ)) (b : Bool) → b ≡ true
@@ -45,5 +47,6 @@ passed_over name bytes other held false differs = refl
 pub holds_latest : EachHoldsItsLatest
 holds_latest held name bytes = record {
   given = first_found name bytes held (bytes_eq name name) ((bytes_eq-Decides name name).1 refl);
-  others = λ other differs. passed_over name bytes other held (bytes_eq name other) (λ same. differs (sym ((bytes_eq-Decides name other).0 same)));
+  others = λ other differs. passed_over name bytes other held (bytes_eq name other)
+      (λ same. differs (sym ((bytes_eq-Decides name other).0 same)));
 }

@@ -1,5 +1,6 @@
 -- What follows of every fetch.
-use Rattle.std.specs.Prelude.{◌≡◌, ℕ, ◌<◌, ◌≤◌, ◌⊎◌, nat_lt, if◌then◌else◌, List, length, Option, Some, None, Result, Ok, Err, Vec}
+use Rattle.std.specs.Prelude.{◌≡◌, ℕ, ◌<◌, ◌≤◌, ◌⊎◌, nat_lt, if◌then◌else◌, List, length, Option, Some, None, Result,
+    Ok, Err, Vec}
 use Rattle.std.specs.declared.alloc.Global.{Global}
 use Rattle.dp_io.specs.declared.shelf.FetchFault.{FetchFault}
 use Rattle.dp_io.specs.declared.shelf.FetchFault.TheVariants as faults
@@ -34,6 +35,7 @@ fetch_answer contents number name most =
 
 -- Where the contents are told, they determine what a fetch answers, want of memory aside.
 abbrev pub ToldFetchIsDetermined : Type 0
-ToldFetchIsDetermined = (old new : ShelfView) (contents : Contents) (name : List ℕ) (most : ℕ) (result : Result (Vec ℕ Global) FetchFault)
+ToldFetchIsDetermined = (old new : ShelfView) (contents : Contents) (name : List ℕ) (most : ℕ)
+    (result : Result (Vec ℕ Global) FetchFault)
     → old.told ≡ Some contents → Fetches old new name most result
     → (result ≡ Err faults.Memory) ⊎ (fetched result ≡ fetch_answer contents (length old.log) name most)

@@ -41,4 +41,5 @@ sink_view sink = record {
 -- How many of so many bytes the next put appends: as many as fit, and of the named one no more than are kept.
 abbrev pub kept_of : MemSinkView → ℕ → ℕ
 kept_of sink count =
-    min (min count (room_left sink)) (if is_named sink then option_map_or (λ call. call.1) sink.named count else count)
+    min (min count (room_left sink)) (if is_named sink then option_map_or
+        (λ call. call.1) sink.named count else count)

@@ -1,5 +1,6 @@
 -- What a shelf means, and what a fetch does.
-use Rattle.std.specs.Prelude.{◌≡◌, ℕ, ◌<◌, ◌≤◌, Bool, true, false, List, [], ◌∷◌, ◌++◌, length, Option, Some, Result, Ok, Err, IfSome, Vec, count_by}
+use Rattle.std.specs.Prelude.{◌≡◌, ℕ, ◌<◌, ◌≤◌, Bool, true, false, List, [], ◌∷◌, ◌++◌, length, Option, Some, Result,
+    Ok, Err, IfSome, Vec, count_by}
 use Rattle.std.specs.declared.alloc.Global.{Global}
 use Rattle.dp_io.specs.declared.shelf.Ending.{Ending}
 use Rattle.dp_io.specs.declared.shelf.Ending.TheVariants.{Given, Failed, Long}
@@ -57,14 +58,16 @@ IsAtMost most (Err faults.Memory) = Unit {0}
 -- The contents agree with what the fetch of this number and name answered: it failed where it was
 -- to fail, gave all that the name holds, or counted it.
 abbrev pub IsAsTold : Contents → ℕ → List ℕ → Result (Vec ℕ Global) FetchFault → Type 0
-IsAsTold contents number name (Ok bytes) = (contents.fails number name ≡ false) × (contents.held name ≡ Some bytes.items)
+IsAsTold contents number name (Ok bytes) = (contents.fails number name ≡ false)
+    × (contents.held name ≡ Some bytes.items)
 IsAsTold contents number name (Err faults.Failed) = contents.fails number name ≡ true
 IsAsTold contents number name (Err (faults.TooLong k)) =
     (contents.fails number name ≡ false) × ((bytes : List ℕ) × (contents.held name ≡ Some bytes) × (length bytes ≡ k))
 IsAsTold contents number name (Err faults.Memory) = Unit {0}
 
 -- what a fetch does
-pub record Fetches (old new : ShelfView) (name : List ℕ) (most : ℕ) (result : Result (Vec ℕ Global) FetchFault) : Type 0 where
+pub record Fetches (old new : ShelfView) (name : List ℕ) (most : ℕ) (result : Result (Vec ℕ Global) FetchFault) :
+    Type 0 where
   -- it appends its entry to the log
   pub logged : new.log ≡ old.log ++ entries_of name result
   -- what it gives is kept, for every shelf

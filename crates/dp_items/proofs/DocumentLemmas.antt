@@ -1,5 +1,6 @@
 -- What a document holds is what its text means.
-use Rattle.std.proofs.Common.{◌≡◌, ◌≢◌, ℕ, zero, suc, ◌<◌, ◌≤◌, ◌^◌, Bool, true, false, cond, List, [], ◌∷◌, length, get_or, take, map, Some, refl, sym, ap, subst, ◌∙◌, arith}
+use Rattle.std.proofs.Common.{◌≡◌, ◌≢◌, ℕ, zero, suc, ◌<◌, ◌≤◌, ◌^◌, Bool, true, false, cond, List, [], ◌∷◌, length,
+    get_or, take, map, Some, refl, sym, ap, subst, ◌∙◌, arith}
 use Rattle.std.specs.Prelude.{slice_get, filter, All, option_map}
 use Rattle.std.proofs.lemmas.List.{get_or_default}
 use Rattle.std.proofs.lemmas.Option.{slice_get-map, slice_get-get_or}
@@ -35,7 +36,8 @@ kept_are_pieces bytes tokens are = record {
 pub pieces_of_kept : (bytes : List ℕ) (tokens : List Token)
     → pieces_of_text bytes (kept_tokens tokens) ≡ kept_pieces (pieces_of_text bytes tokens)
 pieces_of_kept bytes [] = refl
-pieces_of_kept bytes (t ∷ ts) = chosen (is_no_line_end t.kind) ∙ ap (λ (l : List Piece). cond (is_no_line_end t.kind) (piece_of bytes t ∷ l) l) (pieces_of_kept bytes ts)
+pieces_of_kept bytes (t ∷ ts) = chosen (is_no_line_end t.kind)
+    ∙ ap (λ (l : List Piece). cond (is_no_line_end t.kind) (piece_of bytes t ∷ l) l) (pieces_of_kept bytes ts)
   where
     chosen : (b : Bool) → pieces_of_text bytes (cond b (t ∷ kept_tokens ts) (kept_tokens ts))
         ≡ cond b (piece_of bytes t ∷ pieces_of_text bytes (kept_tokens ts)) (pieces_of_text bytes (kept_tokens ts))
@@ -45,7 +47,8 @@ pieces_of_kept bytes (t ∷ ts) = chosen (is_no_line_end t.kind) ∙ ap (λ (l :
 module _ (bytes : List ℕ) (tokens : List Token) (lines : List LineRange) where
   pub lines_are_one_run : AreLinesOf (length bytes) (pieces_of_text bytes tokens) lines
       → AreOneRun 0 lines (length (pieces_of_text bytes (kept_tokens tokens)))
-  lines_are_one_run are = subst (λ (l : List Piece). AreOneRun 0 lines (length l)) (sym (pieces_of_kept bytes tokens)) are.one_run
+  lines_are_one_run are = subst (λ (l : List Piece). AreOneRun 0 lines (length l))
+      (sym (pieces_of_kept bytes tokens)) are.one_run
 
   module _ (items : ItemRanges) (lines_are : AreLinesOf (length bytes) (pieces_of_text bytes tokens) lines)
       (items_are : AreItemsOf (length bytes) (pieces_of_text bytes (kept_tokens tokens)) lines items) where
@@ -74,17 +77,20 @@ first_line_stands end pieces [] (suc n) d some h = absurd (omega arith)
 first_line_stands end pieces (line ∷ lines) (suc n) d some h = refl
 
 -- the item at a place, put together from its stretch
-pub item_there : (pieces : List Piece) (lines : List LineRange) (items : List ItemRange) (place : ℕ) (range : ItemRange)
+pub item_there : (pieces : List Piece) (lines : List LineRange) (items : List ItemRange) (place : ℕ)
+    (range : ItemRange)
     (first : LineRange) (item : Item)
     → place < length items → All (IsItemRange pieces lines) items
     → range ≡ get_or items place range → first ≡ get_or lines range.line first
     → item ≡ item_of pieces first (more_of lines range) range.next
     → slice_get (map (item_in pieces lines) items) place ≡ Some item
 item_there pieces lines items place range first item inside each range_is first_is item_is =
-    let is : IsItemRange pieces lines range = subst (IsItemRange pieces lines) (sym range_is) (each place range inside) in
+    let is : IsItemRange pieces lines range = subst (IsItemRange pieces lines) (sym range_is)
+        (each place range inside) in
     let in_order = is.in_order in
     let within = is.within in
-    let line : get_or lines range.line no_line ≡ first = get_or_default lines range.line no_line first (omega arith) ∙ sym first_is in
+    let line : get_or lines range.line no_line ≡ first =
+        get_or_default lines range.line no_line first (omega arith) ∙ sym first_is in
     slice_get-map (item_in pieces lines) items place
     ∙ ap (option_map (item_in pieces lines)) (slice_get-get_or items place range inside)
     ∙ ap (λ (s : ItemRange). Some (item_in pieces lines s)) (sym range_is)

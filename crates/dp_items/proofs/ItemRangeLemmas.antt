@@ -1,5 +1,6 @@
 -- Gathering lines into items, from the last line to the first.
-use Rattle.std.proofs.Common.{◌≡◌, ℕ, zero, suc, ◌+◌, ◌-◌, ◌<◌, ◌≤◌, ◌^◌, Bool, true, false, List, [], ◌∷◌, ◌++◌, length, get_or, take, drop, map, refl, sym, ap, subst, ◌∙◌, arith}
+use Rattle.std.proofs.Common.{◌≡◌, ℕ, zero, suc, ◌+◌, ◌-◌, ◌<◌, ◌≤◌, ◌^◌, Bool, true, false, List, [], ◌∷◌, ◌++◌,
+    length, get_or, take, drop, map, refl, sym, ap, subst, ◌∙◌, arith}
 use Rattle.std.specs.Prelude.{slice_range, reverse, All}
 use Rattle.std.proofs.lemmas.List.{drop_more, drop-drop, drop_all, reverse-append}
 use Rattle.std.proofs.lemmas.List.Elements.{All-push}
@@ -52,7 +53,8 @@ module _ (end : ℕ) (pieces : List Piece) (lines : List LineRange) where
     pub next_limit : next ≤ 2 ^ 26
     pub each : All (IsItemRange pieces lines) ranges
     pub items : items_of end (map (line_of pieces) (drop at lines))
-        ≡ record { before = map (line_of pieces) (slice_range lines at before); items = map (item_in pieces lines) (reverse ranges) }
+        ≡ record { before = map (line_of pieces) (slice_range lines at before); items =
+            map (item_in pieces lines) (reverse ranges) }
 
   pub at_start : end ≤ 2 ^ 26 → AreItemsFrom (length lines) (length lines) (length pieces) end []
   unfolding items_of
@@ -69,7 +71,8 @@ module _ (end : ℕ) (pieces : List Piece) (lines : List LineRange) where
             ∙ ap (λ (l : List LineRange). gathered l []) (sym (empty_stretch lines (length lines)));
       }
 
-  pub one_back : (at before past next : ℕ) (ranges : List ItemRange) → 0 < at → AreItemsFrom at before past next ranges
+  pub one_back : (at before past next : ℕ) (ranges : List ItemRange) → 0 < at
+      → AreItemsFrom at before past next ranges
       → AreItemsFrom (at - 1 + 1) before past next ranges
   one_back at before past next ranges h so_far =
       let same : at ≡ at - 1 + 1 = omega arith in subst (λ k. AreItemsFrom k before past next ranges) same so_far
@@ -82,10 +85,13 @@ module _ (end : ℕ) (pieces : List Piece) (lines : List LineRange) where
     cut = drop_more lines at no_line h
 
     -- the line, and the run behind it
-    run_here : AreOneRun (start (line ∷ drop (at + 1) lines) (length pieces)) (line ∷ drop (at + 1) lines) (length pieces)
-    run_here = subst (λ (l : List LineRange). AreOneRun (start l (length pieces)) l (length pieces)) cut (run_drop at 0 lines (length pieces) run)
+    run_here : AreOneRun (start (line ∷ drop (at + 1) lines) (length pieces)) (line ∷ drop (at + 1) lines)
+        (length pieces)
+    run_here = subst (λ (l : List LineRange). AreOneRun (start l (length pieces)) l (length pieces)) cut
+        (run_drop at 0 lines (length pieces) run)
 
-    module _ (before past next : ℕ) (ranges : List ItemRange) (so_far : AreItemsFrom (at + 1) before past next ranges) where
+    module _ (before past next : ℕ) (ranges : List ItemRange)
+        (so_far : AreItemsFrom (at + 1) before past next ranges) where
       abbrev range : ItemRange
       range = record { line = at; lines_past = before; past = past; next = next }
 
@@ -102,29 +108,34 @@ module _ (end : ℕ) (pieces : List Piece) (lines : List LineRange) where
       past_within : past ≤ length pieces
       past_within =
           let is = so_far.past_is in
-          let ahead = run_ahead (start (drop before lines) (length pieces)) (drop before lines) (length pieces) (run_drop before 0 lines (length pieces) run) in
+          let ahead = run_ahead (start (drop before lines) (length pieces)) (drop before lines) (length pieces)
+              (run_drop before 0 lines (length pieces) run) in
           omega arith
 
       is_item : begins_item (slice_range pieces line.first line.past) ≡ true → IsItemRange pieces lines range
       is_item b = record {
         in_order = (let in_order = so_far.in_order in omega arith);
         within = so_far.within;
-        item = record { begins = b; limit = run_here.0.limit; one_run = behind; within = past_within; next_limit = so_far.next_limit };
+        item = record { begins = b; limit = run_here.0.limit; one_run = behind; within = past_within; next_limit =
+            so_far.next_limit };
       }
 
       -- the items with this line in front
       in_front : (b : Bool) → begins_item (slice_range pieces line.first line.past) ≡ b
           → items_of end (map (line_of pieces) (drop at lines))
-          ≡ with_line end b (line_of pieces line) (gathered (slice_range lines (at + 1) before) (map (item_in pieces lines) (reverse ranges)))
+          ≡ with_line end b (line_of pieces line) (gathered (slice_range lines (at + 1) before)
+              (map (item_in pieces lines) (reverse ranges)))
       unfolding items_of
       in_front b e =
           ap (λ (l : List LineRange). items_of end (map (line_of pieces) l)) cut
-          ∙ ap (λ v. with_line end v (line_of pieces line) (items_of end (map (line_of pieces) (drop (at + 1) lines)))) e
+          ∙ ap (λ v. with_line end v (line_of pieces line)
+              (items_of end (map (line_of pieces) (drop (at + 1) lines)))) e
           ∙ ap (with_line end b (line_of pieces line)) so_far.items
 
       pub begins : begins_item (slice_range pieces line.first line.past) ≡ true
           → first_at end (slice_range pieces line.first line.past) ≤ 2 ^ 26
-          → AreItemsFrom at at line.first (first_at end (slice_range pieces line.first line.past)) (ranges ++ range ∷ [])
+          → AreItemsFrom at at line.first (first_at end (slice_range pieces line.first line.past))
+              (ranges ++ range ∷ [])
       begins b limit =
           let last : reverse (ranges ++ range ∷ []) ≡ range ∷ reverse ranges = reverse-append ranges (range ∷ []) in
           record {
@@ -135,9 +146,12 @@ module _ (end : ℕ) (pieces : List Piece) (lines : List LineRange) where
             next_limit = limit;
             each = All-push (IsItemRange pieces lines) ranges range so_far.each (is_item b);
             items = in_front true b
-                ∙ ap (λ n. gathered [] (item_of pieces line (slice_range lines (at + 1) before) n ∷ map (item_in pieces lines) (reverse ranges))) (sym so_far.next_is)
-                ∙ ap (λ (l : List LineRange). gathered l (map (item_in pieces lines) (range ∷ reverse ranges))) (sym (empty_stretch lines at))
-                ∙ ap (λ (l : List ItemRange). gathered (slice_range lines at at) (map (item_in pieces lines) l)) (sym last);
+                ∙ ap (λ n. gathered [] (item_of pieces line (slice_range lines (at + 1) before) n ∷ map
+                    (item_in pieces lines) (reverse ranges))) (sym so_far.next_is)
+                ∙ ap (λ (l : List LineRange). gathered l (map (item_in pieces lines) (range ∷ reverse ranges)))
+                    (sym (empty_stretch lines at))
+                ∙ ap (λ (l : List ItemRange). gathered (slice_range lines at at) (map (item_in pieces lines) l))
+                    (sym last);
           }
 
       pub goes_on : begins_item (slice_range pieces line.first line.past) ≡ false
@@ -154,15 +168,20 @@ module _ (end : ℕ) (pieces : List Piece) (lines : List LineRange) where
             next_is = so_far.next_is;
             next_limit = so_far.next_limit;
             each = so_far.each;
-            items = in_front false b ∙ ap (λ (l : List LineRange). gathered l (map (item_in pieces lines) (reverse ranges))) (sym front);
+            items = in_front false b ∙ ap (λ (l : List LineRange).
+                gathered l (map (item_in pieces lines) (reverse ranges))) (sym front);
           }
 
-  pub at_end : (before past next : ℕ) (ranges : ItemRanges) (made : List ItemRange) → AreItemsFrom 0 before past next made
+  pub at_end : (before past next : ℕ) (ranges : ItemRanges) (made : List ItemRange)
+      → AreItemsFrom 0 before past next made
       → ranges.before ≡ before → ranges.items.items ≡ reverse made → AreItemsOf end pieces lines ranges
   at_end before past next ranges made so_far before_is items_are = record {
     before = (let within = so_far.within in omega arith);
-    each = subst (All (IsItemRange pieces lines)) (sym items_are) (all_reverse (IsItemRange pieces lines) made so_far.each);
+    each = subst (All (IsItemRange pieces lines)) (sym items_are)
+        (all_reverse (IsItemRange pieces lines) made so_far.each);
     items = so_far.items
-        ∙ ap (λ k. gathered (take k lines) (map (item_in pieces lines) (reverse made))) (let e : before - 0 ≡ ranges.before = omega arith in e)
-        ∙ ap (λ (l : List ItemRange). gathered (take ranges.before lines) (map (item_in pieces lines) l)) (sym items_are);
+        ∙ ap (λ k. gathered (take k lines) (map (item_in pieces lines) (reverse made)))
+            (let e : before - 0 ≡ ranges.before = omega arith in e)
+        ∙ ap (λ (l : List ItemRange). gathered (take ranges.before lines) (map (item_in pieces lines) l))
+            (sym items_are);
   }

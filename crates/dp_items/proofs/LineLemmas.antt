@@ -1,5 +1,6 @@
 -- Cutting pieces into lines, one piece after the other.
-use Rattle.std.proofs.Common.{◌≡◌, ℕ, ◌+◌, ◌-◌, ◌<◌, ◌≤◌, ◌^◌, Bool, true, false, cond, List, [], ◌∷◌, ◌++◌, length, take, drop, map, Option, Some, None, refl, sym, ap, subst, ◌∙◌, append_assoc, arith}
+use Rattle.std.proofs.Common.{◌≡◌, ℕ, ◌+◌, ◌-◌, ◌<◌, ◌≤◌, ◌^◌, Bool, true, false, cond, List, [], ◌∷◌, ◌++◌, length,
+    take, drop, map, Option, Some, None, refl, sym, ap, subst, ◌∙◌, append_assoc, arith}
 use Rattle.std.specs.Prelude.{filter, nat_lt, slice_get, slice_range}
 use Rattle.std.proofs.lemmas.List.{append-nil, length-drop, length-take, map-append, drop-drop}
 use Rattle.std.proofs.lemmas.Bool.Decides.{nat_tests}
@@ -23,7 +24,8 @@ onto_none (line ∷ lines) = refl
 onto_more : (pieces : List Piece) (p : Piece) (lines : List Line)
     → onto pieces (onto (p ∷ []) lines) ≡ onto (pieces ++ p ∷ []) lines
 onto_more pieces p [] = refl
-onto_more pieces p (line ∷ lines) = ap (λ (l : List Piece). record { pieces = l; ends = line.ends } ∷ lines) (sym (append_assoc pieces (p ∷ []) line.pieces))
+onto_more pieces p (line ∷ lines) = ap (λ (l : List Piece). record { pieces = l; ends = line.ends } ∷ lines)
+    (sym (append_assoc pieces (p ∷ []) line.pieces))
 
 other_piece : (k : Kind) (p : Piece) (lines : List Line) → (k ≡ LineEnd → ⊥)
     → with_piece k p lines ≡ onto (p ∷ []) lines
@@ -53,7 +55,8 @@ drops p rest is = ap (λ k. cond (is_no_line_end k) (p ∷ kept_pieces rest) (ke
 one_stretch : (b : Bool) (from : ℕ) (range : LineRange) → nat_lt range.first range.past ≡ b → from ≡ range.first
     → range.first ≤ range.past
     → range.ends ≤ 2 ^ 26 → AreOneRun from (cond b (range ∷ []) []) range.past
-one_stretch true from range test run h limit = (record { first = sym run; some = grind (arith, nat_tests); limit = limit }, refl)
+one_stretch true from range test run h limit = (record { first = sym run; some = grind (arith, nat_tests); limit =
+    limit }, refl)
 one_stretch false from range test run h limit = grind (arith, nat_tests)
 
 pub none_of : {X : Type 0} (found : Option X) → ((x : X) → found ≡ Some x → ⊥) → found ≡ None
@@ -78,7 +81,8 @@ module _ (end : ℕ) (pieces : List Piece) where
     pub within : past ≤ length (kept_pieces pieces)
     pub left : drop past (kept_pieces pieces) ≡ kept_pieces (drop at pieces)
     pub one_run : AreOneRun 0 ranges first
-    pub so_far : map (line_of (kept_pieces pieces)) ranges ++ filter has_pieces (onto (slice_range (kept_pieces pieces) first past) (lines_of end (drop at pieces)))
+    pub so_far : map (line_of (kept_pieces pieces)) ranges
+        ++ filter has_pieces (onto (slice_range (kept_pieces pieces) first past) (lines_of end (drop at pieces)))
         ≡ filter has_pieces (lines_of end pieces)
 
   pub at_start : AreLinesSoFar [] 0 0 0
@@ -101,7 +105,8 @@ module _ (end : ℕ) (pieces : List Piece) where
   shown range others h =
       let long : length (slice_range kept range.first range.past) ≡ range.past - range.first =
       omega (arith, length-take (range.past - range.first) (drop range.first kept), length-drop range.first kept) in
-      ap (λ b. cond b (line_of kept range ∷ filter has_pieces others) (filter has_pieces others)) (same_test range.first range.past _ long)
+      ap (λ b. cond b (line_of kept range ∷ filter has_pieces others) (filter has_pieces others))
+          (same_test range.first range.past _ long)
       ∙ chosen (nat_lt range.first range.past)
     where
       chosen : (b : Bool) → cond b (line_of kept range ∷ filter has_pieces others) (filter has_pieces others)
@@ -117,8 +122,10 @@ module _ (end : ℕ) (pieces : List Piece) where
       ≡ filter has_pieces (lines_of end pieces)
   closes ranges range at others so_far is =
       let now : List Piece = slice_range kept range.first range.past in
-      let first : onto (slice_range kept range.first range.past) (lines_of end (drop at pieces)) ≡ line_of kept range ∷ others =
-      ap (onto now) is ∙ ap (λ (l : List Piece). record { pieces = l; ends = range.ends } ∷ others) (append-nil now) in
+      let first : onto (slice_range kept range.first range.past) (lines_of end (drop at pieces))
+          ≡ line_of kept range ∷ others =
+      ap (onto now) is ∙ ap (λ (l : List Piece). record { pieces = l; ends = range.ends } ∷ others)
+          (append-nil now) in
       ap (λ (l : List Line). l ++ filter has_pieces others) (map-append (line_of kept) ranges (unless_empty range))
       ∙ append_assoc (map (line_of kept) ranges) (map (line_of kept) (unless_empty range)) (filter has_pieces others)
       ∙ ap (λ (l : List Line). map (line_of kept) ranges ++ l) (sym (shown range others so_far.within))
@@ -133,16 +140,20 @@ module _ (end : ℕ) (pieces : List Piece) where
   ends_line ranges range at p so_far here kind ends limit =
       let cut = drop_at pieces at p here in
       let others : List Line = lines_of end (drop (at + 1) pieces) in
-      let line : lines_of end (drop at pieces) ≡ record { pieces = []; ends = range.ends } ∷ lines_of end (drop (at + 1) pieces) =
-      ap (lines_of end) cut ∙ ap (λ k. with_piece k p others) kind ∙ ap (λ e. record { pieces = []; ends = e } ∷ others) (sym ends) in
+      let line : lines_of end (drop at pieces) ≡ record { pieces = []; ends =
+          range.ends } ∷ lines_of end (drop (at + 1) pieces) =
+      ap (lines_of end) cut ∙ ap (λ k. with_piece k p others) kind
+          ∙ ap (λ e. record { pieces = []; ends = e } ∷ others) (sym ends) in
       record {
         in_order = omega arith;
         behind = (let behind = so_far.behind in omega arith);
         within = so_far.within;
         left = so_far.left ∙ ap kept_pieces cut ∙ drops p (drop (at + 1) pieces) kind;
         one_run = run_push 0 ranges range so_far.one_run so_far.in_order (omega arith);
-        so_far = ap (λ (l : List Piece). map (line_of kept) (ranges ++ unless_empty range) ++ filter has_pieces (onto l others)) (empty_stretch kept range.past)
-            ∙ ap (λ (l : List Line). map (line_of kept) (ranges ++ unless_empty range) ++ filter has_pieces l) (onto_none others)
+        so_far = ap (λ (l : List Piece). map (line_of kept) (ranges ++ unless_empty range)
+            ++ filter has_pieces (onto l others)) (empty_stretch kept range.past)
+            ∙ ap (λ (l : List Line). map (line_of kept) (ranges ++ unless_empty range) ++ filter has_pieces l)
+                (onto_none others)
             ∙ closes ranges range at others so_far line;
       }
 
@@ -153,12 +164,16 @@ module _ (end : ℕ) (pieces : List Piece) where
       let cut = drop_at pieces at p here in
       let others : List Line = lines_of end (drop (at + 1) pieces) in
       let in_order = so_far.in_order in
-      let left : drop past kept ≡ p ∷ kept_pieces (drop (at + 1) pieces) = so_far.left ∙ ap kept_pieces cut ∙ keeps p (drop (at + 1) pieces) other in
+      let left : drop past kept ≡ p ∷ kept_pieces (drop (at + 1) pieces) =
+          so_far.left ∙ ap kept_pieces cut ∙ keeps p (drop (at + 1) pieces) other in
       let one : (past + 1) - past ≡ 1 = omega arith in
-      let last : slice_range kept past (past + 1) ≡ p ∷ [] = ap (λ k. take k (drop past kept)) one ∙ ap (take 1) left in
+      let last : slice_range kept past (past + 1) ≡ p ∷ [] =
+          ap (λ k. take k (drop past kept)) one ∙ ap (take 1) left in
       let more : slice_range kept first (past + 1) ≡ slice_range kept first past ++ p ∷ [] =
-      sym (stretches kept first past (past + 1) in_order (omega arith)) ∙ ap (λ (l : List Piece). slice_range kept first past ++ l) last in
-      let line : onto (slice_range kept first (past + 1)) others ≡ onto (slice_range kept first past) (lines_of end (drop at pieces)) =
+      sym (stretches kept first past (past + 1) in_order (omega arith))
+          ∙ ap (λ (l : List Piece). slice_range kept first past ++ l) last in
+      let line : onto (slice_range kept first (past + 1)) others
+          ≡ onto (slice_range kept first past) (lines_of end (drop at pieces)) =
       ap (λ (l : List Piece). onto l others) more ∙ sym (onto_more (slice_range kept first past) p others)
       ∙ ap (onto (slice_range kept first past)) (sym (ap (lines_of end) cut ∙ other_piece p.kind p others other)) in
       record {
@@ -171,7 +186,8 @@ module _ (end : ℕ) (pieces : List Piece) where
       }
 
   pub at_end : (ranges : List LineRange) (range : LineRange) (at : ℕ) → AreLinesSoFar ranges range.first range.past at
-      → slice_get pieces at ≡ None → range.ends ≡ end → end ≤ 2 ^ 26 → AreLinesOf end pieces (ranges ++ unless_empty range)
+      → slice_get pieces at ≡ None → range.ends ≡ end → end ≤ 2 ^ 26
+          → AreLinesOf end pieces (ranges ++ unless_empty range)
   unfolding lines_of
   at_end ranges range at so_far none ends limit =
       let cut = drop_none pieces at none in
@@ -181,6 +197,8 @@ module _ (end : ℕ) (pieces : List Piece) where
       let within = so_far.within in
       let past : range.past ≡ length kept = omega (arith, length-drop range.past kept) in
       record {
-        one_run = subst (AreOneRun 0 (ranges ++ unless_empty range)) past (run_push 0 ranges range so_far.one_run so_far.in_order (omega arith));
-        lines = sym (append-nil (map (line_of kept) (ranges ++ unless_empty range))) ∙ closes ranges range at [] so_far line;
+        one_run = subst (AreOneRun 0 (ranges ++ unless_empty range)) past
+            (run_push 0 ranges range so_far.one_run so_far.in_order (omega arith));
+        lines = sym (append-nil (map (line_of kept) (ranges ++ unless_empty range)))
+            ∙ closes ranges range at [] so_far line;
       }

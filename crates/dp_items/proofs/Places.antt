@@ -1,5 +1,6 @@
 -- What stands at a place of a list, and from it on.
-use Rattle.std.proofs.Common.{◌≡◌, ℕ, zero, suc, ◌+◌, ◌<◌, length, get_or, drop-cons, List, [], ◌∷◌, drop, add-one, arith}
+use Rattle.std.proofs.Common.{◌≡◌, ℕ, zero, suc, ◌+◌, ◌<◌, length, get_or, drop-cons, List, [], ◌∷◌, drop, add-one,
+    arith}
 use Rattle.std.specs.Prelude.{Some, None}
 use Rattle.std.specs.List.{slice_get}
 use Rattle.std.proofs.lemmas.List.{drop_all}
@@ -17,5 +18,6 @@ drop_none [] k e = drop_all k [] (omega arith)
 drop_none (y ∷ ys) zero e = cc
 drop_none (y ∷ ys) (suc k) e = drop_none ys k e
 
-pub drop_item : {X : Type 0} (xs : List X) (k : ℕ) (d : X) → k < length xs → drop k xs ≡ get_or xs k d ∷ drop (k + 1) xs
+pub drop_item : {X : Type 0} (xs : List X) (k : ℕ) (d : X) → k < length xs
+    → drop k xs ≡ get_or xs k d ∷ drop (k + 1) xs
 drop_item xs k d h = rw add-one (drop-cons xs k d h)

@@ -23,7 +23,8 @@ abbrev pub items_of_text : List ℕ → List Token → List LineRange → ItemRa
 items_of_text bytes tokens lines items end = with_end end (items_in (pieces_of_text bytes tokens) lines items)
 
 -- these are stretches of tokens of a text of at most 2^26 bytes
-pub record IsDocument (bytes : List ℕ) (tokens : List Token) (lines : List LineRange) (items : ItemRanges) (end : ℕ) : Type 0 where
+pub record IsDocument (bytes : List ℕ) (tokens : List Token) (lines : List LineRange) (items : ItemRanges) (end : ℕ) :
+    Type 0 where
   pub pieces : ArePiecesOf bytes tokens
   pub one_run : AreOneRun 0 lines (length (pieces_of_text bytes tokens))
   pub before : items.before ≤ length lines

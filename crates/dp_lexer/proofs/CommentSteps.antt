@@ -1,5 +1,6 @@
 -- Comments from one byte to the next.
-use Rattle.std.proofs.Common.{◌≡◌, ℕ, zero, suc, ◌+◌, ◌-◌, ◌≤◌, ◌<◌, Bool, true, false, ◌||◌, List, [], ◌∷◌, ◌++◌, length, get_or, take, drop, refl, sym, ap, ◌∙◌, arith, add-zero, inl, inr}
+use Rattle.std.proofs.Common.{◌≡◌, ℕ, zero, suc, ◌+◌, ◌-◌, ◌≤◌, ◌<◌, Bool, true, false, ◌||◌, List, [], ◌∷◌, ◌++◌,
+    length, get_or, take, drop, refl, sym, ap, ◌∙◌, arith, add-zero, inl, inr}
 use Rattle.std.specs.Prelude.{◌==◌}
 use Rattle.std.specs.List.{list_any, prefix_len, suffix_len}
 use Rattle.std.proofs.lemmas.Bool.{cases_Bool}
@@ -19,7 +20,8 @@ after_feed bytes b feed =
     let none : suffix_len is_no_line_feed (bytes ++ b ∷ []) ≡ 0
     = ap (prefix_len is_no_line_feed) (reverse-append bytes (b ∷ [])) ∙ rw feed refl in
     let past : last_line (bytes ++ b ∷ []) ≡ []
-    = ap (λ n. drop (length (bytes ++ b ∷ []) - n) (bytes ++ b ∷ [])) none ∙ drop_all _ (bytes ++ b ∷ []) (omega arith) in
+    = ap (λ n. drop (length (bytes ++ b ∷ []) - n) (bytes ++ b ∷ [])) none
+        ∙ drop_all _ (bytes ++ b ∷ []) (omega arith) in
     ap (list_any (λ b. b == hash)) past
 
 -- behind another byte one is open where one was, or where the byte is a `#`
@@ -52,7 +54,8 @@ module _ (text : List ℕ) where
   -- another byte is in a comment where one was open before it, or where it is a `#`
   at_other : (at : ℕ) → at < length text → is_line_feed (get_or text at 0) ≡ false
       → is_in_comment text at ≡ (is_open (take at text) || (get_or text at 0 == hash || false))
-  at_other at inside other = ap is_open (take_more text at 0 inside) ∙ after_other (take at text) (get_or text at 0) other
+  at_other at inside other = ap is_open (take_more text at 0 inside)
+      ∙ after_other (take at text) (get_or text at 0) other
 
   -- in front of a line feed a comment can only begin
   pub outside_feed : (at : ℕ) → (at < length text → is_line_feed (get_or text at 0) ≡ true) → IsOutside at
@@ -73,7 +76,8 @@ module _ (text : List ℕ) where
   -- without a `#` no comment begins
   pub stays_closed : (at n : ℕ) → at + n ≤ length text → ((k : ℕ) → k < n → (get_or text (at + k) 0 == hash) ≡ false)
       → IsOutside at → (k : ℕ) → k < n → is_in_comment text (at + k) ≡ false
-  stays_closed at n within none outside zero lt = rw add-zero (outside (omega arith) ∙ (rw add-zero at (none zero lt)))
+  stays_closed at n within none outside zero lt = rw add-zero (outside (omega arith)
+      ∙ (rw add-zero at (none zero lt)))
   stays_closed at n within none outside (suc k) lt =
       let next : at + suc k ≡ at + k + 1 = omega arith in
       let before : is_in_comment text (at + k) ≡ false = stays_closed at n within none outside k (omega arith) in
@@ -87,4 +91,5 @@ module _ (text : List ℕ) where
   stays_open at n within begins none (suc k) lt =
       let next : at + suc k ≡ at + k + 1 = omega arith in
       let before : is_in_comment text (at + k) ≡ true = stays_open at n within begins none k (omega arith) in
-      at_other (at + suc k) (omega arith) (none k (omega arith)) ∙ rw (ap (λ i. is_open (take i text)) next ∙ before) refl
+      at_other (at + suc k) (omega arith) (none k (omega arith))
+          ∙ rw (ap (λ i. is_open (take i text)) next ∙ before) refl

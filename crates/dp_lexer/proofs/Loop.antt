@@ -1,5 +1,7 @@
 -- Where the loop of `lex` stands, and what one iteration keeps of it.
-use Rattle.std.proofs.Common.{◌≡◌, ℕ, suc, ◌+◌, ◌-◌, ◌≤◌, ◌<◌, Bool, true, false, cond, List, [], ◌∷◌, ◌++◌, length, get_or, take, drop, Option, Some, None, Result, Ok, Err, refl, sym, ap, ◌∙◌, append_assoc, arith, add-zero, zero-add, one-add, inl, inr}
+use Rattle.std.proofs.Common.{◌≡◌, ℕ, suc, ◌+◌, ◌-◌, ◌≤◌, ◌<◌, Bool, true, false, cond, List, [], ◌∷◌, ◌++◌, length,
+    get_or, take, drop, Option, Some, None, Result, Ok, Err, refl, sym, ap, ◌∙◌, append_assoc, arith, add-zero,
+    zero-add, one-add, inl, inr}
 use Rattle.std.specs.Prelude.{count_by}
 use Rattle.std.specs.List.{prefix_len}
 use Rattle.std.proofs.Math.Seq.{take-add}
@@ -50,7 +52,8 @@ module _ (p : ℕ → Bool) (none : (b : ℕ) → p b ≡ true → is_line_feed 
   -- one byte more without a line feed
   one_more : (b : ℕ) (rest : List ℕ) (v : Bool) → p b ≡ v → feeds (take (prefix_len p rest) rest) ≡ 0
       → feeds (take (cond v (1 + prefix_len p rest) 0) (b ∷ rest)) ≡ 0
-  one_more b rest true passes others = rw one-add (feeds-cons b (take (prefix_len p rest) rest) ∙ rw (none b passes) (zero-add _ ∙ others))
+  one_more b rest true passes others = rw one-add (feeds-cons b (take (prefix_len p rest) rest)
+      ∙ rw (none b passes) (zero-add _ ∙ others))
   one_more b rest false fails others = refl
 
   -- no line ends among bytes that are no line feeds
@@ -97,7 +100,8 @@ pub record IsLexeme (text : List ℕ) (at more : ℕ) (class : Class) (kind : Op
   pub more_is : more ≡ more_of class (take (length text - (at + 1)) (drop (at + 1) text))
   pub kind_is : kind ≡ kind_of class (take (at + 1 + more - at) (drop at text))
 
-module _ {text : List ℕ} {at more : ℕ} {class : Class} {kind : Option Kind} (lexeme : IsLexeme text at more class kind) where
+module _ {text : List ℕ} {at more : ℕ} {class : Class} {kind : Option Kind}
+    (lexeme : IsLexeme text at more class kind) where
   abbrev rest : List ℕ
   rest = drop (at + 1) text
 
@@ -116,8 +120,10 @@ module _ {text : List ℕ} {at more : ℕ} {class : Class} {kind : Option Kind} 
       let kind_is : kind_of class (take (suc more) (drop at text)) ≡ kind
       = sym (lexeme.kind_is ∙ ap (λ n. kind_of class (take n (drop at text))) len) in
       moves text at lexeme.inside class lexeme.class_is lexeme.good
-      ∙ ap (λ n. with_token text at n (kind_of class (take n (drop at text))) (tokens_at text (at + suc (more_of class rest)))) size
-      ∙ ap (λ n. with_token text at (suc more) (kind_of class (take (suc more) (drop at text))) (tokens_at text n)) end_is
+      ∙ ap (λ n. with_token text at n (kind_of class (take n (drop at text)))
+          (tokens_at text (at + suc (more_of class rest)))) size
+      ∙ ap (λ n. with_token text at (suc more) (kind_of class (take (suc more) (drop at text))) (tokens_at text n))
+          end_is
       ∙ ap (λ k. with_token text at (suc more) k (tokens_at text (at + 1 + more))) kind_is
 
   -- the lexeme ends within the text
@@ -130,7 +136,8 @@ module _ {text : List ℕ} {at more : ℕ} {class : Class} {kind : Option Kind} 
       let none : feeds (take more rest) ≡ 0 = rw more_is (more_of-feeds class rest) in
       let sum : at + 1 + more ≡ at + suc more = omega arith in
       let here : feeds (take (suc more) (drop at text)) ≡ cond (is_line_feed (get_or text at 0)) 1 0
-      = ap (λ l. feeds (take (suc more) l)) (cut text at lexeme.inside) ∙ feeds-cons (get_or text at 0) (take more rest)
+      = ap (λ l. feeds (take (suc more) l)) (cut text at lexeme.inside)
+          ∙ feeds-cons (get_or text at 0) (take more rest)
       ∙ rw (none, add-zero) refl in
       let all : feeds (take (at + 1 + more) text) ≡ feeds (take at text) + feeds (take (suc more) (drop at text))
       = ap (λ n. feeds (take n text)) sum ∙ ap feeds (take-add at (suc more) text)
@@ -141,7 +148,8 @@ module _ {text : List ℕ} {at more : ℕ} {class : Class} {kind : Option Kind} 
 puts : (tokens : List Token) (token : Token) (text : List ℕ) (at len : ℕ) (kind : Kind) (rest : Result (List Token) ℕ)
     → token ≡ record { start = at; end = at + len; line = line_at text at; kind = kind }
     → before tokens (with_token text at len (Some kind) rest) ≡ before (tokens ++ token ∷ []) rest
-puts tokens token text at len kind (Ok others) is = rw is (ap (λ (l : List Token). Ok l) (sym (append_assoc tokens (_ ∷ []) others)))
+puts tokens token text at len kind (Ok others) is = rw is
+    (ap (λ (l : List Token). Ok l) (sym (append_assoc tokens (_ ∷ []) others)))
 puts tokens token text at len kind (Err bad) is = refl
 
 -- the lexeme is none
@@ -163,7 +171,8 @@ module _ {text : List ℕ} {tokens : List Token} {at line : ℕ} (here : IsAt te
       record {
         within = more_fits lexeme;
         line_is = line_is;
-        so_far = sym (ap (before tokens) (moved lexeme) ∙ puts tokens token text at (suc more) kind _ same) ∙ here.so_far;
+        so_far = sym (ap (before tokens) (moved lexeme) ∙ puts tokens token text at (suc more) kind _ same)
+            ∙ here.so_far;
       }
 
   -- a lexeme that is none

@@ -1,5 +1,6 @@
 -- From one step to the whole text: the laws on tokens.
-use Rattle.std.proofs.Common.{◌≡◌, ℕ, zero, suc, ◌+◌, ◌-◌, ◌≤◌, ◌<◌, true, false, List, [], ◌∷◌, ◌++◌, length, take, drop, map, Option, Some, None, Result, Ok, Err, refl, sym, ap, subst, ◌∙◌, inl, inr, arith}
+use Rattle.std.proofs.Common.{◌≡◌, ℕ, zero, suc, ◌+◌, ◌-◌, ◌≤◌, ◌<◌, true, false, List, [], ◌∷◌, ◌++◌, length, take,
+    drop, map, Option, Some, None, Result, Ok, Err, refl, sym, ap, subst, ◌∙◌, inl, inr, arith}
 use Rattle.std.specs.Prelude.{filter, find, is_some, All, AllPairs, slice_index}
 use Rattle.std.specs.List.{flat_map, range_with_len}
 use Rattle.std.specs.Result.{result_err}
@@ -56,7 +57,8 @@ module _ (text : List ℕ) where
   skips : (at n : ℕ) (others : List Token) → Advances text at n None → AreTokensFrom (at + n) others
       → AreTokensFrom at others
   skips at n others step rest =
-      let kept : kept_from text at ≡ kept_from text (at + n) = kept-stretch text at n false step.within step.stretch in
+      let kept : kept_from text at ≡ kept_from text (at + n) =
+          kept-stretch text at n false step.within step.stretch in
       record {
         each = rest.each;
         later = later_from at n others rest.later;
@@ -67,7 +69,8 @@ module _ (text : List ℕ) where
 
   -- a lexeme that is a token
   takes : (at n : ℕ) (kind : Kind) (token : Token) (others : List Token) → Advances text at n (Some kind)
-      → token ≡ record { start = at; end = at + n; line = line_at text at; kind = kind } → AreTokensFrom (at + n) others
+      → token ≡ record { start = at; end = at + n; line = line_at text at; kind = kind }
+          → AreTokensFrom (at + n) others
       → AreTokensFrom at (token ∷ others)
   takes at n kind token others step is rest = rw is (record {
     each = All-cons (IsTokenOf text) made others shown rest.each;
@@ -77,7 +80,8 @@ module _ (text : List ℕ) where
         ∙ ap (λ l. map (slice_index text) (range_with_len at n) ++ l) rest.together
         ∙ sym (map-append (slice_index text) (range_with_len at n) (kept_from text (at + n)))
         ∙ ap (map (slice_index text)) (sym kept);
-    in_place = ap (λ m. range_with_len at m ++ flat_map offsets_of others) size ∙ ap (λ l. range_with_len at n ++ l) rest.in_place
+    in_place = ap (λ m. range_with_len at m ++ flat_map offsets_of others) size
+        ∙ ap (λ l. range_with_len at n ++ l) rest.in_place
         ∙ sym kept;
   })
     where
@@ -103,7 +107,8 @@ module _ (text : List ℕ) where
       kept = kept-stretch text at n true step.within step.stretch
 
   -- a lexeme, and the tokens behind it
-  after : (at n : ℕ) (kind : Option Kind) (tokens : List Token) (rest : Result (List Token) ℕ) → Advances text at n kind
+  after : (at n : ℕ) (kind : Option Kind) (tokens : List Token) (rest : Result (List Token) ℕ)
+      → Advances text at n kind
       → with_token text at n kind rest ≡ Ok tokens
       → ((others : List Token) → rest ≡ Ok others → AreTokensFrom (at + n) others)
       → AreTokensFrom at tokens
@@ -125,7 +130,8 @@ module _ (text : List ℕ) where
       let none : [] ≡ tokens = let both = sym (ends at past) ∙ is in cc in
       subst (AreTokensFrom at) none (no_tokens at past)
   from_here (suc fuel) at tokens enough outside is = elim (cases_lt at (length text)) [
-    | inr past ↦ (let none : [] ≡ tokens = let both = sym (ends at past) ∙ is in cc in subst (AreTokensFrom at) none (no_tokens at past))
+    | inr past ↦ (let none : [] ≡ tokens = let both = sym (ends at past) ∙ is in cc in
+          subst (AreTokensFrom at) none (no_tokens at past))
     | inl inside ↦ elim (step_of text at inside outside) [
       | halts stop bad ↦ absurd (let both = sym stop ∙ is in cc)
       | goes n kind step ↦ after at n kind tokens (tokens_at text (at + n)) step (sym step.moves_on ∙ is)

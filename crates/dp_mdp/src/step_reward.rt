@@ -19,7 +19,8 @@ pub fn state_reward<A: Arith>(
     state: u32,
 ) -> Span
     requires zero { KeepsZero (A.operations arith.now) }
-    requires sizes { AllowsReward (A.operations arith.now) (A.calls arith.now) model.now.model rest weight action state }
+    requires sizes { AllowsReward (A.operations arith.now) (A.calls arith.now) model.now.model rest weight action
+        state }
     requires action { action < joint_actions model.now.model }
     requires state { state < model.now.model.states }
     ensures { result ≡ state_reward (A.operations arith.now) model.now.model rest weight action state }
@@ -46,7 +47,8 @@ fn arrival_reward<A: Arith>(
     next: u32,
     chance: u64,
 ) -> Span
-    requires sizes { AllowsReward (A.operations arith.now) (A.calls arith.now) model.now.model rest weight action state }
+    requires sizes { AllowsReward (A.operations arith.now) (A.calls arith.now) model.now.model rest weight action
+        state }
     requires action { action < joint_actions model.now.model }
     requires state { state < model.now.model.states }
     requires next { next < model.now.model.states }

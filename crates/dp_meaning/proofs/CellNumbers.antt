@@ -10,10 +10,12 @@ row_number actions states a s = omega arith
 pub parts_of_row : (actions states a s : ℕ) → a < actions → s < states
     → parts_of (actions ∷ states ∷ []) (a * states + s) ≡ a ∷ s ∷ []
 parts_of_row actions states a s h k =
-    ap (parts_of (actions ∷ states ∷ [])) (row_number actions states a s) ∙ parts_of-joint_number (actions ∷ states ∷ []) (a ∷ s ∷ []) (h, (k, tt))
+    ap (parts_of (actions ∷ states ∷ [])) (row_number actions states a s)
+        ∙ parts_of-joint_number (actions ∷ states ∷ []) (a ∷ s ∷ []) (h, (k, tt))
 
 cell_number : (actions states next seen a s t o : ℕ)
-    → ((a * states + s) * next + t) * seen + o ≡ joint_number (actions ∷ states ∷ next ∷ seen ∷ []) (a ∷ s ∷ t ∷ o ∷ [])
+    → ((a * states + s) * next + t) * seen + o ≡ joint_number (actions ∷ states ∷ next ∷ seen ∷ [])
+        (a ∷ s ∷ t ∷ o ∷ [])
 cell_number actions states next seen a s t o = omega arith
 
 -- the cell of a joint action, a state, a next state and a joint observation
@@ -26,4 +28,5 @@ parts_of_cell actions states next seen a s t o ha hs ht ho =
 -- it is below the cells together
 pub cell_below : (actions states next seen a s t o : ℕ) → a < actions → s < states → t < next → o < seen
     → ((a * states + s) * next + t) * seen + o < actions * states * next * seen
-cell_below actions states next seen a s t o ha hs ht ho = row_below _ _ _ _ (row_below _ _ _ _ (row_below _ _ _ _ ha hs) ht) ho
+cell_below actions states next seen a s t o ha hs ht ho =
+    row_below _ _ _ _ (row_below _ _ _ _ (row_below _ _ _ _ ha hs) ht) ho

@@ -4,13 +4,15 @@ use Rattle.std.specs.List.{list_any}
 use Rattle.dp_meaning.specs.declared.statement.Statement.{Statement}
 use Rattle.dp_meaning.specs.Fields.{Axis}
 use Rattle.dp_meaning.specs.Statements.{axis_size}
-use Rattle.dp_meaning.specs.Cells.{Cell, covers, given_chance, given_reward, chance_by, reward_by, chance_of_cell, reward_of_cell}
+use Rattle.dp_meaning.specs.Cells.{Cell, covers, given_chance, given_reward, chance_by, reward_by, chance_of_cell,
+    reward_of_cell}
 use Rattle.dp_meaning.proofs.Lists.{last_none, last_is, last_other}
 
 pub chance_uncovered : (scale : ℕ) (axes : List Axis) (statements : List Statement) (cell : Cell)
     → list_any (λ s. covers axes s.fields cell) statements ≡ false → chance_of_cell scale axes statements cell ≡ 0
 unfolding chance_of_cell
-chance_uncovered scale axes statements cell h = ap (chance_by scale axes cell) (last_none (λ s. covers axes s.fields cell) statements h)
+chance_uncovered scale axes statements cell h = ap (chance_by scale axes cell)
+    (last_none (λ s. covers axes s.fields cell) statements h)
 
 pub chance_of_last : (scale : ℕ) (axes : List Axis) (before : List Statement) (s : Statement) (after : List Statement)
     (cell : Cell)

@@ -18,7 +18,8 @@ use Rattle.dp_meaning.specs.Scales.{scales_of}
 use Rattle.dp_meaning.specs.Rows.{start_row, table_row, trans_rows, obs_rows, repaired_cells, repair, repair_all}
 use Rattle.dp_meaning.specs.Limits.{passed_limit}
 use Rattle.dp_meaning.specs.declared.why.Why.{Why}
-use Rattle.dp_meaning.specs.declared.why.Why.TheVariants.{BadByte, Expected, UnknownName, DoubleName, Number, RowSum, MissingRow, Header}
+use Rattle.dp_meaning.specs.declared.why.Why.TheVariants.{BadByte, Expected, UnknownName, DoubleName, Number, RowSum,
+    MissingRow, Header}
 use Rattle.dp_meaning.specs.Meaning.{Meaning, FaultAt, text_of, rewards_of, repaired_model, meaning}
 
 -- a text and its fault
@@ -54,7 +55,11 @@ items_rows =
     ∷ []
 
 items_fail : meanings items_rows ≡ faults items_rows
-unfolding is_decimal is_index significand numerator_tens denominator_tens decimal_of gcd_of lcm_of is_word is_name tokens_from tokens_of lines_of items_of number numbers names_after name_list name_lists find_in start_of kind_of with_entry header_with header_of fields_of part_of parts_in all_parts value_of statement statements_of chance_of_cell reward_of_cell scales_of start_row table_row trans_rows obs_rows repaired_cells repair repair_all passed_limit text_of rewards_of repaired_model meaning meanings faults items_rows
+unfolding is_decimal is_index significand numerator_tens denominator_tens decimal_of gcd_of lcm_of is_word is_name
+    tokens_from tokens_of lines_of items_of number numbers names_after name_list name_lists find_in start_of kind_of
+    with_entry header_with header_of fields_of part_of parts_in all_parts value_of statement statements_of
+    chance_of_cell reward_of_cell scales_of start_row table_row trans_rows obs_rows repaired_cells repair repair_all
+    passed_limit text_of rewards_of repaired_model meaning meanings faults items_rows
 items_fail = refl
 
 -- ---- the header
@@ -85,7 +90,11 @@ header_rows =
     ∷ []
 
 header_fail : meanings header_rows ≡ faults header_rows
-unfolding is_decimal is_index significand numerator_tens denominator_tens decimal_of gcd_of lcm_of is_word is_name tokens_from tokens_of lines_of items_of number numbers names_after name_list name_lists find_in start_of kind_of with_entry header_with header_of fields_of part_of parts_in all_parts value_of statement statements_of chance_of_cell reward_of_cell scales_of start_row table_row trans_rows obs_rows repaired_cells repair repair_all passed_limit text_of rewards_of repaired_model meaning meanings faults header_rows
+unfolding is_decimal is_index significand numerator_tens denominator_tens decimal_of gcd_of lcm_of is_word is_name
+    tokens_from tokens_of lines_of items_of number numbers names_after name_list name_lists find_in start_of kind_of
+    with_entry header_with header_of fields_of part_of parts_in all_parts value_of statement statements_of
+    chance_of_cell reward_of_cell scales_of start_row table_row trans_rows obs_rows repaired_cells repair repair_all
+    passed_limit text_of rewards_of repaired_model meaning meanings faults header_rows
 header_fail = refl
 
 -- ---- the values of the entries
@@ -130,7 +139,11 @@ entries_rows =
     ∷ []
 
 entries_fail : meanings entries_rows ≡ faults entries_rows
-unfolding is_decimal is_index significand numerator_tens denominator_tens decimal_of gcd_of lcm_of is_word is_name tokens_from tokens_of lines_of items_of number numbers names_after name_list name_lists find_in start_of kind_of with_entry header_with header_of fields_of part_of parts_in all_parts value_of statement statements_of chance_of_cell reward_of_cell scales_of start_row table_row trans_rows obs_rows repaired_cells repair repair_all passed_limit text_of rewards_of repaired_model meaning meanings faults entries_rows
+unfolding is_decimal is_index significand numerator_tens denominator_tens decimal_of gcd_of lcm_of is_word is_name
+    tokens_from tokens_of lines_of items_of number numbers names_after name_list name_lists find_in start_of kind_of
+    with_entry header_with header_of fields_of part_of parts_in all_parts value_of statement statements_of
+    chance_of_cell reward_of_cell scales_of start_row table_row trans_rows obs_rows repaired_cells repair repair_all
+    passed_limit text_of rewards_of repaired_model meaning meanings faults entries_rows
 entries_fail = refl
 
 -- ---- the statements, behind the header of `one_state`
@@ -181,7 +194,11 @@ statements_rows =
     ∷ []
 
 statements_fail : meanings statements_rows ≡ faults statements_rows
-unfolding is_decimal is_index significand numerator_tens denominator_tens decimal_of gcd_of lcm_of is_word is_name tokens_from tokens_of lines_of items_of number numbers names_after name_list name_lists find_in start_of kind_of with_entry header_with header_of fields_of part_of parts_in all_parts value_of statement statements_of chance_of_cell reward_of_cell scales_of start_row table_row trans_rows obs_rows repaired_cells repair repair_all passed_limit text_of rewards_of repaired_model meaning meanings faults statements_rows
+unfolding is_decimal is_index significand numerator_tens denominator_tens decimal_of gcd_of lcm_of is_word is_name
+    tokens_from tokens_of lines_of items_of number numbers names_after name_list name_lists find_in start_of kind_of
+    with_entry header_with header_of fields_of part_of parts_in all_parts value_of statement statements_of
+    chance_of_cell reward_of_cell scales_of start_row table_row trans_rows obs_rows repaired_cells repair repair_all
+    passed_limit text_of rewards_of repaired_model meaning meanings faults statements_rows
 statements_fail = refl
 
 -- ---- the rows, behind the header of `one_state`
@@ -192,11 +209,16 @@ rows_rows =
     -- a missing row of transitions comes before a wrong sum of observations
     ∷ faulty (one_state ++ codes "T: 0 : uniform\nO: * : 0.5\n") 12 1 MissingRow
     -- a wrong sum stands at the last statement that covers a cell of the row
-    ∷ faulty (one_state ++ codes "T: * : uniform\nO: 0 : uniform\nO: 1 : 0 : 0.5\nO: 1 : 0 : 0 : 0.25\nR: * : 0 : 1\n") 13 1 RowSum
+    ∷ faulty (one_state
+        ++ codes "T: * : uniform\nO: 0 : uniform\nO: 1 : 0 : 0.5\nO: 1 : 0 : 0 : 0.25\nR: * : 0 : 1\n") 13 1 RowSum
     ∷ []
 
 rows_fail : meanings rows_rows ≡ faults rows_rows
-unfolding is_decimal is_index significand numerator_tens denominator_tens decimal_of gcd_of lcm_of is_word is_name tokens_from tokens_of lines_of items_of number numbers names_after name_list name_lists find_in start_of kind_of with_entry header_with header_of fields_of part_of parts_in all_parts value_of statement statements_of chance_of_cell reward_of_cell scales_of start_row table_row trans_rows obs_rows repaired_cells repair repair_all passed_limit text_of rewards_of repaired_model meaning meanings faults rows_rows
+unfolding is_decimal is_index significand numerator_tens denominator_tens decimal_of gcd_of lcm_of is_word is_name
+    tokens_from tokens_of lines_of items_of number numbers names_after name_list name_lists find_in start_of kind_of
+    with_entry header_with header_of fields_of part_of parts_in all_parts value_of statement statements_of
+    chance_of_cell reward_of_cell scales_of start_row table_row trans_rows obs_rows repaired_cells repair repair_all
+    passed_limit text_of rewards_of repaired_model meaning meanings faults rows_rows
 rows_fail = refl
 
 -- ---- the row of the start
@@ -217,5 +239,9 @@ start_rows =
     ∷ []
 
 start_fail : meanings start_rows ≡ faults start_rows
-unfolding is_decimal is_index significand numerator_tens denominator_tens decimal_of gcd_of lcm_of is_word is_name tokens_from tokens_of lines_of items_of number numbers names_after name_list name_lists find_in start_of kind_of with_entry header_with header_of fields_of part_of parts_in all_parts value_of statement statements_of chance_of_cell reward_of_cell scales_of start_row table_row trans_rows obs_rows repaired_cells repair repair_all passed_limit text_of rewards_of repaired_model meaning meanings faults started start_rows
+unfolding is_decimal is_index significand numerator_tens denominator_tens decimal_of gcd_of lcm_of is_word is_name
+    tokens_from tokens_of lines_of items_of number numbers names_after name_list name_lists find_in start_of kind_of
+    with_entry header_with header_of fields_of part_of parts_in all_parts value_of statement statements_of
+    chance_of_cell reward_of_cell scales_of start_row table_row trans_rows obs_rows repaired_cells repair repair_all
+    passed_limit text_of rewards_of repaired_model meaning meanings faults started start_rows
 start_fail = refl

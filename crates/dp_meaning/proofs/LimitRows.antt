@@ -47,29 +47,46 @@ limit_rows =
     -- seven agents
     large (codes "agents: 7\ndiscount: 1\nvalues: reward\nstates: 1\nstart: 0\nactions:\n1\n1\n1\n1\n1\n1\n1\nobservations:\n1\n1\n1\n1\n1\n1\n1\n") limits.Agents 7
     -- 257 states
-    ∷ large (codes "agents: 1\ndiscount: 1\nvalues: reward\nstates: 257\nstart: 0\nactions: 1\nobservations: 1\n") limits.States 257
+    ∷ large (codes "agents: 1\ndiscount: 1\nvalues: reward\nstates: 257\nstart: 0\nactions: 1\nobservations: 1\n")
+        limits.States 257
     -- the first product of actions that passes
-    ∷ large (codes "agents: 3\ndiscount: 1\nvalues: reward\nstates: 1\nstart: 0\nactions:\n20\n20\n20\nobservations:\n1\n1\n1\n") limits.JointActions 400
+    ∷ large (codes
+        "agents: 3\ndiscount: 1\nvalues: reward\nstates: 1\nstart: 0\nactions:\n20\n20\n20\nobservations:\n1\n1\n1\n")
+        limits.JointActions 400
     -- joint observations
-    ∷ large (codes "agents: 2\ndiscount: 1\nvalues: reward\nstates: 1\nstart: 0\nactions:\n1\n1\nobservations:\n1\n257\n") limits.JointObservations 257
+    ∷ large (codes
+        "agents: 2\ndiscount: 1\nvalues: reward\nstates: 1\nstart: 0\nactions:\n1\n1\nobservations:\n1\n257\n")
+        limits.JointObservations 257
     -- chances of next states
-    ∷ large (codes "agents: 1\ndiscount: 1\nvalues: reward\nstates: 256\nstart: 0\nactions: 65\nobservations: 1\n") limits.TransCells 4259840
+    ∷ large (codes "agents: 1\ndiscount: 1\nvalues: reward\nstates: 256\nstart: 0\nactions: 65\nobservations: 1\n")
+        limits.TransCells 4259840
     -- chances of joint observations
-    ∷ large (codes "agents: 1\ndiscount: 1\nvalues: reward\nstates: 65\nstart: 0\nactions: 256\nobservations: 256\n") limits.ObsCells 4259840
+    ∷ large (codes "agents: 1\ndiscount: 1\nvalues: reward\nstates: 65\nstart: 0\nactions: 256\nobservations: 256\n")
+        limits.ObsCells 4259840
     -- rewards
-    ∷ large (codes "agents: 1\ndiscount: 1\nvalues: reward\nstates: 128\nstart: 0\nactions: 255\nobservations: 128\n") limits.RewardCells 534773760
+    ∷ large (codes "agents: 1\ndiscount: 1\nvalues: reward\nstates: 128\nstart: 0\nactions: 255\nobservations: 128\n")
+        limits.RewardCells 534773760
     -- the scale of the transitions
-    ∷ large (codes "agents: 1\ndiscount: 1\nvalues: reward\nstates: 7\nstart: 0\nactions: 1\nobservations: 1\nT: * : uniform\nT: 0 : 0 : 0 : 0.000000000000000001\n") limits.Scale 7000000000000000000
+    ∷ large (codes
+        "agents: 1\ndiscount: 1\nvalues: reward\nstates: 7\nstart: 0\nactions: 1\nobservations: 1\nT: * : uniform\nT: 0 : 0 : 0 : 0.000000000000000001\n") limits.Scale 7000000000000000000
     -- the scale of the observations
-    ∷ large (codes "agents: 1\ndiscount: 1\nvalues: reward\nstates: 1\nstart: uniform\nactions: 1\nobservations: 7\nT: * : 0.000000000000000001\nO: * : uniform\nO: * : * : * : 0.000000000000000001\n") limits.Scale 7000000000000000000
+    ∷ large (codes
+        "agents: 1\ndiscount: 1\nvalues: reward\nstates: 1\nstart: uniform\nactions: 1\nobservations: 7\nT: * : 0.000000000000000001\nO: * : uniform\nO: * : * : * : 0.000000000000000001\n") limits.Scale 7000000000000000000
     -- the first of several limits
-    ∷ large (codes "agents: 7\ndiscount: 1\nvalues: reward\nstates: 300\nstart: 0\nactions:\n1\n1\n1\n1\n1\n1\n1\nobservations:\n1\n1\n1\n1\n1\n1\n1\n") limits.Agents 7
+    ∷ large (codes
+        "agents: 7\ndiscount: 1\nvalues: reward\nstates: 300\nstart: 0\nactions:\n1\n1\n1\n1\n1\n1\n1\nobservations:\n1\n1\n1\n1\n1\n1\n1\n") limits.Agents 7
     -- a limit before a missing row
-    ∷ large (codes "agents: 1\ndiscount: 1\nvalues: reward\nstates: 257\nstart: uniform\nactions: 1\nobservations: 1\n") limits.States 257
+    ∷ large (codes
+        "agents: 1\ndiscount: 1\nvalues: reward\nstates: 257\nstart: uniform\nactions: 1\nobservations: 1\n")
+        limits.States 257
     ∷ []
 
 limits_are_passed : meanings limit_rows ≡ limits_passed limit_rows
-unfolding is_decimal is_index significand numerator_tens denominator_tens decimal_of gcd_of lcm_of is_word is_name tokens_from tokens_of lines_of items_of number numbers names_after name_list name_lists find_in start_of kind_of with_entry header_with header_of fields_of part_of parts_in all_parts value_of statement statements_of chance_of_cell reward_of_cell scales_of start_row table_row trans_rows obs_rows repaired_cells repair repair_all passed_limit text_of rewards_of repaired_model meaning meanings limits_passed limit_rows
+unfolding is_decimal is_index significand numerator_tens denominator_tens decimal_of gcd_of lcm_of is_word is_name
+    tokens_from tokens_of lines_of items_of number numbers names_after name_list name_lists find_in start_of kind_of
+    with_entry header_with header_of fields_of part_of parts_in all_parts value_of statement statements_of
+    chance_of_cell reward_of_cell scales_of start_row table_row trans_rows obs_rows repaired_cells repair repair_all
+    passed_limit text_of rewards_of repaired_model meaning meanings limits_passed limit_rows
 limits_are_passed = refl
 
 -- ---- reward statements, of one agent, one state, one action and one observation
@@ -97,7 +114,12 @@ unfolding passed_limit scales_of lcm_of gcd_of
 too_many_reward_lines = refl
 
 -- a fault in the text comes before a limit
-text_before_limits : meaning (codes "agents: 7\ndiscount: 1\nvalues: reward\nstates: 1\nstart: 0\nactions:\n1\n1\n1\n1\n1\n1\n1\nobservations:\n1\n1\n1\n1\n1\n1\n1\nT: * : 2\n")
+text_before_limits : meaning
+    (codes "agents: 7\ndiscount: 1\nvalues: reward\nstates: 1\nstart: 0\nactions:\n1\n1\n1\n1\n1\n1\n1\nobservations:\n1\n1\n1\n1\n1\n1\n1\nT: * : 2\n")
     ≡ FaultAt (record { line = 22; column = 8 }) why.Number
-unfolding is_decimal is_index significand numerator_tens denominator_tens decimal_of gcd_of lcm_of is_word is_name tokens_from tokens_of lines_of items_of number numbers names_after name_list name_lists find_in start_of kind_of with_entry header_with header_of fields_of part_of parts_in all_parts value_of statement statements_of chance_of_cell reward_of_cell scales_of start_row table_row trans_rows obs_rows repaired_cells repair repair_all passed_limit text_of rewards_of repaired_model meaning
+unfolding is_decimal is_index significand numerator_tens denominator_tens decimal_of gcd_of lcm_of is_word is_name
+    tokens_from tokens_of lines_of items_of number numbers names_after name_list name_lists find_in start_of kind_of
+    with_entry header_with header_of fields_of part_of parts_in all_parts value_of statement statements_of
+    chance_of_cell reward_of_cell scales_of start_row table_row trans_rows obs_rows repaired_cells repair repair_all
+    passed_limit text_of rewards_of repaired_model meaning
 text_before_limits = refl

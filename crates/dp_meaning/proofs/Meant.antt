@@ -5,7 +5,8 @@ use Rattle.dp_model.specs.declared.limit.TooLarge.{TooLarge}
 use Rattle.dp_meaning.specs.declared.why.Fault.{Fault}
 use Rattle.dp_meaning.specs.declared.text.Text.{Text}
 use Rattle.dp_meaning.specs.Limits.{passed_limit}
-use Rattle.dp_meaning.specs.Meaning.{text_of, ReadModel, repaired_model, Means, meaning_of_model, meaning_within, meaning_of_text, meaning}
+use Rattle.dp_meaning.specs.Meaning.{text_of, ReadModel, repaired_model, Means, meaning_of_model, meaning_within,
+    meaning_of_text, meaning}
 use Rattle.dp_meaning.specs.MeaningLaws.{IsMeant}
 use Rattle.dp_meaning.proofs.FaultSteps.{done}
 
@@ -23,7 +24,8 @@ of_model : (bytes : List ℕ) (m : Result ReadModel Fault) (r : ReadModel) → m
 of_model bytes (Ok x) r e = ap done (means_same x r e)
 of_model bytes (Err f) r e = cc
 
-of_limit : (bytes : List ℕ) (text : Text) (p : Option TooLarge) (r : ReadModel) → meaning_within bytes text p ≡ Means r
+of_limit : (bytes : List ℕ) (text : Text) (p : Option TooLarge) (r : ReadModel)
+    → meaning_within bytes text p ≡ Means r
     → (p ≡ None) × (repaired_model (length bytes) text ≡ done r)
 of_limit bytes text (Some passed) r e = cc
 of_limit bytes text None r e = (refl, of_model bytes (repaired_model (length bytes) text) r e)
@@ -35,7 +37,8 @@ of_text bytes (Err f) r s e = cc
 of_text bytes (Ok text) r s e =
     let w = of_limit bytes text (passed_limit text) r e in (text, record { says = s; within = w.0; model = w.1 })
 
-pub meant : (bytes : List ℕ) (r : ReadModel) → meaning bytes ≡ Means r → (text : Text) × IsReadWithinLimits bytes text r
+pub meant : (bytes : List ℕ) (r : ReadModel) → meaning bytes ≡ Means r
+    → (text : Text) × IsReadWithinLimits bytes text r
 unfolding meaning
 meant bytes r e = of_text bytes (text_of bytes) r refl e
 
@@ -43,7 +46,9 @@ text_same : (x y : Text) → done x ≡ done y → x ≡ y
 text_same x y e = cc
 
 -- the same of a text that is named
-pub meant_text : (bytes : List ℕ) (text : Text) (r : ReadModel) → IsMeant bytes text r → IsReadWithinLimits bytes text r
+pub meant_text : (bytes : List ℕ) (text : Text) (r : ReadModel) → IsMeant bytes text r
+    → IsReadWithinLimits bytes text r
 meant_text bytes text r h =
     let w = meant bytes r h.means in
-    let same : w.0 ≡ text = text_same w.0 text (sym w.1.says ∙ h.says) in subst (λ t. IsReadWithinLimits bytes t r) same w.1
+    let same : w.0 ≡ text = text_same w.0 text (sym w.1.says ∙ h.says) in
+        subst (λ t. IsReadWithinLimits bytes t r) same w.1

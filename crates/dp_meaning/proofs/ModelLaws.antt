@@ -1,5 +1,6 @@
 -- The model that a text means keeps what every model keeps.
-use Rattle.std.proofs.Common.{◌≡◌, ℕ, zero, suc, ◌*◌, ◌^◌, ◌<◌, ◌≤◌, List, [], ◌∷◌, length, get_or, map, refl, sym, subst, ◌∙◌, arith, pos}
+use Rattle.std.proofs.Common.{◌≡◌, ℕ, zero, suc, ◌*◌, ◌^◌, ◌<◌, ◌≤◌, List, [], ◌∷◌, length, get_or, map, refl, sym,
+    subst, ◌∙◌, arith, pos}
 use Rattle.std.specs.Prelude.{unsigned_abs, Ok}
 use Rattle.std.proofs.lemmas.List.{length-map}
 use Rattle.std.proofs.lemmas.Nat.{mul-le}
@@ -21,7 +22,8 @@ use Rattle.dp_meaning.specs.Statements.{axes_of, statements_of}
 use Rattle.dp_meaning.specs.Cells.{statements_for}
 use Rattle.dp_meaning.specs.Text.{states_in, joint_observations_in}
 use Rattle.dp_meaning.specs.Scales.{digits_of_statements, scales_of}
-use Rattle.dp_meaning.specs.Meaning.{table_model, names_given, pieces_of_tokens, unless_lines, text_of, rewards_of, ReadModel, Means, meaning}
+use Rattle.dp_meaning.specs.Meaning.{table_model, names_given, pieces_of_tokens, unless_lines, text_of, rewards_of,
+    ReadModel, Means, meaning}
 use Rattle.dp_meaning.proofs.FaultSteps.{ok_same, bind_ok}
 use Rattle.dp_meaning.proofs.Meant.{meant}
 use Rattle.dp_meaning.proofs.TextLimits.{IsSmall, small}
@@ -31,7 +33,8 @@ use Rattle.dp_meaning.proofs.Each.{Each, each_at, each_from, each_of_range}
 use Rattle.dp_meaning.proofs.ReadValues.{IsList}
 use Rattle.dp_meaning.proofs.ReadHeader.{AreLists, IsHeader, header_is}
 use Rattle.dp_meaning.proofs.ReadStatements.{IsStatement, statements_are}
-use Rattle.dp_meaning.proofs.ReadScales.{chance_parts, some_scale, some_start_scale, rewards_only, reward_digits, cell_bound}
+use Rattle.dp_meaning.proofs.ReadScales.{chance_parts, some_scale, some_start_scale, rewards_only, reward_digits,
+    cell_bound}
 
 -- ---- the text
 
@@ -44,8 +47,10 @@ pub text_is : (bytes : List ℕ) (text : Text) → text_of bytes ≡ Ok text →
 unfolding text_of
 text_is bytes text e =
     let pieces = bind_ok (pieces_of_tokens bytes (tokens_of bytes)) _ text e in
-    let none = bind_ok (unless_lines (length bytes) (items_of_pieces (length bytes) pieces.0).before) _ text pieces.2 in
-    let header = bind_ok (header_of (length bytes) no_entries (items_of_pieces (length bytes) pieces.0).items) _ text none.2 in
+    let none = bind_ok (unless_lines (length bytes) (items_of_pieces (length bytes) pieces.0).before) _ text
+        pieces.2 in
+    let header = bind_ok (header_of (length bytes) no_entries (items_of_pieces (length bytes) pieces.0).items) _ text
+        none.2 in
     let statements = bind_ok (statements_of header.0.0 header.0.1) _ text header.2 in
     subst IsText (ok_same _ text statements.2) (record {
       header = header_is (length bytes) (items_of_pieces (length bytes) pieces.0).items header.0 header.1;
@@ -61,7 +66,8 @@ product_above f (x ∷ xs) each =
     let h = mul-le 1 1 (f x) (product (map f xs)) each.0 (product_above f xs each.1) in omega arith
 
 pub some_product : (lists : List GivenList) → Each IsList lists → 0 < product (map size_of lists)
-some_product lists each = product_above size_of lists (each_from IsList (λ l. 1 ≤ size_of l) (λ l is. is.some) lists each)
+some_product lists each = product_above size_of lists (each_from IsList (λ l. 1 ≤ size_of l)
+    (λ l is. is.some) lists each)
 
 count_of : (agents : GivenList) (lists : List GivenList) → AreLists agents lists
     → length (map size_of lists) ≡ size_of agents
@@ -98,13 +104,15 @@ scales_are text is fits =
     record {
       start = some_start_scale text.header.start (states_in text) is.header.states.some;
       trans = some_scale _ _ (states_in text) is.header.states.some;
-      obs = some_scale _ _ (joint_observations_in text) (some_product text.header.observations is.header.observations.each);
+      obs = some_scale _ _ (joint_observations_in text)
+          (some_product text.header.observations is.header.observations.each);
       reward = some_tens _;
       discount = some_tens _;
       start_limit = fits.start_scale;
       trans_limit = fits.trans_scale;
       obs_limit = fits.obs_scale;
-      reward_digits = (_, reward_digits (statements_for Reward text.statements) (rewards_only text.statements is.statements), refl);
+      reward_digits = (_, reward_digits (statements_for Reward text.statements)
+          (rewards_only text.statements is.statements), refl);
       discount_digits = (text.header.discount.digits, discount.0, refl);
       gain = discount.1;
     }
@@ -115,8 +123,10 @@ rewards_bound : (text : Text) → IsText text → (i : ℕ)
     → unsigned_abs (get_or (rewards_of text) i (pos 0)) ≤ 10 ^ 8 * (scales_of text).reward
 unfolding rewards_of scales_of
 rewards_bound text is i =
-    each_at (λ r. unsigned_abs r ≤ 10 ^ 8 * 10 ^ digits_of_statements (statements_for Reward text.statements)) (rewards_of text) i (pos 0)
-    (each_of_range _ _ 0 _ (λ k. cell_bound text.header.cost (axes_of text.header Reward) (statements_for Reward text.statements) _
+    each_at (λ r. unsigned_abs r ≤ 10 ^ 8 * 10 ^ digits_of_statements (statements_for Reward text.statements))
+        (rewards_of text) i (pos 0)
+    (each_of_range _ _ 0 _ (λ k. cell_bound text.header.cost (axes_of text.header Reward)
+        (statements_for Reward text.statements) _
     (rewards_only text.statements is.statements)))
     (omega arith)
 
@@ -138,7 +148,8 @@ all_or_none : (list : GivenList) → NamesAllOrNone (names_in list) (size_of lis
 all_or_none (Counted n) h = absurd (let none : 0 < 0 = h in omega arith)
 all_or_none (Named names) h = refl
 
-all_or_none_at : (lists : List GivenList) (i : ℕ) → i < length lists → NamesAllOrNone (get_or (map names_in lists) i [])
+all_or_none_at : (lists : List GivenList) (i : ℕ) → i < length lists
+    → NamesAllOrNone (get_or (map names_in lists) i [])
     (get_or (map size_of lists) i 0)
 all_or_none_at [] i h = absurd (omega arith)
 all_or_none_at (l ∷ lists) zero h = all_or_none l
@@ -167,9 +178,11 @@ names_within : (lists : List GivenList) (most : ℕ) → Each IsList lists → p
 names_within [] most each h fits i = empty-kept
 names_within (l ∷ lists) most each h fits zero =
     let some = some_product lists each.1 in
-    let times = mul-le (size_of l) 1 (size_of l) (product (map size_of lists)) (omega arith) some in each.0.names (omega arith)
+    let times = mul-le (size_of l) 1 (size_of l) (product (map size_of lists)) (omega arith) some in
+        each.0.names (omega arith)
 names_within (l ∷ lists) most each h fits (suc i) =
-    let times = mul-le 1 (product (map size_of lists)) (size_of l) (product (map size_of lists)) each.0.some (omega arith) in
+    let times = mul-le 1 (product (map size_of lists)) (size_of l) (product (map size_of lists)) each.0.some
+        (omega arith) in
     names_within lists most each.1 (omega arith) fits i
 
 given_names : (text : Text) → IsText text → IsSmall text → AreNames (names_given text.header)
@@ -182,7 +195,8 @@ given_names text is fits =
       agents = is.header.agents.names (omega arith);
       states = is.header.states.names (omega arith);
       actions = names_within text.header.actions 256 is.header.actions.each fits.actions (omega arith);
-      observations = names_within text.header.observations 256 is.header.observations.each fits.observations (omega arith);
+      observations = names_within text.header.observations 256 is.header.observations.each fits.observations
+          (omega arith);
       alike = length-map text.header.observations names_in ∙ observation_count ∙ sym action_count
           ∙ sym (length-map text.header.actions names_in);
     }

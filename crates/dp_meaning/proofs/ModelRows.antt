@@ -79,7 +79,11 @@ tiger_file : meaning (
     ++ codes "R: listen open-left: tiger-right : * : * : 9\nR: open-right listen: tiger-left : * : * : 9\n"
     ++ codes "R: open-left listen: tiger-right : * : * : 9\n")
     ≡ named tiger tiger_names 0
-unfolding is_decimal is_index significand numerator_tens denominator_tens decimal_of gcd_of lcm_of is_word is_name tokens_from tokens_of lines_of items_of number numbers names_after name_list name_lists find_in start_of kind_of with_entry header_with header_of fields_of part_of parts_in all_parts value_of statement statements_of chance_of_cell reward_of_cell scales_of start_row table_row trans_rows obs_rows repaired_cells repair repair_all passed_limit text_of rewards_of repaired_model meaning tiger tiger_names
+unfolding is_decimal is_index significand numerator_tens denominator_tens decimal_of gcd_of lcm_of is_word is_name
+    tokens_from tokens_of lines_of items_of number numbers names_after name_list name_lists find_in start_of kind_of
+    with_entry header_with header_of fields_of part_of parts_in all_parts value_of statement statements_of
+    chance_of_cell reward_of_cell scales_of start_row table_row trans_rows obs_rows repaired_cells repair repair_all
+    passed_limit text_of rewards_of repaired_model meaning tiger tiger_names
 tiger_file = refl
 
 -- sixteen fraction digits, a start given by name, a row of one cell, cells that no statement covers
@@ -88,7 +92,11 @@ decay_file : meaning (
     ++ codes "T: * : up : 0.1000000000000001 0.8999999999999999\nT: * : down : down : 1\nO: * : uniform\n"
     ++ codes "R: * : up : * : * : 1\n")
     ≡ named decay (record no_names { states = codes "up" ∷ codes "down" ∷ [] }) 0
-unfolding is_decimal is_index significand numerator_tens denominator_tens decimal_of gcd_of lcm_of is_word is_name tokens_from tokens_of lines_of items_of number numbers names_after name_list name_lists find_in start_of kind_of with_entry header_with header_of fields_of part_of parts_in all_parts value_of statement statements_of chance_of_cell reward_of_cell scales_of start_row table_row trans_rows obs_rows repaired_cells repair repair_all passed_limit text_of rewards_of repaired_model meaning decay
+unfolding is_decimal is_index significand numerator_tens denominator_tens decimal_of gcd_of lcm_of is_word is_name
+    tokens_from tokens_of lines_of items_of number numbers names_after name_list name_lists find_in start_of kind_of
+    with_entry header_with header_of fields_of part_of parts_in all_parts value_of statement statements_of
+    chance_of_cell reward_of_cell scales_of start_row table_row trans_rows obs_rows repaired_cells repair repair_all
+    passed_limit text_of rewards_of repaired_model meaning decay
 decay_file = refl
 
 -- a row of observations
@@ -96,7 +104,11 @@ blind_file : meaning (
     codes "agents: 1\ndiscount: 1\nvalues: reward\nstates: 1\nstart: uniform\nactions:\n1\nobservations:\n2\nT: * : uniform\n"
     ++ codes "O: * : * : 1 0\nR: * : * : * : * : 1\n")
     ≡ means blind 0
-unfolding is_decimal is_index significand numerator_tens denominator_tens decimal_of gcd_of lcm_of is_word is_name tokens_from tokens_of lines_of items_of number numbers names_after name_list name_lists find_in start_of kind_of with_entry header_with header_of fields_of part_of parts_in all_parts value_of statement statements_of chance_of_cell reward_of_cell scales_of start_row table_row trans_rows obs_rows repaired_cells repair repair_all passed_limit text_of rewards_of repaired_model meaning blind
+unfolding is_decimal is_index significand numerator_tens denominator_tens decimal_of gcd_of lcm_of is_word is_name
+    tokens_from tokens_of lines_of items_of number numbers names_after name_list name_lists find_in start_of kind_of
+    with_entry header_with header_of fields_of part_of parts_in all_parts value_of statement statements_of
+    chance_of_cell reward_of_cell scales_of start_row table_row trans_rows obs_rows repaired_cells repair repair_all
+    passed_limit text_of rewards_of repaired_model meaning blind
 blind_file = refl
 
 -- a model of one agent, and its file: the values, the states, the start and the statements before the rewards vary
@@ -108,19 +120,31 @@ file values states start statements =
 -- uniform rows and rewards by index
 solo_file : meaning (file (codes "reward") (codes "1") (codes "uniform") (codes "T: * : uniform\nO: * : uniform\n"))
     ≡ means solo 0
-unfolding is_decimal is_index significand numerator_tens denominator_tens decimal_of gcd_of lcm_of is_word is_name tokens_from tokens_of lines_of items_of number numbers names_after name_list name_lists find_in start_of kind_of with_entry header_with header_of fields_of part_of parts_in all_parts value_of statement statements_of chance_of_cell reward_of_cell scales_of start_row table_row trans_rows obs_rows repaired_cells repair repair_all passed_limit text_of rewards_of repaired_model meaning solo
+unfolding is_decimal is_index significand numerator_tens denominator_tens decimal_of gcd_of lcm_of is_word is_name
+    tokens_from tokens_of lines_of items_of number numbers names_after name_list name_lists find_in start_of kind_of
+    with_entry header_with header_of fields_of part_of parts_in all_parts value_of statement statements_of
+    chance_of_cell reward_of_cell scales_of start_row table_row trans_rows obs_rows repaired_cells repair repair_all
+    passed_limit text_of rewards_of repaired_model meaning solo
 solo_file = refl
 
 -- costs are negated
 cost_file : meaning (file (codes "cost") (codes "1") (codes "uniform") (codes "T: * : uniform\nO: * : uniform\n"))
     ≡ means (record solo { reward = negsuc 0 ∷ negsuc 2 ∷ [] }) 0
-unfolding is_decimal is_index significand numerator_tens denominator_tens decimal_of gcd_of lcm_of is_word is_name tokens_from tokens_of lines_of items_of number numbers names_after name_list name_lists find_in start_of kind_of with_entry header_with header_of fields_of part_of parts_in all_parts value_of statement statements_of chance_of_cell reward_of_cell scales_of start_row table_row trans_rows obs_rows repaired_cells repair repair_all passed_limit text_of rewards_of repaired_model meaning solo
+unfolding is_decimal is_index significand numerator_tens denominator_tens decimal_of gcd_of lcm_of is_word is_name
+    tokens_from tokens_of lines_of items_of number numbers names_after name_list name_lists find_in start_of kind_of
+    with_entry header_with header_of fields_of part_of parts_in all_parts value_of statement statements_of
+    chance_of_cell reward_of_cell scales_of start_row table_row trans_rows obs_rows repaired_cells repair repair_all
+    passed_limit text_of rewards_of repaired_model meaning solo
 cost_file = refl
 
 -- where there is one state, `0` names it
 zero_start : meaning (file (codes "reward") (codes "1") (codes "0") (codes "T: * : uniform\nO: * : uniform\n"))
     ≡ means solo 0
-unfolding is_decimal is_index significand numerator_tens denominator_tens decimal_of gcd_of lcm_of is_word is_name tokens_from tokens_of lines_of items_of number numbers names_after name_list name_lists find_in start_of kind_of with_entry header_with header_of fields_of part_of parts_in all_parts value_of statement statements_of chance_of_cell reward_of_cell scales_of start_row table_row trans_rows obs_rows repaired_cells repair repair_all passed_limit text_of rewards_of repaired_model meaning solo
+unfolding is_decimal is_index significand numerator_tens denominator_tens decimal_of gcd_of lcm_of is_word is_name
+    tokens_from tokens_of lines_of items_of number numbers names_after name_list name_lists find_in start_of kind_of
+    with_entry header_with header_of fields_of part_of parts_in all_parts value_of statement statements_of
+    chance_of_cell reward_of_cell scales_of start_row table_row trans_rows obs_rows repaired_cells repair repair_all
+    passed_limit text_of rewards_of repaired_model meaning solo
 zero_start = refl
 
 -- the same with more states, where each start and each row of transitions is given; one observation is certain
@@ -135,31 +159,51 @@ solo_with states start_scale trans_scale start trans = record solo {
 }
 
 -- what is missing goes to the first of the largest chances
-repaired_start : meaning (file (codes "reward") (codes "3") (codes "0.333 0.333 0.333") (codes "T: * : uniform\nO: * : uniform\n"))
+repaired_start : meaning (file (codes "reward") (codes "3") (codes "0.333 0.333 0.333")
+    (codes "T: * : uniform\nO: * : uniform\n"))
     ≡ means (solo_with 3 1000 3 (334 ∷ 333 ∷ 333 ∷ []) (replicate 18 1)) 1
-unfolding is_decimal is_index significand numerator_tens denominator_tens decimal_of gcd_of lcm_of is_word is_name tokens_from tokens_of lines_of items_of number numbers names_after name_list name_lists find_in start_of kind_of with_entry header_with header_of fields_of part_of parts_in all_parts value_of statement statements_of chance_of_cell reward_of_cell scales_of start_row table_row trans_rows obs_rows repaired_cells repair repair_all passed_limit text_of rewards_of repaired_model meaning solo
+unfolding is_decimal is_index significand numerator_tens denominator_tens decimal_of gcd_of lcm_of is_word is_name
+    tokens_from tokens_of lines_of items_of number numbers names_after name_list name_lists find_in start_of kind_of
+    with_entry header_with header_of fields_of part_of parts_in all_parts value_of statement statements_of
+    chance_of_cell reward_of_cell scales_of start_row table_row trans_rows obs_rows repaired_cells repair repair_all
+    passed_limit text_of rewards_of repaired_model meaning solo
 repaired_start = refl
 
 -- an index is a state, also with a zero in front
 index_start : meaning (file (codes "reward") (codes "2") (codes "01") (codes "T: * : uniform\nO: * : uniform\n"))
     ≡ means (solo_with 2 1 2 (0 ∷ 1 ∷ []) (replicate 8 1)) 0
-unfolding is_decimal is_index significand numerator_tens denominator_tens decimal_of gcd_of lcm_of is_word is_name tokens_from tokens_of lines_of items_of number numbers names_after name_list name_lists find_in start_of kind_of with_entry header_with header_of fields_of part_of parts_in all_parts value_of statement statements_of chance_of_cell reward_of_cell scales_of start_row table_row trans_rows obs_rows repaired_cells repair repair_all passed_limit text_of rewards_of repaired_model meaning solo
+unfolding is_decimal is_index significand numerator_tens denominator_tens decimal_of gcd_of lcm_of is_word is_name
+    tokens_from tokens_of lines_of items_of number numbers names_after name_list name_lists find_in start_of kind_of
+    with_entry header_with header_of fields_of part_of parts_in all_parts value_of statement statements_of
+    chance_of_cell reward_of_cell scales_of start_row table_row trans_rows obs_rows repaired_cells repair repair_all
+    passed_limit text_of rewards_of repaired_model meaning solo
 index_start = refl
 
 -- the last statement that covers a cell gives its value; replaced ones count for the scale
-later_cells : meaning (file (codes "reward") (codes "2") (codes "uniform") (codes "T: * : uniform\nT: 0 : 0 : 0 : 0.2\nT: 0 : 0 : 1 : 0.3\nT: 0 : 0 : 0 : 0.7\nO: * : uniform\n"))
+later_cells : meaning (file (codes "reward") (codes "2") (codes "uniform")
+    (codes "T: * : uniform\nT: 0 : 0 : 0 : 0.2\nT: 0 : 0 : 1 : 0.3\nT: 0 : 0 : 0 : 0.7\nO: * : uniform\n"))
     ≡ means (solo_with 2 2 10 (1 ∷ 1 ∷ []) (7 ∷ 3 ∷ replicate 6 5)) 0
-unfolding is_decimal is_index significand numerator_tens denominator_tens decimal_of gcd_of lcm_of is_word is_name tokens_from tokens_of lines_of items_of number numbers names_after name_list name_lists find_in start_of kind_of with_entry header_with header_of fields_of part_of parts_in all_parts value_of statement statements_of chance_of_cell reward_of_cell scales_of start_row table_row trans_rows obs_rows repaired_cells repair repair_all passed_limit text_of rewards_of repaired_model meaning solo
+unfolding is_decimal is_index significand numerator_tens denominator_tens decimal_of gcd_of lcm_of is_word is_name
+    tokens_from tokens_of lines_of items_of number numbers names_after name_list name_lists find_in start_of kind_of
+    with_entry header_with header_of fields_of part_of parts_in all_parts value_of statement statements_of
+    chance_of_cell reward_of_cell scales_of start_row table_row trans_rows obs_rows repaired_cells repair repair_all
+    passed_limit text_of rewards_of repaired_model meaning solo
 later_cells = refl
 
 -- also where it covers every cell
-later_matrix : meaning (file (codes "reward") (codes "2") (codes "uniform") (codes "T: 0 : 0 : 0 : 0.2\nT: 0 : 0 : 1 : 0.3\nT: 0 : 0 : 0 : 0.7\nT: * : uniform\nO: * : uniform\n"))
+later_matrix : meaning (file (codes "reward") (codes "2") (codes "uniform")
+    (codes "T: 0 : 0 : 0 : 0.2\nT: 0 : 0 : 1 : 0.3\nT: 0 : 0 : 0 : 0.7\nT: * : uniform\nO: * : uniform\n"))
     ≡ means (solo_with 2 2 10 (1 ∷ 1 ∷ []) (replicate 8 5)) 0
-unfolding is_decimal is_index significand numerator_tens denominator_tens decimal_of gcd_of lcm_of is_word is_name tokens_from tokens_of lines_of items_of number numbers names_after name_list name_lists find_in start_of kind_of with_entry header_with header_of fields_of part_of parts_in all_parts value_of statement statements_of chance_of_cell reward_of_cell scales_of start_row table_row trans_rows obs_rows repaired_cells repair repair_all passed_limit text_of rewards_of repaired_model meaning solo
+unfolding is_decimal is_index significand numerator_tens denominator_tens decimal_of gcd_of lcm_of is_word is_name
+    tokens_from tokens_of lines_of items_of number numbers names_after name_list name_lists find_in start_of kind_of
+    with_entry header_with header_of fields_of part_of parts_in all_parts value_of statement statements_of
+    chance_of_cell reward_of_cell scales_of start_row table_row trans_rows obs_rows repaired_cells repair repair_all
+    passed_limit text_of rewards_of repaired_model meaning solo
 later_matrix = refl
 
 -- a row of one cell is repaired
-repaired_observations : meaning (file (codes "reward") (codes "2") (codes "0.9999999999999999 0.0000000000000001") (codes "T: * : uniform\nO: * : uniform\nT: 0 : 0 : 0.9999999999999999 0.0000000000000001\nO: 0 : 0 : 0.9999999999999999\n"))
+repaired_observations : meaning (file (codes "reward") (codes "2") (codes "0.9999999999999999 0.0000000000000001")
+    (codes "T: * : uniform\nO: * : uniform\nT: 0 : 0 : 0.9999999999999999 0.0000000000000001\nO: 0 : 0 : 0.9999999999999999\n"))
     ≡ means (record solo {
       states = 2;
       scales = record { start = 10 ^ 16; trans = 10 ^ 16; obs = 10 ^ 16; reward = 1; discount = 1; gain = 1 };
@@ -168,7 +212,11 @@ repaired_observations : meaning (file (codes "reward") (codes "2") (codes "0.999
       obs = replicate 4 10000000000000000;
       reward = replicate 4 (pos 1) ++ replicate 4 (pos 3);
     }) 1
-unfolding is_decimal is_index significand numerator_tens denominator_tens decimal_of gcd_of lcm_of is_word is_name tokens_from tokens_of lines_of items_of number numbers names_after name_list name_lists find_in start_of kind_of with_entry header_with header_of fields_of part_of parts_in all_parts value_of statement statements_of chance_of_cell reward_of_cell scales_of start_row table_row trans_rows obs_rows repaired_cells repair repair_all passed_limit text_of rewards_of repaired_model meaning solo
+unfolding is_decimal is_index significand numerator_tens denominator_tens decimal_of gcd_of lcm_of is_word is_name
+    tokens_from tokens_of lines_of items_of number numbers names_after name_list name_lists find_in start_of kind_of
+    with_entry header_with header_of fields_of part_of parts_in all_parts value_of statement statements_of
+    chance_of_cell reward_of_cell scales_of start_row table_row trans_rows obs_rows repaired_cells repair repair_all
+    passed_limit text_of rewards_of repaired_model meaning solo
 repaired_observations = refl
 
 -- named agents, lists by name and by count, the first list on the entry's line, fields with a `*` for one agent,
@@ -196,7 +244,11 @@ two_agents : meaning (
       observations = [] ∷ (codes "p" ∷ codes "q" ∷ []) ∷ [];
     })
     0
-unfolding is_decimal is_index significand numerator_tens denominator_tens decimal_of gcd_of lcm_of is_word is_name tokens_from tokens_of lines_of items_of number numbers names_after name_list name_lists find_in start_of kind_of with_entry header_with header_of fields_of part_of parts_in all_parts value_of statement statements_of chance_of_cell reward_of_cell scales_of start_row table_row trans_rows obs_rows repaired_cells repair repair_all passed_limit text_of rewards_of repaired_model meaning
+unfolding is_decimal is_index significand numerator_tens denominator_tens decimal_of gcd_of lcm_of is_word is_name
+    tokens_from tokens_of lines_of items_of number numbers names_after name_list name_lists find_in start_of kind_of
+    with_entry header_with header_of fields_of part_of parts_in all_parts value_of statement statements_of
+    chance_of_cell reward_of_cell scales_of start_row table_row trans_rows obs_rows repaired_cells repair repair_all
+    passed_limit text_of rewards_of repaired_model meaning
 two_agents = refl
 
 -- rewards of the greatest magnitude; an exponent gives no fraction digits
@@ -204,19 +256,32 @@ greatest_rewards : meaning (
     codes "agents: 1\ndiscount: 1\nvalues: reward\nstates: 1\nstart: uniform\nactions:\n2\nobservations:\n1\nT: * : uniform\n"
     ++ codes "O: * : uniform\nR: * : 0 : 1e8\n")
     ≡ means (record solo { reward = pos 100000000 ∷ pos 100000000 ∷ [] }) 0
-unfolding is_decimal is_index significand numerator_tens denominator_tens decimal_of gcd_of lcm_of is_word is_name tokens_from tokens_of lines_of items_of number numbers names_after name_list name_lists find_in start_of kind_of with_entry header_with header_of fields_of part_of parts_in all_parts value_of statement statements_of chance_of_cell reward_of_cell scales_of start_row table_row trans_rows obs_rows repaired_cells repair repair_all passed_limit text_of rewards_of repaired_model meaning solo
+unfolding is_decimal is_index significand numerator_tens denominator_tens decimal_of gcd_of lcm_of is_word is_name
+    tokens_from tokens_of lines_of items_of number numbers names_after name_list name_lists find_in start_of kind_of
+    with_entry header_with header_of fields_of part_of parts_in all_parts value_of statement statements_of
+    chance_of_cell reward_of_cell scales_of start_row table_row trans_rows obs_rows repaired_cells repair repair_all
+    passed_limit text_of rewards_of repaired_model meaning solo
 greatest_rewards = refl
 
 -- where there is one state, any other Number is a row
 one_chance : meaning (file (codes "reward") (codes "1") (codes "1.0") (codes "T: * : uniform\nO: * : uniform\n"))
     ≡ means solo 0
-unfolding is_decimal is_index significand numerator_tens denominator_tens decimal_of gcd_of lcm_of is_word is_name tokens_from tokens_of lines_of items_of number numbers names_after name_list name_lists find_in start_of kind_of with_entry header_with header_of fields_of part_of parts_in all_parts value_of statement statements_of chance_of_cell reward_of_cell scales_of start_row table_row trans_rows obs_rows repaired_cells repair repair_all passed_limit text_of rewards_of repaired_model meaning solo
+unfolding is_decimal is_index significand numerator_tens denominator_tens decimal_of gcd_of lcm_of is_word is_name
+    tokens_from tokens_of lines_of items_of number numbers names_after name_list name_lists find_in start_of kind_of
+    with_entry header_with header_of fields_of part_of parts_in all_parts value_of statement statements_of
+    chance_of_cell reward_of_cell scales_of start_row table_row trans_rows obs_rows repaired_cells repair repair_all
+    passed_limit text_of rewards_of repaired_model meaning solo
 one_chance = refl
 
 -- what is too much is taken from the first of the largest chances
-shortened_start : meaning (file (codes "reward") (codes "2") (codes "0.501 0.5") (codes "T: * : uniform\nO: * : uniform\n"))
+shortened_start : meaning (file (codes "reward") (codes "2") (codes "0.501 0.5")
+    (codes "T: * : uniform\nO: * : uniform\n"))
     ≡ means (solo_with 2 1000 2 (500 ∷ 500 ∷ []) (replicate 8 1)) 1
-unfolding is_decimal is_index significand numerator_tens denominator_tens decimal_of gcd_of lcm_of is_word is_name tokens_from tokens_of lines_of items_of number numbers names_after name_list name_lists find_in start_of kind_of with_entry header_with header_of fields_of part_of parts_in all_parts value_of statement statements_of chance_of_cell reward_of_cell scales_of start_row table_row trans_rows obs_rows repaired_cells repair repair_all passed_limit text_of rewards_of repaired_model meaning solo
+unfolding is_decimal is_index significand numerator_tens denominator_tens decimal_of gcd_of lcm_of is_word is_name
+    tokens_from tokens_of lines_of items_of number numbers names_after name_list name_lists find_in start_of kind_of
+    with_entry header_with header_of fields_of part_of parts_in all_parts value_of statement statements_of
+    chance_of_cell reward_of_cell scales_of start_row table_row trans_rows obs_rows repaired_cells repair repair_all
+    passed_limit text_of rewards_of repaired_model meaning solo
 shortened_start = refl
 
 -- in a joint number the first agent counts most
@@ -232,8 +297,13 @@ joint_numbers : meaning (
       start = 1 ∷ [];
       trans = replicate 6 1;
       obs = flat_map {X = ℕ} (λ a. 0 ∷ 0 ∷ 1 ∷ 0 ∷ 0 ∷ 0 ∷ []) (replicate 6 0);
-      reward = replicate 6 (pos 0) ++ seven ++ replicate 6 (pos 0) ++ replicate 6 (pos 5) ++ seven ++ replicate 6 (pos 0);
+      reward = replicate 6 (pos 0) ++ seven ++ replicate 6 (pos 0) ++ replicate 6 (pos 5) ++ seven
+          ++ replicate 6 (pos 0);
     })
     (counts_of 2) 0
-unfolding is_decimal is_index significand numerator_tens denominator_tens decimal_of gcd_of lcm_of is_word is_name tokens_from tokens_of lines_of items_of number numbers names_after name_list name_lists find_in start_of kind_of with_entry header_with header_of fields_of part_of parts_in all_parts value_of statement statements_of chance_of_cell reward_of_cell scales_of start_row table_row trans_rows obs_rows repaired_cells repair repair_all passed_limit text_of rewards_of repaired_model meaning seven
+unfolding is_decimal is_index significand numerator_tens denominator_tens decimal_of gcd_of lcm_of is_word is_name
+    tokens_from tokens_of lines_of items_of number numbers names_after name_list name_lists find_in start_of kind_of
+    with_entry header_with header_of fields_of part_of parts_in all_parts value_of statement statements_of
+    chance_of_cell reward_of_cell scales_of start_row table_row trans_rows obs_rows repaired_cells repair repair_all
+    passed_limit text_of rewards_of repaired_model meaning seven
 joint_numbers = refl

@@ -6,7 +6,8 @@ use Rattle.dp_meaning.specs.declared.given_list.GivenList.{GivenList}
 use Rattle.dp_meaning.specs.declared.header.Start.{Start}
 use Rattle.dp_meaning.specs.declared.header.Start.TheVariants.{AnyState, OneState, StartRow}
 use Rattle.dp_meaning.specs.declared.header.Entry.{Entry}
-use Rattle.dp_meaning.specs.declared.header.Entry.TheVariants.{Agents, Discount, Values, States, StartEntry, Actions, Observations}
+use Rattle.dp_meaning.specs.declared.header.Entry.TheVariants.{Agents, Discount, Values, States, StartEntry, Actions,
+    Observations}
 use Rattle.dp_meaning.specs.declared.statement.ItemKind.{ItemKind}
 use Rattle.dp_meaning.specs.declared.statement.ItemKind.TheVariants.{HeaderEntry, StatementOf, NoItem}
 use Rattle.dp_meaning.specs.declared.header.Entries.{Entries}
@@ -82,12 +83,15 @@ start_is states next [] start e = absurd (err_not_ok start _ e)
 start_is states next (piece ∷ pieces) start e =
     by (says (codes "uniform") piece) (is_one_state (size_of states) piece pieces) e
   where
-    by : (b c : Bool) → cond b (ended AnyState pieces) (cond c (find_in states piece >>= λ s. ended (OneState s) pieces)
-        (numbers is_chance next (size_of states) (piece ∷ pieces) >>= λ row. done (StartRow piece.at row))) ≡ done start
+    by : (b c : Bool) → cond b (ended AnyState pieces)
+        (cond c (find_in states piece >>= λ s. ended (OneState s) pieces)
+        (numbers is_chance next (size_of states) (piece ∷ pieces) >>= λ row. done (StartRow piece.at row)))
+            ≡ done start
         → IsStart start
     by true c f = subst IsStart (ended_same AnyState start pieces f) tt
     by false true f =
-        let w = bind_ok (find_in states piece) _ start f in subst IsStart (ended_same (OneState w.0) start pieces w.2) tt
+        let w = bind_ok (find_in states piece) _ start f in
+            subst IsStart (ended_same (OneState w.0) start pieces w.2) tt
     by false false f =
         let w = bind_ok (numbers is_chance next (size_of states) (piece ∷ pieces)) _ start f in
         subst IsStart (ok_same (StartRow piece.at w.0) start w.2)
@@ -95,7 +99,8 @@ start_is states next (piece ∷ pieces) start e =
 
 read_lists : (next : ℕ) (agents : GivenList) (lines : List (List Piece)) (lists : List GivenList)
     → name_lists next (size_of agents) lines ≡ done lists → AreLists agents lists
-read_lists next agents lines lists e = let w = lists_are next (size_of agents) lines lists e in record { count = w.0; each = w.1 }
+read_lists next agents lines lists e = let w = lists_are next (size_of agents) lines lists e in
+    record { count = w.0; each = w.1 }
 
 with_entry_is : (kind : Entry) (item : Item) (e more : Entries) → AreEntries e → with_entry kind item e ≡ done more
     → AreEntries more
@@ -157,7 +162,8 @@ with_entry_is StartEntry item e more is f =
       agents = is.agents;
       states = is.states;
       discount = is.discount;
-      start = λ x s. subst IsStart (some_same value.0 x s) (start_is states.0 item.next (value_pieces item) value.0 value.1);
+      start = λ x s. subst IsStart (some_same value.0 x s)
+          (start_is states.0 item.next (value_pieces item) value.0 value.1);
       actions = is.actions;
       observations = is.observations;
     })
@@ -218,7 +224,8 @@ header_with_is at e h is f =
       states = is.states states.0 (entry_come at e.states states.0 states.1);
       discount = is.discount discount.0 (entry_come at e.discount discount.0 discount.1);
       start = is.start start.0 (entry_come at e.start start.0 start.1);
-      actions = lists_of e agents.0 actions.0 named (is.actions actions.0 (entry_come at e.actions actions.0 actions.1));
+      actions = lists_of e agents.0 actions.0 named (is.actions actions.0
+          (entry_come at e.actions actions.0 actions.1));
       observations = lists_of e agents.0 observations.0 named
           (is.observations observations.0 (entry_come at e.observations observations.0 observations.1));
     })
@@ -228,15 +235,18 @@ header_from : (end : ℕ) (e : Entries) (items : List Item) (h : Header × List 
     → IsHeader h.0
 unfolding header_of
 header_from end e [] h is f =
-    let w = bind_ok (header_with end e) _ h f in subst (λ x. IsHeader x.0) (ok_same _ h w.2) (header_with_is end e w.0 is w.1)
+    let w = bind_ok (header_with end e) _ h f in subst (λ x. IsHeader x.0) (ok_same _ h w.2)
+        (header_with_is end e w.0 is w.1)
 header_from end e (item ∷ items) h is f = by (kind_of item) f (λ more is g. header_from end more items h is g)
   where
     by : (kind : ItemKind) → (elim kind [
       | HeaderEntry k ↦ with_entry k item e >>= λ more. header_of end more items
       | StatementOf table ↦ header_with (item_at item) e >>= λ header. done (header, item ∷ items)
       | NoItem ↦ fault why.Expected (item_at item)
-    ]) ≡ done h → ((more : Entries) → AreEntries more → header_of end more items ≡ done h → IsHeader h.0) → IsHeader h.0
-    by (HeaderEntry k) g rest = let w = bind_ok (with_entry k item e) _ h g in rest w.0 (with_entry_is k item e w.0 is w.1) w.2
+    ]) ≡ done h → ((more : Entries) → AreEntries more → header_of end more items ≡ done h → IsHeader h.0)
+        → IsHeader h.0
+    by (HeaderEntry k) g rest = let w = bind_ok (with_entry k item e) _ h g in
+        rest w.0 (with_entry_is k item e w.0 is w.1) w.2
     by (StatementOf table) g rest =
         let w = bind_ok (header_with (item_at item) e) _ h g in subst (λ x. IsHeader x.0) (ok_same _ h w.2)
         (header_with_is (item_at item) e w.0 is w.1)

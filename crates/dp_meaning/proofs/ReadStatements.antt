@@ -17,7 +17,8 @@ use Rattle.dp_meaning.specs.Numbers.{numbers, ended}
 use Rattle.dp_meaning.specs.NameLists.{says}
 use Rattle.dp_meaning.specs.Header.{kind_of}
 use Rattle.dp_meaning.specs.Fields.{Axis, fields_of, all_parts}
-use Rattle.dp_meaning.specs.Statements.{axes_of, axis_size, least_fields, allows_uniform, allows_identity, is_number_of, value_of, unless_too_few, statement, statement_of_kind, statements_of}
+use Rattle.dp_meaning.specs.Statements.{axes_of, axis_size, least_fields, allows_uniform, allows_identity,
+    is_number_of, value_of, unless_too_few, statement, statement_of_kind, statements_of}
 use Rattle.dp_meaning.proofs.FaultSteps.{done, ok_same, err_not_ok, bind_ok}
 use Rattle.dp_meaning.proofs.Each.{Each}
 use Rattle.dp_meaning.proofs.ReadValues.{ended_same, numbers_fit}
@@ -37,10 +38,12 @@ value_is : (table : Table) (rest : List Axis) (next : ℕ) (pieces : List Piece)
 unfolding value_of
 value_is table rest next [] v e = absurd (err_not_ok v _ e)
 value_is table rest next (piece ∷ pieces) v e =
-    by (allows_uniform table rest && says (codes "uniform") piece) (allows_identity table rest && says (codes "identity") piece) e
+    by (allows_uniform table rest && says (codes "uniform") piece)
+        (allows_identity table rest && says (codes "identity") piece) e
   where
     by : (b c : Bool) → cond b (ended Uniform pieces) (cond c (ended Identity pieces)
-        (numbers (is_number_of table) next (product (map axis_size rest)) (piece ∷ pieces) >>= λ ns. done (Numbers ns))) ≡ done v
+        (numbers (is_number_of table) next (product (map axis_size rest)) (piece ∷ pieces) >>= λ ns.
+            done (Numbers ns))) ≡ done v
         → AreNumbersOf table v
     by true c f = subst (AreNumbersOf table) (ended_same Uniform v pieces f) tt
     by false true f = subst (AreNumbersOf table) (ended_same Identity v pieces f) tt
@@ -68,7 +71,8 @@ statement_is header table item s e =
 -- ---- each statement that is read
 
 -- what holds of each statement of an item holds of each statement of the items
-module _ (header : Header) (P : Statement → Type 0) (holds : (table : Table) (item : Item) (s : Statement) → statement header table item ≡ done s → P s) where
+module _ (header : Header) (P : Statement → Type 0) (holds : (table : Table) (item : Item) (s : Statement)
+    → statement header table item ≡ done s → P s) where
   of_kind : (item : Item) (kind : ItemKind) (s : Statement) → statement_of_kind header item kind ≡ done s → P s
   of_kind item (HeaderEntry k) s e = absurd (err_not_ok s _ e)
   of_kind item (StatementOf table) s e = holds table item s e
@@ -83,6 +87,7 @@ module _ (header : Header) (P : Statement → Type 0) (holds : (table : Table) (
       subst (Each P) (ok_same _ ss others.2)
       (of_kind item (kind_of item) first.0 first.1, each_statement items others.0 others.1)
 
-pub statements_are : (header : Header) (items : List Item) (ss : List Statement) → statements_of header items ≡ done ss
+pub statements_are : (header : Header) (items : List Item) (ss : List Statement)
+    → statements_of header items ≡ done ss
     → Each IsStatement ss
 statements_are header = each_statement header IsStatement (statement_is header)

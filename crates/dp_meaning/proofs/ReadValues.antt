@@ -1,5 +1,6 @@
 -- What is known of numbers, lists and values that are read.
-use Rattle.std.proofs.Common.{◌≡◌, ℕ, zero, suc, ◌+◌, ◌^◌, ◌<◌, ◌≤◌, rules, Bool, true, false, cond, List, [], ◌∷◌, ◌++◌, length, refl, sym, ap, subst, ◌∙◌, arith, length-append}
+use Rattle.std.proofs.Common.{◌≡◌, ℕ, zero, suc, ◌+◌, ◌^◌, ◌<◌, ◌≤◌, rules, Bool, true, false, cond, List, [], ◌∷◌,
+    ◌++◌, length, refl, sym, ap, subst, ◌∙◌, arith, length-append}
 use Rattle.std.specs.Prelude.{not, ◌&&◌, nat_le, Result, Ok, Err}
 use Rattle.std.proofs.lemmas.Bool.Decides.{nat_tests}
 use Rattle.dp_base.specs.declared.decimal.Decimal.{Decimal}
@@ -81,7 +82,8 @@ longer_list : (before : List (List ℕ)) (name : List ℕ) → IsNameList before
     → length before < 2 ^ 26
     → IsNameList (before ++ name ∷ [])
 longer_list before name are named new room =
-    subst IsNameList (ap (λ b. cond b before (before ++ name ∷ [])) new) (with_name-kept before name are (search (rules, named)) room)
+    subst IsNameList (ap (λ b. cond b before (before ++ name ∷ [])) new)
+        (with_name-kept before name are (search (rules, named)) room)
 
 -- what is read is a list of names, where it is not too long
 names_kept : (before : List (List ℕ)) (pieces : List Piece) (names : List (List ℕ))
@@ -91,7 +93,8 @@ unfolding names_after
 names_kept before [] names e room are = subst IsNameList (ok_same before names e) are
 names_kept before (piece ∷ pieces) names e room are =
     by (is_name piece.text) refl (has_name before piece.text) refl (names_after (before ++ piece.text ∷ []) pieces) e
-    (names_count (before ++ piece.text ∷ []) pieces names) (λ f l. names_kept (before ++ piece.text ∷ []) pieces names f room l)
+    (names_count (before ++ piece.text ∷ []) pieces names)
+        (λ f l. names_kept (before ++ piece.text ∷ []) pieces names f room l)
   where
     by : (b : Bool) → is_name piece.text ≡ b → (c : Bool) → has_name before piece.text ≡ c
         → (rest : Result (List (List ℕ)) Fault)
@@ -102,7 +105,8 @@ names_kept before (piece ∷ pieces) names e room are =
     by false s c t rest f g h = absurd (err_not_ok names _ f)
     by true s true t rest f g h = absurd (err_not_ok names _ f)
     by true s false t rest f g h =
-        let long = g f in let more = length-append before (piece.text ∷ []) in h f (longer_list before piece.text are s t (omega arith))
+        let long = g f in let more = length-append before (piece.text ∷ []) in
+            h f (longer_list before piece.text are s t (omega arith))
 
 count_above : (piece : Piece) (n : ℕ) → count piece ≡ done n → 1 ≤ n
 count_above piece n e = by (nat_le 1 (index piece)) refl (nat_le (index piece) 65536) e
@@ -131,7 +135,8 @@ list_is next (piece ∷ pieces) list e = by (is_index piece.text) e
         → IsList list
     by true f =
         let n = bind_ok (count piece) _ list f in
-        subst IsList (ended_same (Counted n.0) list pieces n.2) (record { some = count_above piece n.0 n.1; names = λ h. empty-kept })
+        subst IsList (ended_same (Counted n.0) list pieces n.2)
+            (record { some = count_above piece n.0 n.1; names = λ h. empty-kept })
     by false f =
         let names = bind_ok (names_after [] (piece ∷ pieces)) _ list f in
         let long : 1 ≤ length names.0 = (let h = names_count [] (piece ∷ pieces) names.0 names.1 in omega arith) in
@@ -139,11 +144,13 @@ list_is next (piece ∷ pieces) list e = by (is_index piece.text) e
         (record { some = long; names = λ h. names_kept [] (piece ∷ pieces) names.0 names.1 h empty-kept })
 
 -- so many lists that are read are so many
-pub lists_are : (next n : ℕ) (lines : List (List Piece)) (lists : List GivenList) → name_lists next n lines ≡ done lists
+pub lists_are : (next n : ℕ) (lines : List (List Piece)) (lists : List GivenList)
+    → name_lists next n lines ≡ done lists
     → (length lists ≡ n) × Each IsList lists
 unfolding name_lists
 lists_are next zero [] lists e = subst (λ ls. (length ls ≡ 0) × Each IsList ls) (ok_same [] lists e) (refl, tt)
-lists_are next zero (line ∷ lines) lists e = subst (λ ls. (length ls ≡ 0) × Each IsList ls) (ended_same [] lists line e) (refl, tt)
+lists_are next zero (line ∷ lines) lists e = subst (λ ls. (length ls ≡ 0) × Each IsList ls)
+    (ended_same [] lists line e) (refl, tt)
 lists_are next (suc n) [] lists e = absurd (err_not_ok lists _ e)
 lists_are next (suc n) (line ∷ lines) lists e =
     let first = bind_ok (name_list next line) _ lists e in

@@ -1,5 +1,6 @@
 -- The rows of a table as they are read.
-use Rattle.std.proofs.Common.{◌≡◌, ◌≢◌, true, ℕ, ◌+◌, ◌*◌, ◌<◌, false, List, [], ◌∷◌, ◌++◌, length, get_or, map, refl, sym, ap, subst, ◌∙◌, arith}
+use Rattle.std.proofs.Common.{◌≡◌, ◌≢◌, true, ℕ, ◌+◌, ◌*◌, ◌<◌, false, List, [], ◌∷◌, ◌++◌, length, get_or, map, refl,
+    sym, ap, subst, ◌∙◌, arith}
 use Rattle.std.specs.Prelude.{sum}
 use Rattle.std.specs.List.{range_with_len, list_any}
 use Rattle.std.proofs.lemmas.List.{length-map, get_or-map}
@@ -13,7 +14,8 @@ use Rattle.dp_meaning.specs.Fields.{Axis}
 use Rattle.dp_meaning.specs.Statements.{axes_of}
 use Rattle.dp_meaning.specs.Cells.{covers, statements_for, chance_of_cell}
 use Rattle.dp_meaning.specs.Text.{states_in, joint_actions_in}
-use Rattle.dp_meaning.specs.Rows.{is_near, greatest_place, Row, Repaired, row_cells, table_row, table_rows, repair_all}
+use Rattle.dp_meaning.specs.Rows.{is_near, greatest_place, Row, Repaired, row_cells, table_row, table_rows,
+    repair_all}
 use Rattle.dp_meaning.proofs.CellNumbers.{parts_of_row}
 use Rattle.dp_meaning.proofs.FaultSteps.{done}
 use Rattle.dp_meaning.proofs.CellValues.{chance_uncovered}
@@ -26,16 +28,19 @@ pub length_of_table_row : (scale : ℕ) (axes : List Axis) (statements : List St
     → length (table_row scale axes statements len row).cells ≡ len
 unfolding table_row
 length_of_table_row scale axes statements len row =
-    length-map (row_cells row len) (chance_of_cell scale axes statements) ∙ length-map-range_with_len (λ n. row ++ n ∷ []) 0 len
+    length-map (row_cells row len) (chance_of_cell scale axes statements)
+        ∙ length-map-range_with_len (λ n. row ++ n ∷ []) 0 len
 
 pub cell_of_table_row : (scale : ℕ) (axes : List Axis) (statements : List Statement) (len : ℕ) (row : List ℕ) (j : ℕ)
     → j < len
-    → get_or (table_row scale axes statements len row).cells j 0 ≡ chance_of_cell scale axes statements (row ++ j ∷ [])
+    → get_or (table_row scale axes statements len row).cells j 0
+        ≡ chance_of_cell scale axes statements (row ++ j ∷ [])
 unfolding table_row
 cell_of_table_row scale axes statements len row j h =
     get_or-map (chance_of_cell scale axes statements) (row_cells row len) j [] 0
     (subst (λ n. j < n) (sym (length-map-range_with_len (λ n. row ++ n ∷ []) 0 len)) h)
-    ∙ ap (chance_of_cell scale axes statements) (get_or-map-range_with_len (λ n. row ++ n ∷ []) 0 len j j [] h (omega arith))
+    ∙ ap (chance_of_cell scale axes statements) (get_or-map-range_with_len (λ n. row ++ n ∷ []) 0 len j j [] h
+        (omega arith))
 
 pub scale_of_table_row : (scale : ℕ) (axes : List Axis) (statements : List Statement) (len : ℕ) (row : List ℕ)
     → (table_row scale axes statements len row).scale ≡ scale
@@ -46,7 +51,8 @@ scale_of_table_row scale axes statements len row = refl
 
 -- the row of a joint action and a state as the text gives it
 abbrev pub given_row : Text → Table → ℕ → ℕ → ℕ → ℕ → Row
-given_row text table scale len a s = table_row scale (axes_of text.header table) (statements_for table text.statements) len (a ∷ s ∷ [])
+given_row text table scale len a s = table_row scale (axes_of text.header table)
+    (statements_for table text.statements) len (a ∷ s ∷ [])
 
 -- what is read of a table whose rows have so many cells
 pub record IsTable (text : Text) (table : Table) (scale len : ℕ) (cells : List ℕ) : Type 0 where
@@ -75,7 +81,8 @@ table_is end text table scale len x e = record { size = size; row = row }
 
     row_len : (i : ℕ) (d : Row) → i < length (map row_at (range_with_len 0 count))
         → length (get_or (map row_at (range_with_len 0 count)) i d).cells ≡ len
-    row_len i d h = ap (λ r. length r.cells) (is_row i d (subst (λ n. i < n) rows_count h)) ∙ length_of_table_row scale _ _ len _
+    row_len i d h = ap (λ r. length r.cells) (is_row i d (subst (λ n. i < n) rows_count h))
+        ∙ length_of_table_row scale _ _ len _
 
     size : length x.cells ≡ joint_actions_in text * states_in text * len
     size = length_of_all end len (map row_at (range_with_len 0 count)) x row_len e ∙ ap (λ n. n * len) rows_count
@@ -92,7 +99,8 @@ table_is end text table scale len x e = record { size = size; row = row }
         ∙ ap (table_row scale (axes_of text.header table) (statements_for table text.statements) len)
         (parts_of_row (joint_actions_in text) (states_in text) a s ha hs) in
         let is = subst (λ r. IsRepair r.scale r.cells w.0) same w.1 in
-        (w.0, subst (λ n. IsRepair n (given_row text table scale len a s).cells w.0) (scale_of_table_row scale _ _ len _) is, w.2)
+        (w.0, subst (λ n. IsRepair n (given_row text table scale len a s).cells w.0)
+            (scale_of_table_row scale _ _ len _) is, w.2)
 
 pub sum_of_table_row : (text : Text) (table : Table) (scale len : ℕ) (cells : List ℕ)
     → IsTable text table scale len cells → len < 1000
@@ -106,7 +114,8 @@ sum_of_table_row text table scale len cells is short a s ha hs =
 pub uncovered_of_table : (text : Text) (table : Table) (scale len : ℕ) (cells : List ℕ)
     → IsTable text table scale len cells
     → (a s j : ℕ) → a < joint_actions_in text → s < states_in text → j < len
-    → list_any (λ l. covers (axes_of text.header table) l.fields (a ∷ s ∷ j ∷ [])) (statements_for table text.statements)
+    → list_any (λ l. covers (axes_of text.header table) l.fields (a ∷ s ∷ j ∷ []))
+        (statements_for table text.statements)
     ≡ false
     → get_or cells ((a * states_in text + s) * len + j) 0 ≡ 0
 uncovered_of_table text table scale len cells is a s j ha hs hj none =
@@ -114,7 +123,8 @@ uncovered_of_table text table scale len cells is a s j ha hs hj none =
     w.2 j hj ∙ w.1.zeros j (subst (λ n. j < n) (sym (length_of_table_row scale _ _ len _)) hj)
     (cell_of_table_row scale _ _ len _ j hj ∙ chance_uncovered scale _ _ _ none)
 
-pub kept_of_table : (text : Text) (table : Table) (scale len : ℕ) (cells : List ℕ) → IsTable text table scale len cells
+pub kept_of_table : (text : Text) (table : Table) (scale len : ℕ) (cells : List ℕ)
+    → IsTable text table scale len cells
     → (a s j : ℕ) → a < joint_actions_in text → s < states_in text → j < len
     → sum (given_row text table scale len a s).cells ≡ scale
     → get_or cells ((a * states_in text + s) * len + j) 0 ≡ chance_of_cell scale (axes_of text.header table)
@@ -123,10 +133,12 @@ kept_of_table text table scale len cells is a s j ha hs hj right =
     let w = is.row a s ha hs in
     w.2 j hj ∙ ap (λ c. get_or c j 0) (w.1.kept right) ∙ cell_of_table_row scale _ _ len _ j hj
 
-pub near_of_table : (text : Text) (table : Table) (scale len : ℕ) (cells : List ℕ) → IsTable text table scale len cells
+pub near_of_table : (text : Text) (table : Table) (scale len : ℕ) (cells : List ℕ)
+    → IsTable text table scale len cells
     → (a s : ℕ) → a < joint_actions_in text → s < states_in text
     → (is_near scale (sum (given_row text table scale len a s).cells) ≡ true)
-    × ((j : ℕ) → j < length (given_row text table scale len a s).cells → j ≢ greatest_place (given_row text table scale len a s).cells
+    × ((j : ℕ) → j < length (given_row text table scale len a s).cells
+        → j ≢ greatest_place (given_row text table scale len a s).cells
     → get_or cells ((a * states_in text + s) * len + j) 0 ≡ get_or (given_row text table scale len a s).cells j 0)
 near_of_table text table scale len cells is a s ha hs =
     let w = is.row a s ha hs in

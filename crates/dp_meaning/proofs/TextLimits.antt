@@ -25,7 +25,8 @@ product_within : (most acc : ℕ) (ns : List ℕ) → product_past most acc ns �
     → product_past most acc ns ≡ acc * product ns
 product_within most acc [] h = omega arith
 product_within most acc (n ∷ ns) h =
-    product_step most acc n (product ns) (product_past most (acc * n) ns) (nat_lt most acc) refl h (product_within most (acc * n) ns)
+    product_step most acc n (product ns) (product_past most (acc * n) ns) (nat_lt most acc) refl h
+        (product_within most (acc * n) ns)
 
 -- where the first product that is counted is kept, it is the product of all
 pub counted_product : (most : ℕ) (ns : List ℕ) → product_past most 1 ns ≤ most → product_past most 1 ns ≡ product ns
@@ -56,8 +57,10 @@ small text e =
       states = not_passed limits.States _ (none 1);
       actions = whole (map size_of text.header.actions) (not_passed limits.JointActions _ (none 2));
       observations = whole (map size_of text.header.observations) (not_passed limits.JointObservations _ (none 3));
-      counted_actions = counted_product 256 (map size_of text.header.actions) (not_passed limits.JointActions _ (none 2));
-      counted_observations = counted_product 256 (map size_of text.header.observations) (not_passed limits.JointObservations _ (none 3));
+      counted_actions = counted_product 256 (map size_of text.header.actions)
+          (not_passed limits.JointActions _ (none 2));
+      counted_observations = counted_product 256 (map size_of text.header.observations)
+          (not_passed limits.JointObservations _ (none 3));
       trans_cells = not_passed limits.TransCells _ (none 4);
       obs_cells = not_passed limits.ObsCells _ (none 5);
       reward_cells = not_passed limits.RewardCells _ (none 6);

@@ -1,5 +1,6 @@
 -- The value of a cell of a table: the one that the last covering statement gives it.
-use Rattle.std.specs.Prelude.{ℕ, ◌*◌, ◌/◌, ◌^◌, Bool, true, false, ◌&&◌, ◌==◌, if◌then◌else◌, ℤ, pos, neg_ℤ, ◌*ℤ◌, unsigned_abs, List, [], ◌∷◌, length, map, drop, reverse, filter, slice_index, slice_index_or, Option, Some, None}
+use Rattle.std.specs.Prelude.{ℕ, ◌*◌, ◌/◌, ◌^◌, Bool, true, false, ◌&&◌, ◌==◌, if◌then◌else◌, ℤ, pos, neg_ℤ, ◌*ℤ◌,
+    unsigned_abs, List, [], ◌∷◌, length, map, drop, reverse, filter, slice_index, slice_index_or, Option, Some, None}
 use Rattle.std.specs.List.{find}
 use Rattle.dp_base.specs.declared.decimal.Decimal.{Decimal}
 use Rattle.dp_spec.specs.JointNumbers.{joint_number, parts_of}
@@ -33,7 +34,8 @@ allow (part ∷ parts) (n ∷ ns) = allows part n && allow parts ns
 
 -- the fields along the axes allow the cell; an axis without a field allows each of its numbers
 abbrev pub covers : List Axis → List (List Part) → Cell → Bool
-covers (axis ∷ axes) (parts ∷ fields) (n ∷ cell) = allow parts (parts_of (map size_of axis) n) && covers axes fields cell
+covers (axis ∷ axes) (parts ∷ fields) (n ∷ cell) = allow parts
+    (parts_of (map size_of axis) n) && covers axes fields cell
 covers _ _ _ = true
 
 -- the tables are the same

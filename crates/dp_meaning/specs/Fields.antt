@@ -28,7 +28,8 @@ in_first_field piece (field ∷ fields) rest =
 
 -- one more piece in front: a Colon closes a field of its own, any other piece joins the first field
 abbrev pub with_field_piece : Bool → Piece → Fields → Fields
-with_field_piece true piece others = record others { fields = record { pieces = []; colon = piece.at } ∷ others.fields }
+with_field_piece true piece others = record others { fields =
+    record { pieces = []; colon = piece.at } ∷ others.fields }
 with_field_piece false piece others = in_first_field piece others.fields others.rest
 
 -- the fields of the pieces of a line, each of which ends at a Colon, and what stands after the last Colon
@@ -63,7 +64,8 @@ is_one_star _ = false
 
 -- one `*`, or one part per list
 abbrev pub field_parts : Axis → Field → Result (List Part) Fault
-field_parts axis field = if is_one_star field.pieces then Ok (map (λ _. Any) axis) else parts_in axis field field.pieces
+field_parts axis field = if is_one_star field.pieces then Ok
+    (map (λ _. Any) axis) else parts_in axis field field.pieces
 
 -- The fields along the axes. Where there are too many, the Colon that closes the first of these is wrong.
 unfoldable pub all_parts : List Axis → List Field → Result (List (List Part)) Fault

@@ -1,5 +1,6 @@
 -- Lists of agents, states, actions and observations: each is given as a count or by names.
-use Rattle.std.specs.Prelude.{ℕ, zero, suc, Bool, not, ◌&&◌, ◌||◌, nat_le, nat_lt, if◌then◌else◌, List, [], ◌∷◌, ◌++◌, length, Option, Some, None, Result, Ok}
+use Rattle.std.specs.Prelude.{ℕ, zero, suc, Bool, not, ◌&&◌, ◌||◌, nat_le, nat_lt, if◌then◌else◌, List, [], ◌∷◌, ◌++◌,
+    length, Option, Some, None, Result, Ok}
 use Rattle.std.specs.Str.{bytes_eq}
 use Rattle.std.specs.Str.Parse.{digits_value}
 use Rattle.dp_base.specs.DecimalShape.{is_index}
@@ -70,7 +71,8 @@ if_below size n = if nat_lt n size then Some n else None
 
 -- the place of an index or of a name in a list, where the list has it
 abbrev pub place_in : GivenList → Piece → Option ℕ
-place_in list piece = if is_index piece.text then if_below (size_of list) (index piece) else place_of (names_in list) piece.text
+place_in list piece = if is_index piece.text then if_below (size_of list) (index piece) else place_of
+    (names_in list) piece.text
 
 -- the number that was found, or the fault of an unknown name at this offset
 abbrev pub found_at : ℕ → Option ℕ → Result ℕ Fault
@@ -80,4 +82,5 @@ found_at at None = fault UnknownName at
 -- the number that an index or a name stands for in a list
 unfoldable pub find_in : GivenList → Piece → Result ℕ Fault
 find_in list piece =
-    if is_index piece.text || is_name piece.text then found_at piece.at (place_in list piece) else fault Expected piece.at
+    if is_index piece.text || is_name piece.text then found_at piece.at
+        (place_in list piece) else fault Expected piece.at

@@ -38,7 +38,8 @@ scale_of digits uniform len = if uniform then lcm_of (10 ^ digits) len else 10 ^
 
 -- the scale of a table of chances; statements that later ones replace count as well
 abbrev pub table_scale : List Statement → ℕ → ℕ
-table_scale statements len = scale_of (digits_of_statements statements) (list_any (λ s. is_uniform s.value) statements) len
+table_scale statements len = scale_of (digits_of_statements statements)
+    (list_any (λ s. is_uniform s.value) statements) len
 
 -- the scale of the start
 abbrev pub start_scale : Start → ℕ → ℕ

@@ -1,5 +1,6 @@
 -- The statements: one notion of table for all three.
-use Rattle.std.specs.Prelude.{ℕ, Bool, true, false, not, ◌&&◌, ◌==◌, nat_lt, if◌then◌else◌, List, [], ◌∷◌, ◌++◌, length, codes, map, drop, Result, Ok}
+use Rattle.std.specs.Prelude.{ℕ, Bool, true, false, not, ◌&&◌, ◌==◌, nat_lt, if◌then◌else◌, List, [], ◌∷◌, ◌++◌,
+    length, codes, map, drop, Result, Ok}
 use Rattle.std.specs.List.{flat_map}
 use Rattle.dp_base.specs.declared.decimal.Decimal.{Decimal}
 use Rattle.dp_spec.specs.JointNumbers.{product}
@@ -83,7 +84,8 @@ statement header table item = do
   let line = fields_of (after_colon item)
   fields ← all_parts (axes_of header table) line.fields
   _ ← unless_too_few (least_fields table) fields item.first.ends
-  value ← value_of table (drop (length fields) (axes_of header table)) item.next (line.rest ++ flat_map pieces_of item.more)
+  value ← value_of table (drop (length fields) (axes_of header table)) item.next
+      (line.rest ++ flat_map pieces_of item.more)
   Ok (record { at = item_at item; table = table; fields = fields; value = value })
 
 -- behind the header there are only statements

@@ -1,7 +1,9 @@
 -- Counts of histories, and the mode of a horizon.
-use Rattle.std.proofs.Common.{◌≡◌, ℕ, zero, suc, ◌+◌, ◌-◌, ◌*◌, ◌^◌, ◌<◌, ◌≤◌, Bool, true, false, max, pos, to_z, List, [], ◌∷◌, length, get_or, add-one, refl, ap, subst, ◌∙◌, arith}
+use Rattle.std.proofs.Common.{◌≡◌, ℕ, zero, suc, ◌+◌, ◌-◌, ◌*◌, ◌^◌, ◌<◌, ◌≤◌, Bool, true, false, max, pos, to_z,
+    List, [], ◌∷◌, length, get_or, add-one, refl, ap, subst, ◌∙◌, arith}
 use Rattle.std.specs.Prelude.{Option, SomeIff}
-use Rattle.std.proofs.Math.Nat.{le-mul_of_pos_right, mul-le-mul, mul-le-mul_left, mul-pos, pow-le-pow_left, pow-le-pow_right, pow-suc, pow-zero}
+use Rattle.std.proofs.Math.Nat.{le-mul_of_pos_right, mul-le-mul, mul-le-mul_left, mul-pos, pow-le-pow_left,
+    pow-le-pow_right, pow-suc, pow-zero}
 use Rattle.std.proofs.lemmas.Bool.{le-leb, leb-true}
 use Rattle.std.proofs.lemmas.Int.{to_z_pos}
 use Rattle.std.proofs.lemmas.Nat.{mul-pow}
@@ -114,7 +116,8 @@ exact_where : (m : Model) → IsModel m → (h : ℕ)
     → m.scales.start * step_scale m ^ h * h * max (greatest_magnitude m.reward) m.scales.reward ≤ 2 ^ 126
     → is_exact_mode m h ≡ true
 unfolding is_exact_mode
-exact_where m ok h le = rw (most_reward (greatest_magnitude m.reward) m.scales.reward ok.scales.reward) (le-leb _ _ le)
+exact_where m ok h le = rw (most_reward (greatest_magnitude m.reward) m.scales.reward ok.scales.reward)
+    (le-leb _ _ le)
 
 -- what the condition says of its first factors
 pub steps_room : (m : Model) → IsModel m → (h : ℕ) → is_exact_mode m h ≡ true

@@ -5,7 +5,8 @@ use Rattle.dp_spec.specs.Model.{IsModel, Model, joint_actions, joint_observation
 use Rattle.dp_spec.proofs.JointNumberLaws.{row_below}
 
 -- the place of a cell is within its table
-pub obs_place : (m : Model) → IsModel m → (a t o : ℕ) → a < joint_actions m → t < m.states → o < joint_observations m →
+pub obs_place : (m : Model) → IsModel m → (a t o : ℕ) → a < joint_actions m → t < m.states
+    → o < joint_observations m →
     (a * m.states + t) * joint_observations m + o < length m.obs
 obs_place m ok a t o action next observation =
     rw ok.tables.obs (row_below _ _ _ _ (row_below _ _ _ _ action next) observation)

@@ -1,5 +1,6 @@
 -- Lists of names: as the texts of the keys of a set, and what they keep.
-use Rattle.std.proofs.Common.{◌≡◌, ◌≢◌, ℕ, zero, suc, ◌+◌, ◌^◌, ◌<◌, Bool, true, false, cond, not, ◌||◌, List, [], ◌∷◌, ◌++◌, length, get_or, map, position, refl, sym, ap, ◌∙◌, true≢false, arith}
+use Rattle.std.proofs.Common.{◌≡◌, ◌≢◌, ℕ, zero, suc, ◌+◌, ◌^◌, ◌<◌, Bool, true, false, cond, not, ◌||◌, List, [],
+    ◌∷◌, ◌++◌, length, get_or, map, position, refl, sym, ap, ◌∙◌, true≢false, arith}
 use Rattle.std.specs.Prelude.{if◌then◌else◌, replicate, slice_get, slice_set, IsTrue, is_some}
 use Rattle.std.specs.List.{list_any, position_or_len}
 use Rattle.std.specs.Str.{bytes_eq}
@@ -35,9 +36,11 @@ module _ {X : Type 0} (f : X → List ℕ) where
   place_of-texts xs names name e = sym (position-map (bytes_eq name) xs) ∙ ap (λ l. place_of l name) e
 
   -- the texts of the keys after one is inserted
-  pub with_name-texts : (xs : List X) (y : X) (names : List (List ℕ)) (name : List ℕ) → map f xs ≡ names → f y ≡ name →
+  pub with_name-texts : (xs : List X) (y : X) (names : List (List ℕ)) (name : List ℕ) → map f xs ≡ names
+      → f y ≡ name →
       map f (if list_any (λ x. bytes_eq (f y) (f x)) xs then xs else xs ++ y ∷ []) ≡ with_name names name
-  with_name-texts xs y names name e t = by (list_any (λ x. bytes_eq (f y) (f x)) xs) ∙ ap (λ b. if b then names else names ++ name ∷ []) (has_name-texts xs names (f y) name e t)
+  with_name-texts xs y names name e t = by (list_any (λ x. bytes_eq (f y) (f x)) xs)
+      ∙ ap (λ b. if b then names else names ++ name ∷ []) (has_name-texts xs names (f y) name e t)
     where
       by : (b : Bool) → map f (if b then xs else xs ++ y ∷ []) ≡ (if b then names else names ++ name ∷ [])
       by true = e
@@ -61,7 +64,8 @@ has_name-at : (names : List (List ℕ)) (name : List ℕ) (k : ℕ) (d : List �
     → get_or names k d ≡ name → has_name names name ≡ true
 has_name-at [] name k d lt e = absurd (omega arith)
 has_name-at (x ∷ xs) name zero d lt e = ap (λ b. b || has_name xs name) ((bytes_eq-Decides name x).1 (sym e))
-has_name-at (x ∷ xs) name (suc k) d lt e = ap (λ b. bytes_eq name x || b) (has_name-at xs name k d (omega arith) e) ∙ or-true (bytes_eq name x)
+has_name-at (x ∷ xs) name (suc k) d lt e = ap (λ b. bytes_eq name x || b) (has_name-at xs name k d (omega arith) e)
+    ∙ or-true (bytes_eq name x)
 
 pub with_name-kept : (names : List (List ℕ)) (name : List ℕ) → IsNameList names → IsTrue (is_name name)
     → length names < 2 ^ 26 → IsNameList (with_name names name)
@@ -71,12 +75,14 @@ with_name-kept names name kept named room = by (has_name names name) refl
     by true has = kept
     by false has = record {
       are_names = All-push (λ text. IsTrue (is_name text)) names name kept.are_names named;
-      once = all_pairs_push (λ a b. a ≢ b) names name kept.once (λ k d lt e. true≢false (sym (has_name-at names name k d lt e) ∙ has));
+      once = all_pairs_push (λ a b. a ≢ b) names name kept.once
+          (λ k d lt e. true≢false (sym (has_name-at names name k d lt e) ∙ has));
       limit = rw (length_push names name) (omega arith);
     }
 
 pub empty-kept : IsNameList []
-empty-kept = record { are_names = λ k d lt. absurd (let no : k < 0 = lt in omega arith); once = λ i j d lt in_. absurd (let no : j < 0 = in_ in omega arith); limit = omega arith }
+empty-kept = record { are_names = λ k d lt. absurd (let no : k < 0 = lt in omega arith); once =
+    λ i j d lt in_. absurd (let no : j < 0 = in_ in omega arith); limit = omega arith }
 
 -- one list of agents' lists replaced by another
 pub slice_set-kept : (lists : List (List (List ℕ))) (i : ℕ) (list : List (List ℕ))

@@ -52,7 +52,8 @@ greatest_allowed limits.TextBytes = 2 ^ 28
 
 -- a limit is passed where the count is more than it allows
 abbrev pub passed_by : Limit → ℕ → Option TooLarge
-passed_by what count = if nat_lt (greatest_allowed what) count then Some (record { what = what; count = count }) else None
+passed_by what count = if nat_lt (greatest_allowed what) count then Some
+    (record { what = what; count = count }) else None
 
 -- the first of the limits, in their order, that is passed
 abbrev pub first_passed : List (Option TooLarge) → Option TooLarge

@@ -34,12 +34,14 @@ impl std::marker::Model for Model {
     ghost Value = { NamedModel };
 
     ghost view = { λ m. record {
-      model = model_of_tables (record { states = m.states; actions = m.actions; observations = m.observations }) m.scales m.cells;
+      model = model_of_tables (record { states = m.states; actions = m.actions; observations = m.observations })
+          m.scales m.cells;
       names = m.names;
     } };
 
     ghost invariant = { λ m. IsStoredModel (record {
-      model = model_of_tables (record { states = m.states; actions = m.actions; observations = m.observations }) m.scales m.cells;
+      model = model_of_tables (record { states = m.states; actions = m.actions; observations = m.observations })
+          m.scales m.cells;
       names = m.names;
     }) m.greatest_reward };
 }

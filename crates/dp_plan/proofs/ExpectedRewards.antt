@@ -5,7 +5,8 @@ use Rattle.dp_laws.proofs.ConstantPolicies.{constant_policy_value}
 use Rattle.dp_base.proofs.Ring.{v, nat, ◌⊗◌, by_ring}
 use Rattle.dp_base.proofs.Sums.{int_sum_ext, int_sum_mul}
 use Rattle.dp_spec.specs.LookAhead.{weighted_reward}
-use Rattle.dp_spec.specs.Model.{IsModel, Model, joint_actions, joint_observations, obs_at, reward_at, start_at, step_scale, trans_at}
+use Rattle.dp_spec.specs.Model.{IsModel, Model, joint_actions, joint_observations, obs_at, reward_at, start_at,
+    step_scale, trans_at}
 use Rattle.dp_base.specs.Sums.{int_sum}
 use Rattle.dp_plan.specs.BestConstant.{constant_value}
 use Rattle.dp_plan.specs.ExpectedReward.{reward_from_start, reward_in_state, reward_on_arrival}

@@ -1,10 +1,12 @@
 -- In exact mode the sums of the expected reward fit in 128 bits, and so do the value and the unit.
-use Rattle.std.proofs.Common.{◌≡◌, true, ℕ, ◌*◌, ◌^◌, ◌<◌, ◌≤◌, ℤ, pos, ◌*ℤ◌, unsigned_abs, FitsSigned, sym, ap, subst, arith}
+use Rattle.std.proofs.Common.{◌≡◌, true, ℕ, ◌*◌, ◌^◌, ◌<◌, ◌≤◌, ℤ, pos, ◌*ℤ◌, unsigned_abs, FitsSigned, sym, ap,
+    subst, arith}
 use Rattle.std.proofs.lemmas.Int.{fits_signed_from_abs, unsigned_abs-mul}
 use Rattle.std.proofs.Math.Nat.{mul-le-mul_left, le-mul_of_pos_right}
 use Rattle.std.specs.Int.{w128}
 use Rattle.dp_spec.specs.Mode.{is_exact_mode}
-use Rattle.dp_spec.specs.Model.{IsModel, Model, joint_actions, joint_observations, obs_at, reward_at, start_at, step_scale, trans_at, value_scale}
+use Rattle.dp_spec.specs.Model.{IsModel, Model, joint_actions, joint_observations, obs_at, reward_at, start_at,
+    step_scale, trans_at, value_scale}
 use Rattle.dp_spec.specs.declared.scales.Scales.{Scales}
 use Rattle.dp_plan.specs.BestConstant.{constant_value}
 use Rattle.dp_plan.specs.ExpectedReward.{reward_from_start, reward_in_state, reward_on_arrival}

@@ -13,7 +13,8 @@ use Rattle.dp_lines.proofs.SpelledLines.{HasItems}
 use Rattle.dp_lines.proofs.LineAnswers.{words_have_items}
 use Rattle.dp_lines.proofs.OneAnswer.{IsProper, IsProper-bind}
 use Rattle.dp_policy.specs.TextSteps.{the_words, the_numbers, unless_passed, first_plain}
-use Rattle.dp_policy.specs.PolicyGrammar.{PolicyActions, stage_rows, agent_words, agent_rows, title_words, end_words, policy_grammar}
+use Rattle.dp_policy.specs.PolicyGrammar.{PolicyActions, stage_rows, agent_words, agent_rows, title_words, end_words,
+    policy_grammar}
 use Rattle.dp_policy.proofs.AgentParts.{agent_words_are}
 use Rattle.dp_policy.proofs.PolicyParts.{behind_title, behind_horizon, behind_limits, behind_agents}
 

@@ -65,7 +65,8 @@ impl LookRoom {
         requires weights { AreWeights fit.exact model.now.model t (weights_of weights.now) }
         ensures is { result ≡ look_ahead_in (arithmetic fit.exact model.now.model.scales) model.now.model
             (fit.horizon - t) (weights_of weights.now) look }
-        ensures sound { BoundsEarnings fit.exact model.now.model fit.horizon fit.unit t (weights_of weights.now) result }
+        ensures sound { BoundsEarnings fit.exact model.now.model fit.horizon fit.unit t (weights_of weights.now)
+            result }
         ensures room { self.new ≡ self.old }
     {
         model.invariant();
@@ -94,7 +95,8 @@ impl LookRoom {
         requires weights { AreWeights fit.exact model.now.model t (weights_of weights.now) }
         ensures is { result ≡ action_look_ahead_in (arithmetic fit.exact model.now.model.scales) model.now.model
             (fit.horizon - t - 1) (weights_of weights.now) a look }
-        ensures sound { BoundsEarningsOf fit.exact model.now.model fit.horizon fit.unit t (weights_of weights.now) a result }
+        ensures sound { BoundsEarningsOf fit.exact model.now.model fit.horizon fit.unit t (weights_of weights.now) a
+            result }
         ensures room { self.new ≡ self.old }
     {
         model.invariant();

@@ -8,7 +8,8 @@ use Rattle.dp_meaning.specs.declared.text.Text.{Text}
 use Rattle.dp_meaning.specs.declared.why.Fault.{Fault}
 use Rattle.dp_meaning.specs.Limits.{passed_limit}
 use Rattle.dp_meaning.specs.Meaning as meaning
-use Rattle.dp_meaning.specs.Meaning.{text_of, names_given, repaired_model, Place, Meaning, meaning, Means, FaultAt, Passes}
+use Rattle.dp_meaning.specs.Meaning.{text_of, names_given, repaired_model, Place, Meaning, meaning, Means, FaultAt,
+    Passes}
 use Rattle.dp_meaning.specs.Rows as rows
 use Rattle.dp_meaning.specs.Rows.{repair_all, start_row, trans_rows, obs_rows}
 use Rattle.dp_lexer.specs.declared.LexFault.{LexFault}
@@ -91,7 +92,8 @@ pub rows_built : (end : ℕ) (text : Text) (rows : Rows) (model : NamedModel) �
     → model ≡ (built text rows).model
     → repaired_model end text ≡ Ok (record { model = model; repaired = (built text rows).repaired })
 rows_built end text rows model are e =
-    let with_model : NamedModel → Result meaning.ReadModel Fault = λ m. Ok (record { model = m; repaired = (built text rows).repaired }) in
+    let with_model : NamedModel → Result meaning.ReadModel Fault =
+        λ m. Ok (record { model = m; repaired = (built text rows).repaired }) in
     all_rows_are end text rows are ∙ ap with_model (sym e)
 
 -- ---- the answer
@@ -121,13 +123,15 @@ pub text_means : (bytes : List ℕ) (text : Text) (r : ReadModel) → text_of by
     → ReadsModel (repaired_model (length bytes) text) (Ok r) → IsMeaning (meaning bytes) (Ok r)
 text_means bytes text r says within is = means_built bytes text _ says within is
 
-pub row_fault : (bytes : List ℕ) (text : Text) (fault : TextFault) → text_of bytes ≡ Ok text → passed_limit text ≡ None
+pub row_fault : (bytes : List ℕ) (text : Text) (fault : TextFault) → text_of bytes ≡ Ok text
+    → passed_limit text ≡ None
     → ReadsModel (repaired_model (length bytes) text) (Err fault) → IsMeaning (meaning bytes) (Err (told bytes fault))
 unfolding meaning
 row_fault bytes text (At f) says within h = rw says (rw within (rw h refl))
 row_fault bytes text Memory says within h = tt
 
-pub told_same : (bytes : List ℕ) (meant : Meaning) (fault : TextFault) (answer : ModelFault) → answer ≡ told bytes fault
+pub told_same : (bytes : List ℕ) (meant : Meaning) (fault : TextFault) (answer : ModelFault)
+    → answer ≡ told bytes fault
     → IsMeaning meant (Err (told bytes fault)) → IsMeaning meant (Err answer)
 told_same bytes meant fault answer e is = subst (λ f. IsMeaning meant (Err f)) (sym e) is
 
@@ -153,7 +157,8 @@ same_fault p q why why' e =
 pub model_iff : (meant : Meaning) (r : Result ReadModel ModelFault) → IsMeaning meant r → (read : ReadModel)
     → r ≢ Err faults.Memory
     → (r ≡ Ok read) ↔ (meant ≡ Means (meant_model read))
-model_iff meant (Ok x) is read memory = (λ e. subst (IsMeaning meant) e is, λ e. same_model (meant_model x) (meant_model read) (sym is ∙ e))
+model_iff meant (Ok x) is read memory = (λ e. subst (IsMeaning meant) e is,
+    λ e. same_model (meant_model x) (meant_model read) (sym is ∙ e))
 model_iff meant (Err (faults.At line column why)) is read memory = (λ e. absurd cc, λ e. absurd cc)
 model_iff meant (Err (faults.TooLarge passed)) is read memory = (λ e. absurd cc, λ e. absurd cc)
 model_iff meant (Err faults.Memory) is read memory = absurd (memory refl)
@@ -164,7 +169,8 @@ pub fault_iff : (meant : Meaning) (r : Result ReadModel ModelFault) → IsMeanin
 fault_iff meant (Ok x) is line column why memory = (λ e. absurd cc, λ e. absurd cc)
 fault_iff meant (Err (faults.At line' column' why')) is line column why memory = (
   λ e. subst (IsMeaning meant) e is,
-  λ e. same_fault (record { line = line'; column = column' }) (record { line = line; column = column }) why' why (sym is ∙ e),
+  λ e. same_fault (record { line = line'; column = column' }) (record { line = line; column = column }) why' why
+      (sym is ∙ e),
 )
 fault_iff meant (Err (faults.TooLarge passed)) is line column why memory = (λ e. absurd cc, λ e. absurd cc)
 fault_iff meant (Err faults.Memory) is line column why memory = absurd (memory refl)

@@ -29,7 +29,8 @@ pub record AreAllRows (end : ℕ) (text : Text) (read : Rows) : Type 0 where
 
 -- the model of the text with these rows
 abbrev pub model_of_rows : Text → Rows → Model
-model_of_rows text rows = table_model text rows.start.cells.items rows.transitions.cells.items rows.observations.cells.items
+model_of_rows text rows = table_model text rows.start.cells.items rows.transitions.cells.items
+    rows.observations.cells.items
 
 -- all rows are what is meant, or the text's fault is, unless memory ran out
 abbrev pub ReadsAllRows : ℕ → Text → Result Rows TextFault → Type 0

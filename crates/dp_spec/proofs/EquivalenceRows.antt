@@ -1,5 +1,6 @@
 -- Worked rows of equivalent classes: places and their numbers, first unequal places, least pairs, primitive vectors.
-use Rattle.std.proofs.Common.{◌≡◌, ◌<◌, ◌≤◌, ◌⊎◌, inl, inr, ℕ, zero, suc, ◌*◌, ◌/◌, ◌%◌, ap, List, get_or, [], ◌∷◌, Some, None, refl, arith}
+use Rattle.std.proofs.Common.{◌≡◌, ◌<◌, ◌≤◌, ◌⊎◌, inl, inr, ℕ, zero, suc, ◌*◌, ◌/◌, ◌%◌, ap, List, get_or, [], ◌∷◌,
+    Some, None, refl, arith}
 use Rattle.std.specs.Int.{◌∣◌}
 use Rattle.std.specs.Prelude.{All}
 use Rattle.std.proofs.lemmas.Nat.Gcd.{dvd-zero, dvd_of_mod-eq-zero, mod-eq-zero_of_dvd}
@@ -26,42 +27,57 @@ place_of_two_one = refl
 
 -- two classes of the other agent, and two states
 places_of_listened : place_count tiger listened 0 ≡ 4
-unfolding tiger place_count joint_actions joint_observations start_at trans_at obs_at reward_at step_scale weights_after fixed_joint_action class_of_agent class_of_others place_weight class_total root_front front_after_choice advanced_agent
+unfolding tiger place_count joint_actions joint_observations start_at trans_at obs_at reward_at step_scale
+    weights_after fixed_joint_action class_of_agent class_of_others place_weight class_total root_front
+    front_after_choice advanced_agent
 places_of_listened = refl
 
 -- the tiger is on the left or on the right, where both heard the left door, or the other heard the right one
 vector_of_left : class_vector tiger listened 0 0 ≡ 14450 ∷ 450 ∷ 2550 ∷ 2550 ∷ []
-unfolding tiger class_vector place_count joint_actions joint_observations start_at trans_at obs_at reward_at step_scale weights_after fixed_joint_action class_of_agent class_of_others place_weight class_total root_front front_after_choice advanced_agent
+unfolding tiger class_vector place_count joint_actions joint_observations start_at trans_at obs_at reward_at
+    step_scale weights_after fixed_joint_action class_of_agent class_of_others place_weight class_total root_front
+    front_after_choice advanced_agent
 vector_of_left = refl
 
 vector_of_right : class_vector tiger listened 0 1 ≡ 2550 ∷ 2550 ∷ 450 ∷ 14450 ∷ []
-unfolding tiger class_vector place_count joint_actions joint_observations start_at trans_at obs_at reward_at step_scale weights_after fixed_joint_action class_of_agent class_of_others place_weight class_total root_front front_after_choice advanced_agent
+unfolding tiger class_vector place_count joint_actions joint_observations start_at trans_at obs_at reward_at
+    step_scale weights_after fixed_joint_action class_of_agent class_of_others place_weight class_total root_front
+    front_after_choice advanced_agent
 vector_of_right = refl
 
 -- ---- the first unequal place
 
 left_and_right_differ_first : first_unequal tiger listened 0 0 1 ≡ Some 0
-unfolding tiger first_unequal place_count joint_actions joint_observations start_at trans_at obs_at reward_at step_scale weights_after fixed_joint_action class_of_agent class_of_others place_weight class_total root_front front_after_choice advanced_agent
+unfolding tiger first_unequal place_count joint_actions joint_observations start_at trans_at obs_at reward_at
+    step_scale weights_after fixed_joint_action class_of_agent class_of_others place_weight class_total root_front
+    front_after_choice advanced_agent
 left_and_right_differ_first = refl
 
 heard_and_never_do_not_differ : first_unequal blind waited 0 0 1 ≡ None
-unfolding blind first_unequal place_count joint_actions joint_observations start_at trans_at obs_at reward_at step_scale weights_after fixed_joint_action class_of_agent class_of_others place_weight class_total root_front front_after_choice advanced_agent
+unfolding blind first_unequal place_count joint_actions joint_observations start_at trans_at obs_at reward_at
+    step_scale weights_after fixed_joint_action class_of_agent class_of_others place_weight class_total root_front
+    front_after_choice advanced_agent
 heard_and_never_do_not_differ = refl
 
 -- after two observations it does not count which of them was the left door
 left_right_and_right_left : first_unequal tiger listened_twice 0 1 2 ≡ None
-unfolding tiger first_unequal place_count joint_actions joint_observations start_at trans_at obs_at reward_at step_scale weights_after fixed_joint_action class_of_agent class_of_others place_weight class_total root_front front_after_choice advanced_agent
+unfolding tiger first_unequal place_count joint_actions joint_observations start_at trans_at obs_at reward_at
+    step_scale weights_after fixed_joint_action class_of_agent class_of_others place_weight class_total root_front
+    front_after_choice advanced_agent
 left_right_and_right_left = refl
 
 left_twice_and_once : first_unequal tiger listened_twice 0 0 1 ≡ Some 0
-unfolding tiger first_unequal place_count joint_actions joint_observations start_at trans_at obs_at reward_at step_scale weights_after fixed_joint_action class_of_agent class_of_others place_weight class_total root_front front_after_choice advanced_agent
+unfolding tiger first_unequal place_count joint_actions joint_observations start_at trans_at obs_at reward_at
+    step_scale weights_after fixed_joint_action class_of_agent class_of_others place_weight class_total root_front
+    front_after_choice advanced_agent
 left_twice_and_once = refl
 
 -- ---- the least pair
 
 waited_pair : IsPair blind waited 0 0 1
 unfolding blind root_front front_after_choice advanced_agent
-waited_pair = record { order = omega arith; first = (omega arith, refl); second = (omega arith, refl); equivalent = heard_and_never_are_equivalent }
+waited_pair = record { order = omega arith; first = (omega arith, refl); second = (omega arith, refl); equivalent =
+    heard_and_never_are_equivalent }
 
 least_of_waited : IsLeastPair blind waited 0 0 1
 unfolding blind root_front front_after_choice advanced_agent
@@ -88,7 +104,8 @@ some_pair none = none 0 1 (omega arith) (omega arith, refl) (omega arith, refl) 
 -- ---- primitive vectors
 
 two_divides : All (λ x. 2 ∣ x) (4 ∷ 0 ∷ 6 ∷ [])
-two_divides = All-from_recursion (λ x. 2 ∣ x) (4 ∷ 0 ∷ 6 ∷ []) (dvd_of_mod-eq-zero 2 refl, (dvd-zero 2, (dvd_of_mod-eq-zero 2 refl, tt)))
+two_divides = All-from_recursion (λ x. 2 ∣ x) (4 ∷ 0 ∷ 6 ∷ []) (dvd_of_mod-eq-zero 2 refl,
+    (dvd-zero 2, (dvd_of_mod-eq-zero 2 refl, tt)))
 
 two_is_greatest : IsGcdOf (4 ∷ 0 ∷ 6 ∷ []) 2
 two_is_greatest = record {
@@ -122,4 +139,5 @@ not_divided primitive =
     quotient : (g : ℕ) → g % 2 ≡ 0 → 4 ≡ 4 / g → ⊥
     quotient zero even e = omega (arith, e)
     quotient (suc zero) even e = omega (arith, even)
-    quotient (suc (suc g)) even e = let enough : 4 ≤ suc (suc g) * 2 = omega arith in let less : 4 / suc (suc g) ≤ 2 = div-le_of_le-mul (suc (suc g)) enough in omega arith
+    quotient (suc (suc g)) even e = let enough : 4 ≤ suc (suc g) * 2 = omega arith in
+        let less : 4 / suc (suc g) ≤ 2 = div-le_of_le-mul (suc (suc g)) enough in omega arith

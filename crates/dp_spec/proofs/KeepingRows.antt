@@ -1,5 +1,6 @@
 -- Worked rows of joint policies that keep a front, and of those that do not.
-use Rattle.std.proofs.Common.{◌≡◌, ◌<◌, ℕ, zero, suc, ◌^◌, List, [], ◌∷◌, get_or, Option, Some, None, refl, sym, ap, ◌∙◌, arith}
+use Rattle.std.proofs.Common.{◌≡◌, ◌<◌, ℕ, zero, suc, ◌^◌, List, [], ◌∷◌, get_or, Option, Some, None, refl, sym, ap,
+    ◌∙◌, arith}
 use Rattle.std.specs.Prelude.{unwrap_or}
 use Rattle.dp_spec.specs.PolicyTree.{PolicyTree, more_trees, no_trees, node, root_action}
 use Rattle.dp_spec.specs.Front.{AgentFront, Front}
@@ -66,7 +67,8 @@ after_either zero below = refl
 after_either (suc zero) below = refl
 after_either (suc (suc x)) below = absurd (omega arith)
 
-waited_first : (t x : ℕ) → t < 1 → x < 2 ^ t → root_action (tree_at 2 (waits_after 0 0) t x) ≡ get_or (get_or {A = List ℕ} ((0 ∷ []) ∷ []) t []) x 0
+waited_first : (t x : ℕ) → t < 1 → x < 2 ^ t → root_action (tree_at 2 (waits_after 0 0) t x)
+    ≡ get_or (get_or {A = List ℕ} ((0 ∷ []) ∷ []) t []) x 0
 waited_first zero zero early below = refl
 waited_first zero (suc x) early below = absurd (omega arith)
 waited_first (suc t) x early below = absurd (omega arith)

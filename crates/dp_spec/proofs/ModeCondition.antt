@@ -1,5 +1,6 @@
 -- The condition of exact mode in numbers, and the greatest magnitude of a reward.
-use Rattle.std.proofs.Common.{◌≡◌, ℕ, zero, suc, ◌+◌, ◌*◌, ◌^◌, ◌<◌, ◌≤◌, true, max, ℤ, pos, unsigned_abs, List, [], ◌∷◌, get_or, sym, arith}
+use Rattle.std.proofs.Common.{◌≡◌, ℕ, zero, suc, ◌+◌, ◌*◌, ◌^◌, ◌<◌, ◌≤◌, true, max, ℤ, pos, unsigned_abs, List, [],
+    ◌∷◌, get_or, sym, arith}
 use Rattle.std.proofs.lemmas.Bool.{leb-true}
 use Rattle.dp_spec.specs.Mode.{greatest_magnitude, is_exact_mode}
 use Rattle.dp_spec.specs.Model.{IsModel, Model, joint_observations, reward_at, step_scale}
@@ -18,7 +19,8 @@ magnitude_at (r ∷ rs) (suc i) = let rest = magnitude_at rs i in omega arith
 -- no reward has a greater magnitude
 pub reward_at_most : (m : Model) (a s t o : ℕ) → unsigned_abs (reward_at m a s t o) ≤ reward_most m
 unfolding reward_most reward_at
-reward_at_most m a s t o = let one = magnitude_at m.reward (((a * m.states + s) * m.states + t) * joint_observations m + o) in omega arith
+reward_at_most m a s t o = let one = magnitude_at m.reward
+    (((a * m.states + s) * m.states + t) * joint_observations m + o) in omega arith
 
 -- it is at least 1
 pub reward_most_some : (m : Model) → 1 ≤ reward_most m
@@ -46,9 +48,11 @@ reward_within m is a s t o = is.tables.reward_limit (((a * m.states + s) * m.sta
 pub magnitude_most : (rs : List ℤ) (c : ℕ) → ((i : ℕ) → unsigned_abs (get_or rs i (pos 0)) ≤ c)
     → greatest_magnitude rs ≤ c
 magnitude_most [] c h = omega arith
-magnitude_most (r ∷ rs) c h = let here : unsigned_abs r ≤ c = h 0 in let rest = magnitude_most rs c (λ i. h (suc i)) in omega arith
+magnitude_most (r ∷ rs) c h = let here : unsigned_abs r ≤ c = h 0 in
+    let rest = magnitude_most rs c (λ i. h (suc i)) in omega arith
 
 -- it holds of the magnitude that the condition takes too
 pub reward_most_within : (m : Model) → IsModel m → reward_most m ≤ 10 ^ 8 * m.scales.reward
 unfolding reward_most
-reward_most_within m is = let most = magnitude_most m.reward (10 ^ 8 * m.scales.reward) is.tables.reward_limit in let some = is.scales.reward in omega arith
+reward_most_within m is = let most = magnitude_most m.reward (10 ^ 8 * m.scales.reward) is.tables.reward_limit in
+    let some = is.scales.reward in omega arith

@@ -1,5 +1,6 @@
 -- Worked rows of numberings: joint numbers, own histories, classes, limits of a horizon.
-use Rattle.std.proofs.Common.{◌≡◌, ◌+◌, ◌*◌, ◌^◌, ℤ, pos, negsuc, Bool, true, false, [], ◌∷◌, Some, None, map, refl, arith}
+use Rattle.std.proofs.Common.{◌≡◌, ◌+◌, ◌*◌, ◌^◌, ℤ, pos, negsuc, Bool, true, false, [], ◌∷◌, Some, None, map, refl,
+    arith}
 use Rattle.dp_spec.specs.Model.{step_scale, value_scale}
 use Rattle.dp_spec.specs.JointNumbers.{joint_number, parts_of}
 use Rattle.dp_spec.specs.PolicyTree.{node, no_trees, more_trees}
@@ -30,17 +31,20 @@ own_of_two_steps = refl
 
 -- the tree that does action 10 * t + x after own history x of length t
 tree_of_three_steps : tree_doing 2 (λ t x. 10 * t + x) 3
-    ≡ node 0 (more_trees (node 10 (more_trees (node 20 no_trees) (more_trees (node 21 no_trees) no_trees))) (more_trees (node 11 (more_trees (node 22 no_trees) (more_trees (node 23 no_trees) no_trees))) no_trees))
+    ≡ node 0 (more_trees (node 10 (more_trees (node 20 no_trees) (more_trees (node 21 no_trees) no_trees)))
+        (more_trees (node 11 (more_trees (node 22 no_trees) (more_trees (node 23 no_trees) no_trees))) no_trees))
 tree_of_three_steps = refl
 
 -- class c followed by observation o is class 2 * c + o
-classes_of_second_stage : map (λ (d : AgentFront). d.class_of) (front_after_choice blind (merged_front (front_after_choice blind (root_front blind) 0 0 0) 0 0 1) 0 0 0).agents
+classes_of_second_stage : map (λ (d : AgentFront). d.class_of)
+    (front_after_choice blind (merged_front (front_after_choice blind (root_front blind) 0 0 0) 0 0 1) 0 0 0).agents
     ≡ (0 ∷ 1 ∷ 0 ∷ 1 ∷ []) ∷ []
 unfolding blind root_front front_after_choice advanced_agent
 classes_of_second_stage = refl
 
 -- of two classes the second, with the first observation, comes after the first with the second one
-classes_of_two : (advanced_agent 2 1 (record { fixed = []; class_of = 0 ∷ 1 ∷ []; chosen = Some 0 ∷ Some 0 ∷ [] })).class_of ≡ 0 ∷ 1 ∷ 2 ∷ 3 ∷ []
+classes_of_two : (advanced_agent 2 1 (record { fixed = []; class_of = 0 ∷ 1 ∷ []; chosen =
+    Some 0 ∷ Some 0 ∷ [] })).class_of ≡ 0 ∷ 1 ∷ 2 ∷ 3 ∷ []
 unfolding advanced_agent
 classes_of_two = refl
 
@@ -71,7 +75,8 @@ unfolding tiger is_exact_mode step_scale
 no_exact_fit_of_nine u fit = let both : true ≡ false = fit.mode in cc
 
 -- ---- a choice that is taken back, and what it leaves of the others
-two_chosen : map (λ (d : AgentFront). d.chosen) (unchosen_front (chosen_front (chosen_front (root_front tiger) 0 0 1) 1 0 2) 0 0).agents
+two_chosen : map (λ (d : AgentFront). d.chosen) (unchosen_front
+    (chosen_front (chosen_front (root_front tiger) 0 0 1) 1 0 2) 0 0).agents
     ≡ (None ∷ []) ∷ (Some 2 ∷ []) ∷ []
 unfolding tiger root_front
 two_chosen = refl

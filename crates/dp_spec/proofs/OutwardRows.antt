@@ -9,7 +9,8 @@ use Rattle.dp_spec.specs.Steps.{root_front, front_after_choice, advanced_agent}
 use Rattle.dp_spec.specs.declared.scales.Scales.{Scales}
 use Rattle.dp_base.specs.Rounding.{ceiling_of, mul_down, mul_up}
 use Rattle.dp_spec.specs.Arithmetic.{outward, point, reward_factor}
-use Rattle.dp_spec.specs.Quantities.{weights_after_in, weighted_reward_in, forward_worth_in, weighted_table_in, action_look_ahead_in, class_weight_in, look_ahead_in}
+use Rattle.dp_spec.specs.Quantities.{weights_after_in, weighted_reward_in, forward_worth_in, weighted_table_in,
+    action_look_ahead_in, class_weight_in, look_ahead_in}
 use Rattle.dp_spec.specs.BoundTree.{BoundTree, leaf, branch, no_bound_trees, more_bound_trees}
 use Rattle.dp_spec.specs.Fitting.{front_bound}
 use Rattle.dp_spec.specs.Qualities.{Node, nodes_of}
@@ -21,7 +22,8 @@ always = node 0 (more_trees (node 0 (more_trees (node 0 (more_trees (node 0 no_t
 
 worth_of_decay : forward_worth_in (outward decay.scales) decay 4 (always ∷ [])
     ≡ record { low = pos 1110999996; high = pos 1111000007 }
-unfolding decay forward_worth_in weights_after_in weighted_reward_in outward mul_down mul_up ceiling_of joint_root_action trees_after joint_observations joint_actions trans_at obs_at reward_at start_at step_scale
+unfolding decay forward_worth_in weights_after_in weighted_reward_in outward mul_down mul_up ceiling_of
+    joint_root_action trees_after joint_observations joint_actions trans_at obs_at reward_at start_at step_scale
 worth_of_decay = refl
 
 -- ---- outward: a chance is divided by the scale of transitions first and then by that of observations, a value of
@@ -38,15 +40,23 @@ unfolding outward mul_down mul_up ceiling_of
 carry_of_coarse = refl
 
 -- ---- outward: the look-ahead is capped by the weights against the table
-capped_look_of_decay : look_ahead_in (outward decay.scales) decay 2 (λ s. (outward decay.scales).start (start_at decay s)) 2 ≡ pos 1100000002
-unfolding decay outward mul_down mul_up ceiling_of weights_after_in weighted_reward_in weighted_table_in joint_observations joint_actions trans_at obs_at reward_at start_at step_scale
+capped_look_of_decay : look_ahead_in (outward decay.scales) decay 2
+    (λ s. (outward decay.scales).start (start_at decay s)) 2 ≡ pos 1100000002
+unfolding decay outward mul_down mul_up ceiling_of weights_after_in weighted_reward_in weighted_table_in
+    joint_observations joint_actions trans_at obs_at reward_at start_at step_scale
 capped_look_of_decay = refl
 
 -- ---- outward bounds along a path: each leaf states the least one
 abbrev chain : BoundTree
-chain = branch 0 0 (more_bound_trees (branch 0 0 (more_bound_trees (branch 0 0 (more_bound_trees (branch 0 0 (more_bound_trees (leaf (pos 1111000002)) no_bound_trees)) no_bound_trees)) no_bound_trees)) no_bound_trees)
+chain = branch 0 0 (more_bound_trees (branch 0 0 (more_bound_trees
+    (branch 0 0 (more_bound_trees (branch 0 0 (more_bound_trees (leaf (pos 1111000002)) no_bound_trees))
+    no_bound_trees)) no_bound_trees)) no_bound_trees)
 
-caps_of_decay : map (λ (n : Node). n.cap) (nodes_of (outward decay.scales) decay 4 1 0 chain (root_front decay) (front_bound (outward decay.scales) decay 4 1 (root_front decay)))
+caps_of_decay : map (λ (n : Node). n.cap) (nodes_of (outward decay.scales) decay 4 1 0 chain (root_front decay)
+    (front_bound (outward decay.scales) decay 4 1 (root_front decay)))
     ≡ pos 1111000002 ∷ pos 1111000002 ∷ pos 1111000002 ∷ pos 1111000002 ∷ pos 1111000002 ∷ []
-unfolding decay front_bound outward mul_down mul_up ceiling_of reward_factor weights_after_in weighted_reward_in weighted_table_in action_look_ahead_in class_weight_in joint_class fixed_joint_action agreeing_actions joint_observations joint_actions trans_at obs_at reward_at start_at step_scale root_front front_after_choice advanced_agent
+unfolding decay front_bound outward mul_down mul_up ceiling_of reward_factor weights_after_in weighted_reward_in
+    weighted_table_in action_look_ahead_in class_weight_in joint_class fixed_joint_action agreeing_actions
+    joint_observations joint_actions trans_at obs_at reward_at start_at step_scale root_front front_after_choice
+    advanced_agent
 caps_of_decay = refl

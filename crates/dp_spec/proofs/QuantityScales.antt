@@ -20,7 +20,8 @@ times_step : (T K a b c : ℕ) → a * b * c ≡ K → T * (a * b) * c ≡ T * K
 times_step T K a b c e = omega (arith, ap (λ (n : ℕ). T * n) e)
 
 -- a weight times the chances and the discount of a step
-pub scale_after_step : (m : Model) (T : ℕ) → T * (m.scales.trans * m.scales.obs) * m.scales.discount ≡ T * step_scale m
+pub scale_after_step : (m : Model) (T : ℕ) → T * (m.scales.trans * m.scales.obs) * m.scales.discount ≡ T
+    * step_scale m
 scale_after_step m T = times_step T (step_scale m) m.scales.trans m.scales.obs m.scales.discount (step_scale_is m)
 
 -- three factors as one, apart
@@ -32,7 +33,8 @@ pub scale_after_reward : (m : Model) (T r : ℕ)
     → T * (m.scales.trans * m.scales.obs) * (m.scales.discount * step_scale m ^ r) * m.scales.reward
     ≡ T * (m.scales.reward * step_scale m ^ suc r)
 scale_after_reward m T r =
-    times_gain T (step_scale m) m.scales.trans m.scales.obs m.scales.discount (step_scale m ^ r) m.scales.reward (step_scale_is m)
+    times_gain T (step_scale m) m.scales.trans m.scales.obs m.scales.discount (step_scale m ^ r) m.scales.reward
+        (step_scale_is m)
     ∙ ap (λ (n : ℕ). T * (m.scales.reward * n)) (sym (pow-suc (step_scale m) r))
 
 -- a value of the table one step earlier
@@ -47,13 +49,15 @@ times_tail T d K p q e = omega (arith, ap (λ (n : ℕ). T * (d * n)) e)
 -- a value after one step
 pub scale_after_tail : (m : Model) (T r : ℕ)
     → T * step_scale m * (m.scales.reward * step_scale m ^ r) ≡ T * (m.scales.reward * step_scale m ^ suc r)
-scale_after_tail m T r = times_tail T m.scales.reward (step_scale m) (step_scale m ^ r) (step_scale m ^ suc r) (pow-suc (step_scale m) r)
+scale_after_tail m T r = times_tail T m.scales.reward (step_scale m) (step_scale m ^ r) (step_scale m ^ suc r)
+    (pow-suc (step_scale m) r)
 
 -- weights of a stage against values of the steps that are left
 pub scale_at_stage : (m : Model) (t r : ℕ)
     → m.scales.start * step_scale m ^ t * (m.scales.reward * step_scale m ^ r) ≡ value_scale m (t + r)
 unfolding value_scale
-scale_at_stage m t r = omega (arith, ap (λ (n : ℕ). m.scales.start * (m.scales.reward * n)) (pow-add (step_scale m) t r))
+scale_at_stage m t r = omega (arith, ap (λ (n : ℕ). m.scales.start * (m.scales.reward * n))
+    (pow-add (step_scale m) t r))
 
 -- weights against a value of r rewards of at most x, where two powers make up one
 pub weights_times_value : (d p r x q k : ℕ) → p * q ≡ k → d * p * (r * x * q) ≡ r * (d * k * x)

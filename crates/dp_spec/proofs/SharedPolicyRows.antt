@@ -27,7 +27,8 @@ abbrev careful : PolicyTree
 careful = node 0 (more_trees (heard 2 0) (more_trees (heard 0 1) no_trees))
 
 abbrev careful_shared : AgentRows
-careful_shared = (row 0 (0 ∷ 1 ∷ []) ∷ []) ∷ (row 0 (0 ∷ 1 ∷ []) ∷ row 0 (1 ∷ 2 ∷ []) ∷ []) ∷ (row 2 [] ∷ row 0 [] ∷ row 1 [] ∷ []) ∷ []
+careful_shared = (row 0 (0 ∷ 1 ∷ []) ∷ []) ∷ (row 0 (0 ∷ 1 ∷ []) ∷ row 0 (1 ∷ 2 ∷ []) ∷ []) ∷
+    (row 2 [] ∷ row 0 [] ∷ row 1 [] ∷ []) ∷ []
 
 abbrev careful_plain : AgentRows
 careful_plain =
@@ -54,7 +55,8 @@ unfolded_careful = refl
 
 worth_of_careful_shared : shared_worth_in (exact tiger.scales) tiger 3 (careful_shared ∷ careful_shared ∷ [])
     ≡ point (pos 83053000000000)
-unfolding tiger shared_worth_in weights_after_in weighted_reward_in exact reward_factor joint_row_action next_joint_row joint_observations trans_at obs_at reward_at start_at step_scale
+unfolding tiger shared_worth_in weights_after_in weighted_reward_in exact reward_factor joint_row_action
+    next_joint_row joint_observations trans_at obs_at reward_at start_at step_scale
 worth_of_careful_shared = refl
 
 -- ---- the constant policy that opens both left doors has one row at each stage
@@ -69,7 +71,9 @@ unfolding tiger constant_rows
 constant_rows_of_tiger = refl
 
 -- ---- numbers rounded outward at each product
-worth_of_decay_shared : shared_worth_in (outward decay.scales) decay 4 (((row 0 (0 ∷ []) ∷ []) ∷ (row 0 (0 ∷ []) ∷ []) ∷ (row 0 (0 ∷ []) ∷ []) ∷ (row 0 [] ∷ []) ∷ []) ∷ [])
+worth_of_decay_shared : shared_worth_in (outward decay.scales) decay 4
+    (((row 0 (0 ∷ []) ∷ []) ∷ (row 0 (0 ∷ []) ∷ []) ∷ (row 0 (0 ∷ []) ∷ []) ∷ (row 0 [] ∷ []) ∷ []) ∷ [])
     ≡ record { low = pos 1110999996; high = pos 1111000007 }
-unfolding decay shared_worth_in weights_after_in weighted_reward_in outward mul_down mul_up ceiling_of joint_row_action next_joint_row joint_observations joint_actions trans_at obs_at reward_at start_at step_scale
+unfolding decay shared_worth_in weights_after_in weighted_reward_in outward mul_down mul_up ceiling_of
+    joint_row_action next_joint_row joint_observations joint_actions trans_at obs_at reward_at start_at step_scale
 worth_of_decay_shared = refl

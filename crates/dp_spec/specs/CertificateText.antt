@@ -4,9 +4,11 @@ use Rattle.std.specs.Int.{w128}
 use Rattle.dp_spec.specs.Model.{Model}
 use Rattle.dp_spec.specs.SharedPolicy.{unfolded}
 use Rattle.dp_spec.specs.SharedRows.{shared_policy_rows}
-use Rattle.dp_spec.specs.BoundTree.{BoundTree, BoundTrees, child_count, leaf, branch, merge, no_bound_trees, more_bound_trees}
+use Rattle.dp_spec.specs.BoundTree.{BoundTree, BoundTrees, child_count, leaf, branch, merge, no_bound_trees,
+    more_bound_trees}
 use Rattle.dp_spec.specs.Certificate.{Certificate, HasPolicyOfVersion}
-use Rattle.dp_spec.specs.TextLines.{Item, fixed, plain, signed, any_plain, Line, fixed_line, text_of_lines, Allows, AllAllowed}
+use Rattle.dp_spec.specs.TextLines.{Item, fixed, plain, signed, any_plain, Line, fixed_line, text_of_lines, Allows,
+    AllAllowed}
 use Rattle.dp_spec.specs.PolicyText.{title_form, horizon_form, end_form, horizon_line, policy_rows, agent_lines}
 
 -- ---- the forms of the lines
@@ -105,7 +107,8 @@ pub record HasTextNumbers (c : Certificate) : Type 0 where
   pub inner : Allows inner_form (pos c.inner ∷ [])
   pub tree : AllAllowed (node_lines c.tree)
 
--- These bytes are the text of a certificate with a policy of its version for a model, and each line has numbers that it
+-- These bytes are the text of a certificate with a policy of its version for a model, and each line has numbers that
+-- it
 -- allows.
 pub record IsCertificateText (m : Model) (bytes : List ℕ) (c : Certificate) : Type 0 where
   pub policy : HasPolicyOfVersion m c

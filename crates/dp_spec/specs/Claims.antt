@@ -12,7 +12,8 @@ abbrev pub BoundsEveryPolicy : Model → ℕ → ℤ → ℤ → Type 0
 BoundsEveryPolicy m h unit x =
     (qs : List PolicyTree) → IsPolicyOf m h qs → (policy_value m h qs *ℤ unit) ≤ℤ (x *ℤ pos (value_scale m h))
 
--- What the rows of the certificate mean is a joint policy, its expected reward lies in the interval, and no joint policy
+-- What the rows of the certificate mean is a joint policy, its expected reward lies in the interval, and no joint
+-- policy
 -- has a greater one than the upper end.
 pub record ClaimsHold (m : Model) (c : Certificate) : Type 0 where
   pub policy : IsPolicyOf m c.horizon (unfolded c.policy)
@@ -25,4 +26,5 @@ pub record ClaimsHold (m : Model) (c : Certificate) : Type 0 where
 -- a joint policy of h steps of which no other has a greater value
 pub record IsOptimal (m : Model) (h : ℕ) (qs : List PolicyTree) : Type 0 where
   pub policy : IsPolicyOf m h qs
-  pub none_better : (others : List PolicyTree) → IsPolicyOf m h others → policy_value m h others ≤ℤ policy_value m h qs
+  pub none_better : (others : List PolicyTree) → IsPolicyOf m h others
+      → policy_value m h others ≤ℤ policy_value m h qs

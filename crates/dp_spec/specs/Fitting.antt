@@ -15,7 +15,8 @@ unfoldable pub front_bound : Arithmetic → Model → ℕ → ℕ → Front → 
 front_bound A m h look F = bound_in A m (h - F.stage) F look
 
 abbrev mutual
-  -- A tree fits a front on whose path the least bound is cap and so many branches and merges stand above. No branch and
+  -- A tree fits a front on whose path the least bound is cap and so many branches and merges stand above. No branch
+  -- and
   -- no merge stands at a wide node, and a merge fits in exact arithmetic alone.
   pub FitsFront : Arithmetic → Model → ℕ → ℕ → ℕ → BoundTree → Front → ℤ → Type 0
   FitsFront A m h look above (leaf x) F cap = x ≡ cap
@@ -24,7 +25,8 @@ abbrev mutual
       × (is_wide m h above F ≡ false)
   FitsFront A m h look above (merge i a b k) F cap =
       (F.stage < h) × (a < b) × IsUnassigned i a F.agents × IsUnassigned i b F.agents × AreEquivalent m F i a b
-      × FitsFront A m h look (suc above) k (merged_front F i a b) (int_min cap (front_bound A m h look (merged_front F i a b)))
+      × FitsFront A m h look (suc above) k (merged_front F i a b)
+          (int_min cap (front_bound A m h look (merged_front F i a b)))
       × IsTrue A.is_exact × (is_wide m h above F ≡ false)
 
   -- one tree for each action of the agent from a on, which fits the front after that choice

@@ -1,5 +1,6 @@
 -- The space of a planner: the fronts of a model, with merging or without, under a branching rule.
-use Rattle.std.specs.Prelude.{ℕ, ◌<◌, ◌≡◌, Bool, true, not, nat_lt, IsTrue, ℤ, List, [], ◌∷◌, map, slice_get, get_or, Some}
+use Rattle.std.specs.Prelude.{ℕ, ◌<◌, ◌≡◌, Bool, true, not, nat_lt, IsTrue, ℤ, List, [], ◌∷◌, map, slice_get, get_or,
+    Some}
 use Rattle.std.specs.List.{range_with_len}
 use Rattle.dp_spec.specs.Model.{Model}
 use Rattle.dp_spec.specs.Front.{Front}
@@ -32,7 +33,8 @@ IsAllowed A m h look merging May F (Merge i a b) =
     (F.stage < h) × (a < b) × IsUnassigned i a F.agents × IsUnassigned i b F.agents × AreEquivalent m F i a b
     × IsTrue A.is_exact × (merging ≡ true)
 
--- the fronts of a model, of a horizon of h steps and a look, whether it merges, a branching rule, and the worth of the
+-- the fronts of a model, of a horizon of h steps and a look, whether it merges, a branching rule, and the worth of
+-- the
 -- policy that a full front fixes
 abbrev pub front_space : Arithmetic → Model → ℕ → ℕ → Bool → (List Place → ℕ → Type 0) → (Front → ℤ) → Space
 front_space A m h look merging May worth = record {

@@ -1,5 +1,6 @@
 -- The mode of a model and a horizon, the unit in which its values are counted, and the limits of a horizon.
-use Rattle.std.specs.Prelude.{ℕ, ◌+◌, ◌*◌, ◌-◌, ◌^◌, ◌<◌, ◌≤◌, ◌≡◌, ◌⊎◌, Bool, nat_le, max, unsigned_abs, ℤ, pos, List, [], ◌∷◌, if◌then◌else◌}
+use Rattle.std.specs.Prelude.{ℕ, ◌+◌, ◌*◌, ◌-◌, ◌^◌, ◌<◌, ◌≤◌, ◌≡◌, ◌⊎◌, Bool, nat_le, max, unsigned_abs, ℤ, pos,
+    List, [], ◌∷◌, if◌then◌else◌}
 use Rattle.dp_base.specs.Sums.{nat_sum}
 use Rattle.dp_spec.specs.Model.{Model, joint_actions, joint_observations, step_scale, value_scale}
 
@@ -11,7 +12,8 @@ greatest_magnitude (r ∷ rs) = max (unsigned_abs r) (greatest_magnitude rs)
 -- the mode is exact where the bound on every value is at most 2^126
 unfoldable pub is_exact_mode : Model → ℕ → Bool
 is_exact_mode m h =
-    nat_le (m.scales.start * step_scale m ^ h * h * max (max (greatest_magnitude m.reward) m.scales.reward) 1) (2 ^ 126)
+    nat_le (m.scales.start * step_scale m ^ h * h * max (max (greatest_magnitude m.reward) m.scales.reward) 1)
+        (2 ^ 126)
 
 -- what values are counted in: the value scale in exact mode, and else 10^9
 unfoldable pub unit_of : Model → ℕ → ℕ
@@ -30,7 +32,8 @@ pub record IsWithinLimits (m : Model) (h : ℕ) : Type 0 where
   pub stage_cells : m.states * joint_observations m ^ (h - 1) ≤ 2 ^ 22
   pub game_cells : joint_actions m * joint_observations m ^ (h - 1) ≤ 2 ^ 24
 
--- A version of certificates is 1 or 2, and the horizon keeps its limits: in version 1 those above, and in version 2 only
+-- A version of certificates is 1 or 2, and the horizon keeps its limits: in version 1 those above, and in version 2
+-- only
 -- from 1 to 24 steps.
 pub record IsWithinVersion (m : Model) (h version : ℕ) : Type 0 where
   pub known : (version ≡ 1) ⊎ (version ≡ 2)

@@ -5,7 +5,8 @@ use Rattle.dp_spec.specs.Front.{Front}
 use Rattle.dp_spec.specs.Steps.{IsUnassigned}
 use Rattle.dp_spec.specs.Merge.{AreEquivalent}
 
--- classes c and c' of agent i could be merged: both are unassigned, they are equivalent, and the smaller number is first
+-- classes c and c' of agent i could be merged: both are unassigned, they are equivalent, and the smaller number is
+-- first
 pub record IsPair (m : Model) (F : Front) (i c c' : ℕ) : Type 0 where
   pub order : c < c'
   pub first : IsUnassigned i c F.agents
@@ -19,4 +20,5 @@ pub record IsLeastPair (m : Model) (F : Front) (i c c' : ℕ) : Type 0 where
 
 -- no two unassigned classes of agent i are equivalent
 abbrev pub HasNoPair : Model → Front → ℕ → Type 0
-HasNoPair m F i = (c c' : ℕ) → c < c' → IsUnassigned i c F.agents → IsUnassigned i c' F.agents → ¬ AreEquivalent m F i c c'
+HasNoPair m F i = (c c' : ℕ) → c < c' → IsUnassigned i c F.agents → IsUnassigned i c' F.agents
+    → ¬ AreEquivalent m F i c c'

@@ -1,6 +1,8 @@
--- The first reason why a certificate is not valid, in the order in which it is checked: mode, unit, lower end, the nodes of
+-- The first reason why a certificate is not valid, in the order in which it is checked: mode, unit, lower end, the
+-- nodes of
 -- the tree in preorder, the number of inner nodes, upper end. (Own.)
-use Rattle.std.specs.Prelude.{ℕ, zero, suc, Bool, true, not, ◌&&◌, ◌==◌, nat_lt, cond, ℤ, pos, List, [], ◌∷◌, ◌++◌, length, get_or, Option, Some, None, is_none}
+use Rattle.std.specs.Prelude.{ℕ, zero, suc, Bool, true, not, ◌&&◌, ◌==◌, nat_lt, cond, ℤ, pos, List, [], ◌∷◌, ◌++◌,
+    length, get_or, Option, Some, None, is_none}
 use Rattle.std.specs.Bool.{beq}
 use Rattle.std.specs.Ordering.{int_eq}
 use Rattle.std.specs.Option.{option_or}
@@ -15,7 +17,8 @@ use Rattle.dp_spec.specs.BoundTree.{BoundTree, branch, child_count, greatest_lea
 use Rattle.dp_spec.specs.Certificate.{Certificate, arithmetic_for}
 use Rattle.dp_spec.specs.Qualities.{Node, certificate_nodes}
 
--- Why a certificate is not valid: what stands in it is not what the definition gives, which is said with it. Nodes are
+-- Why a certificate is not valid: what stands in it is not what the definition gives, which is said with it. Nodes
+-- are
 -- numbered in preorder from 0.
 pub data Reason : Type 0 where
   -- the mode, the unit, the lower end
@@ -62,7 +65,8 @@ may_branch m h n i c = may_refine m h n && is_unassigned i c n.front.agents
 -- whether a merge of classes a and b of agent i may stand there, if these are equivalent
 abbrev pub may_merge : Arithmetic → Model → ℕ → Node → ℕ → ℕ → ℕ → Bool
 may_merge A m h n i a b =
-    A.is_exact && (may_refine m h n && (nat_lt a b && (is_unassigned i a n.front.agents && is_unassigned i b n.front.agents)))
+    A.is_exact && (may_refine m h n && (nat_lt a b && (is_unassigned i a n.front.agents && is_unassigned i b
+        n.front.agents)))
 
 -- the reason at a place where two classes differ
 abbrev pub unequal_reason : ℕ → Option ℕ → Option Reason

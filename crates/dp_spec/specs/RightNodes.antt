@@ -8,7 +8,8 @@ use Rattle.dp_spec.specs.Wide.{is_wide}
 use Rattle.dp_spec.specs.BoundTree.{BoundTree, branch, child_count, leaf, merge}
 use Rattle.dp_spec.specs.Qualities.{Node}
 
--- A branch or a merge may stand at a node: a step is left and it is not wide; the classes are unassigned, and those of a
+-- A branch or a merge may stand at a node: a step is left and it is not wide; the classes are unassigned, and those
+-- of a
 -- merge, in exact arithmetic alone, have the smaller number first.
 abbrev pub MayStand : Arithmetic → Model → ℕ → Node → BoundTree → Type 0
 MayStand A m h n (leaf x) = Unit {0}
@@ -18,7 +19,8 @@ MayStand A m h n (merge i a b k) =
     (n.front.stage < h) × (is_wide m h n.above n.front ≡ false) × IsTrue A.is_exact × (a < b)
     × IsUnassigned i a n.front.agents × IsUnassigned i b n.front.agents
 
--- Nothing is wrong at a node with this tree: a leaf states the least bound of its path, a branch has one child for each
+-- Nothing is wrong at a node with this tree: a leaf states the least bound of its path, a branch has one child for
+-- each
 -- action of its agent, and the classes of a merge are equivalent.
 abbrev pub IsRightTree : Arithmetic → Model → ℕ → Node → BoundTree → Type 0
 IsRightTree A m h n (leaf x) = x ≡ n.cap

@@ -1,6 +1,8 @@
--- The rows of a shared policy in the text of a certificate of version 2: a line with the counts of the stages, and one
+-- The rows of a shared policy in the text of a certificate of version 2: a line with the counts of the stages, and
+-- one
 -- line for each row. (Own.)
-use Rattle.std.specs.Prelude.{ℕ, zero, suc, ◌-◌, ◌*◌, ◌^◌, nat_lt, if◌then◌else◌, Option, Some, None, pos, List, [], ◌∷◌, ◌++◌, map, length, replicate, codes}
+use Rattle.std.specs.Prelude.{ℕ, zero, suc, ◌-◌, ◌*◌, ◌^◌, nat_lt, if◌then◌else◌, Option, Some, None, pos, List, [],
+    ◌∷◌, ◌++◌, map, length, replicate, codes}
 use Rattle.dp_spec.specs.SharedPolicy.{PolicyRow, AgentRows, SharedPolicy, first_count, next_count}
 use Rattle.dp_spec.specs.TextLines.{Item, fixed, plain, Line}
 
@@ -23,16 +25,19 @@ counts_line stages = record { form = counts_form (length stages); numbers = map 
 
 -- the line of a row
 abbrev pub shared_row_line : ℕ → ℕ → ℕ → PolicyRow → Line
-shared_row_line b nexts count row = record { form = shared_row_form b nexts count; numbers = pos row.action ∷ map pos row.next }
+shared_row_line b nexts count row = record { form = shared_row_form b nexts count; numbers =
+    pos row.action ∷ map pos row.next }
 
 -- the lines of all rows, stage after stage, for an agent with b actions and n observations
 abbrev pub stage_lines : ℕ → ℕ → AgentRows → List Line
 stage_lines b n [] = []
-stage_lines b n (rows ∷ stages) = map (shared_row_line b (next_count n stages) (first_count stages)) rows ++ stage_lines b n stages
+stage_lines b n (rows ∷ stages) = map (shared_row_line b (next_count n stages) (first_count stages)) rows
+    ++ stage_lines b n stages
 
 -- for each agent the line of its counts and the lines of its rows
 abbrev pub shared_policy_rows : List ℕ → List ℕ → SharedPolicy → List (List Line)
-shared_policy_rows (b ∷ bs) (n ∷ ns) (stages ∷ p) = (counts_line stages ∷ stage_lines b n stages) ∷ shared_policy_rows bs ns p
+shared_policy_rows (b ∷ bs) (n ∷ ns) (stages ∷ p) = (counts_line stages ∷ stage_lines b n stages) ∷ shared_policy_rows
+    bs ns p
 shared_policy_rows bs ns p = []
 
 -- ---- the limit on the joint rows of a stage, which is tried agent after agent

@@ -1,5 +1,6 @@
 -- The steps of a front: the root, choosing an action for a class and taking it back, and advancing to the next stage.
-use Rattle.std.specs.Prelude.{ℕ, zero, suc, ◌*◌, ◌+◌, ◌/◌, ◌%◌, ◌^◌, ◌<◌, ◌≡◌, Bool, true, false, ◌&&◌, List, [], ◌∷◌, ◌++◌, map, length, get_or, set, replicate, Option, Some, None, is_some, unwrap_or}
+use Rattle.std.specs.Prelude.{ℕ, zero, suc, ◌*◌, ◌+◌, ◌/◌, ◌%◌, ◌^◌, ◌<◌, ◌≡◌, Bool, true, false, ◌&&◌, List, [], ◌∷◌,
+    ◌++◌, map, length, get_or, set, replicate, Option, Some, None, is_some, unwrap_or}
 use Rattle.std.specs.List.{range_with_len}
 use Rattle.dp_spec.specs.Model.{Model}
 use Rattle.dp_spec.specs.Front.{AgentFront, Front}
@@ -58,7 +59,8 @@ is_complete (d ∷ ds) = all_chosen d.chosen && is_complete ds
 -- observation o is class c * n + o.
 unfoldable pub advanced_agent : ℕ → ℕ → AgentFront → AgentFront
 advanced_agent n f d = record {
-  fixed = d.fixed ++ map (λ x. unwrap_or (get_or d.chosen (get_or d.class_of x 0) None) 0) (range_with_len 0 (n ^ f)) ∷ [];
+  fixed = d.fixed ++ map (λ x. unwrap_or (get_or d.chosen (get_or d.class_of x 0) None) 0)
+      (range_with_len 0 (n ^ f)) ∷ [];
   class_of = map (λ x. get_or d.class_of (x / n) 0 * n + x % n) (range_with_len 0 (n ^ suc f));
   chosen = replicate (length d.chosen * n) None;
 }

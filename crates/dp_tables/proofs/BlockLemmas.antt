@@ -16,7 +16,8 @@ pub part_of_scale : (units tens scale : ℕ) → units ≤ tens → units * (sca
 part_of_scale units tens scale h = let times = mul-le-mul_right (scale / tens) h in omega arith
 
 -- the magnitude of the units of a chance
-pub chance_magnitude : (d : Decimal) (n : ℕ) → is_chance d ≡ true → n ≡ unsigned_abs (to_z w128 (of_z w128 d.units)) → n
+pub chance_magnitude : (d : Decimal) (n : ℕ) → is_chance d ≡ true → n ≡ unsigned_abs (to_z w128 (of_z w128 d.units))
+    → n
     ≡ unsigned_abs d.units
 chance_magnitude d n is e =
     let parts = chance_parts d is in

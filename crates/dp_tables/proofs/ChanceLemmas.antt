@@ -1,5 +1,6 @@
 -- What a statement gives the chances that it covers.
-use Rattle.std.proofs.Common.{◌≡◌, ◌⊎◌, inl, inr, ℕ, zero, suc, ◌*◌, ◌/◌, ◌%◌, ◌<◌, true, cond, List, [], ◌∷◌, length, get_or, map, drop, refl, sym, ap, subst, ◌∙◌, arith}
+use Rattle.std.proofs.Common.{◌≡◌, ◌⊎◌, inl, inr, ℕ, zero, suc, ◌*◌, ◌/◌, ◌%◌, ◌<◌, true, cond, List, [], ◌∷◌, length,
+    get_or, map, drop, refl, sym, ap, subst, ◌∙◌, arith}
 use Rattle.std.specs.Prelude.{◌==◌}
 use Rattle.std.specs.List.{range_with_len}
 use Rattle.std.proofs.lemmas.Bool.{and_parts}
@@ -47,7 +48,8 @@ pub block_fits : (scale actions states len f : ℕ) (table : Table) (axes : List
     → (length (chance_block scale len v) ≡ 1)
     ⊎ (length (chance_block scale len v) ≡ product (map axis_size (drop f axes)))
 block_fits scale actions states len f table axes Uniform is fills = inl refl
-block_fits scale actions states len f table axes (Numbers ns) is fills = inr (length-map ns (chance_over scale) ∙ fills)
+block_fits scale actions states len f table axes (Numbers ns) is fills =
+    inr (length-map ns (chance_over scale) ∙ fills)
 block_fits scale actions states len f table axes Identity is fills =
     let w = is_square table axes actions states len f is fills in
     inr (length-map-range_with_len (identity_at scale len) 0 (len * len) ∙ squared states w.0
@@ -72,7 +74,8 @@ of_identity scale actions len k some =
     (mod_below k (len * len) (square_some len some)) (omega arith)
     ∙ ap (λ n. cond (k % (len * len) / n == k % (len * len) % n) scale 0) single
     ∙ ap (λ n. cond (k % n / (len * 1) == k % n % (len * 1)) scale 0) double
-    ∙ ap (λ n. cond (k % (len * (len * 1)) / (len * 1) == n) scale 0) (sym (over_one (k % (len * (len * 1)) % (len * 1))))
+    ∙ ap (λ n. cond (k % (len * (len * 1)) / (len * 1) == n) scale 0)
+        (sym (over_one (k % (len * (len * 1)) % (len * 1))))
   where
     single : len ≡ len * 1
     single = omega arith
@@ -109,7 +112,8 @@ value_at scale actions states len k f table axes Uniform is fills h =
     of_uniform scale actions states len k
     ∙ ap (λ ns. given_chance scale ns f (parts_of (map axis_size axes) k) Uniform) (sym is.sizes)
 value_at scale actions states len k f table axes (Numbers ns) is fills h =
-    of_numbers ℕ 0 (chance_over scale) k f (map axis_size axes) ns h (fills ∙ ap product (sym (drop-map axis_size f axes)))
+    of_numbers ℕ 0 (chance_over scale) k f (map axis_size axes) ns h (fills
+        ∙ ap product (sym (drop-map axis_size f axes)))
 value_at scale actions states len k f table axes Identity is fills h =
     let w = is_square table axes actions states len f is fills in
     let sizes : map axis_size axes ≡ actions ∷ len ∷ len ∷ [] = is.sizes ∙ ap (λ n. actions ∷ n ∷ len ∷ []) w.0 in

@@ -1,5 +1,6 @@
 -- The cells of a table by one digit for each list of its axes.
-use Rattle.std.proofs.Common.{◌≡◌, ℕ, suc, ◌*◌, ◌/◌, ◌%◌, ◌<◌, ◌&&◌, List, [], ◌∷◌, ◌++◌, length, map, drop, refl, sym, ap, subst, ◌∙◌, arith}
+use Rattle.std.proofs.Common.{◌≡◌, ℕ, suc, ◌*◌, ◌/◌, ◌%◌, ◌<◌, ◌&&◌, List, [], ◌∷◌, ◌++◌, length, map, drop, refl,
+    sym, ap, subst, ◌∙◌, arith}
 use Rattle.std.proofs.lemmas.Nat.{mod_below}
 use Rattle.std.proofs.Math.Bool.{and_assoc}
 use Rattle.dp_spec.specs.JointNumbers.{product, parts_of}
@@ -20,7 +21,8 @@ use Rattle.dp_tables.specs.Writing.{IsPartWithin, ArePartsWithin, is_covered, li
 pub product_of_lists : (axes : List Axis) → product (list_sizes axes) ≡ product (map axis_size axes)
 product_of_lists [] = refl
 product_of_lists (axis ∷ axes) =
-    product-append (map size_of axis) (list_sizes axes) ∙ ap (λ n. product (map size_of axis) * n) (product_of_lists axes)
+    product-append (map size_of axis) (list_sizes axes)
+        ∙ ap (λ n. product (map size_of axis) * n) (product_of_lists axes)
 
 one_each : (axis : Axis) (parts : List Part) → ArePartsOf axis parts → length parts ≡ length (map size_of axis)
 one_each [] [] are = refl
@@ -72,7 +74,8 @@ behind_parts (axis ∷ axes) (parts ∷ fields) are =
 pub width_of_parts : (axes : List Axis) (fields : List (List Part)) → AreFieldsOf axes fields
     → product (drop (length (list_parts fields)) (list_sizes axes))
     ≡ product (map axis_size (drop (length fields) axes))
-width_of_parts axes fields are = ap product (behind_parts axes fields are) ∙ product_of_lists (drop (length fields) axes)
+width_of_parts axes fields are = ap product (behind_parts axes fields are)
+    ∙ product_of_lists (drop (length fields) axes)
 
 -- ---- covered cells
 
@@ -94,13 +97,16 @@ covered_by_lists [] [] k are h = refl
 covered_by_lists (axis ∷ axes) [] k are h = refl
 covered_by_lists [] (parts ∷ fields) k are h = absurd are
 covered_by_lists (axis ∷ axes) (parts ∷ fields) k are h =
-    let some : 0 < product (list_sizes axes) = positive_right (product (map size_of axis)) (product (list_sizes axes)) k
+    let some : 0 < product (list_sizes axes) = positive_right (product (map size_of axis))
+        (product (list_sizes axes)) k
     (subst (λ n. k < n) (product-append (map size_of axis) (list_sizes axes)) h) in
     ap (allow (parts ++ list_parts fields)) (parts_of-append (map size_of axis) (list_sizes axes) k h)
     ∙ allow_append parts (list_parts fields) (parts_of (map size_of axis) (k / product (list_sizes axes)))
     (parts_of (list_sizes axes) (k % product (list_sizes axes)))
     (one_each axis parts are.0 ∙ sym (length-parts_of (map size_of axis) (k / product (list_sizes axes))))
     ∙ ap (λ b. allow parts (parts_of (map size_of axis) (k / product (list_sizes axes))) && b)
-    (covered_by_lists axes fields (k % product (list_sizes axes)) are.1 (mod_below k (product (list_sizes axes)) some))
-    ∙ ap (λ n. allow parts (parts_of (map size_of axis) (k / n)) && covers axes fields (parts_of (map axis_size axes) (k % n)))
+    (covered_by_lists axes fields (k % product (list_sizes axes)) are.1
+        (mod_below k (product (list_sizes axes)) some))
+    ∙ ap (λ n. allow parts (parts_of (map size_of axis) (k / n)) && covers axes fields
+        (parts_of (map axis_size axes) (k % n)))
     (product_of_lists axes)

@@ -39,7 +39,8 @@ reward_lines_of text = passed_by limits.RewardLines (length (statements_for Rewa
 
 abbrev pub scales_with : Text → JointSizes → List (Option TooLarge)
 scales_with text sizes =
-    scale_limits (start_scale text.header.start sizes.states) (table_scale (statements_for Trans text.statements) sizes.states)
+    scale_limits (start_scale text.header.start sizes.states)
+        (table_scale (statements_for Trans text.statements) sizes.states)
     (table_scale (statements_for Obs text.statements) sizes.joint_observations)
 
 -- the limits in their groups
@@ -56,7 +57,8 @@ in_groups text sizes of =
     ap (λ s. first_passed (size_limits text ++ (cells_of s ++ reward_lines_of text ∷ scales_with text s))) (sym same)
   where
     given : JointSizes
-    given = record { states = states_in text; joint_actions = joint_actions_in text; joint_observations = joint_observations_in text }
+    given = record { states = states_in text; joint_actions = joint_actions_in text; joint_observations =
+        joint_observations_in text }
 
 pub passed_size : (text : Text) (passed : TooLarge) → first_passed (size_limits text) ≡ Some passed
     → passed_limit text ≡ Some passed
@@ -64,11 +66,13 @@ unfolding passed_limit
 passed_size text passed e = passed_before (size_limits text) _ passed e
 
 -- a text whose sizes are kept
-module _ (text : Text) (sizes : JointSizes) (of : AreSizesOf text sizes) (kept : first_passed (size_limits text) ≡ None) where
+module _ (text : Text) (sizes : JointSizes) (of : AreSizesOf text sizes)
+    (kept : first_passed (size_limits text) ≡ None) where
   after_sizes : passed_limit text ≡ first_passed (cells_of sizes ++ reward_lines_of text ∷ scales_with text sizes)
   after_sizes = in_groups text sizes of ∙ passed_after (size_limits text) _ kept
 
-  pub passed_cells : (passed : TooLarge) → first_passed (cells_of sizes) ≡ Some passed → passed_limit text ≡ Some passed
+  pub passed_cells : (passed : TooLarge) → first_passed (cells_of sizes) ≡ Some passed
+      → passed_limit text ≡ Some passed
   passed_cells passed e = after_sizes ∙ passed_before (cells_of sizes) _ passed e
 
   after_cells : first_passed (cells_of sizes) ≡ None

@@ -1,5 +1,6 @@
 -- The rewards as their statements are written one after the other.
-use Rattle.std.proofs.Common.{◌≡◌, ℕ, ◌+◌, ◌*◌, ◌%◌, ◌^◌, ◌<◌, ◌≤◌, Bool, true, List, [], ◌∷◌, length, get_or, map, take, drop, refl, sym, ap, subst, ◌∙◌, arith, ℤ, pos}
+use Rattle.std.proofs.Common.{◌≡◌, ℕ, ◌+◌, ◌*◌, ◌%◌, ◌^◌, ◌<◌, ◌≤◌, Bool, true, List, [], ◌∷◌, length, get_or, map,
+    take, drop, refl, sym, ap, subst, ◌∙◌, arith, ℤ, pos}
 use Rattle.std.specs.Prelude.{replicate}
 use Rattle.std.proofs.lemmas.List.{drop-map, length-map}
 use Rattle.dp_base.proofs.SignificandLaws.{tens_up}
@@ -22,7 +23,8 @@ use Rattle.dp_meaning.proofs.ReadStatements.{AreNumbersOf}
 use Rattle.dp_meaning.proofs.SaidTexts.{rewards_digits}
 use Rattle.dp_tables.specs.Blocks.{reward_block, IsRewardValue}
 use Rattle.dp_tables.specs.Writing.{AreWritten, list_sizes, list_parts}
-use Rattle.dp_tables.proofs.CellTables.{AreCells, no_cells, all_cells, one_list, IsStatementFor, IsWritable, cells_taken}
+use Rattle.dp_tables.proofs.CellTables.{AreCells, no_cells, all_cells, one_list, IsStatementFor, IsWritable,
+    cells_taken}
 use Rattle.dp_tables.proofs.ChanceLemmas.{of_numbers}
 use Rattle.dp_tables.proofs.FlatCells.{product_of_lists}
 
@@ -35,7 +37,8 @@ abbrev pub reward_sizes : Text → List ℕ
 reward_sizes text = joint_actions_in text ∷ states_in text ∷ states_in text ∷ joint_observations_in text ∷ []
 
 reward_sizes_are : (text : Text) → map axis_size (reward_axes text) ≡ reward_sizes text
-reward_sizes_are text = ap (λ n. joint_actions_in text ∷ n ∷ n ∷ joint_observations_in text ∷ []) (one_list text.header.states)
+reward_sizes_are text = ap (λ n. joint_actions_in text ∷ n ∷ n ∷ joint_observations_in text ∷ [])
+    (one_list text.header.states)
 
 pub rewards_count : (text : Text) → product (list_sizes (reward_axes text))
     ≡ joint_actions_in text * states_in text * states_in text * joint_observations_in text
@@ -44,7 +47,8 @@ rewards_count text = product_of_lists (reward_axes text) ∙ ap product (reward_
 pub reward_scale_limit : (text : Text) (scale : ℕ) → IsSaid text → scale ≡ (scales_of text).reward → scale ≤ 10 ^ 9
 unfolding scales_of
 reward_scale_limit text scale said e =
-    let most = tens_up (digits_of_statements (statements_for Reward text.statements)) 9 (rewards_digits text said) in omega arith
+    let most = tens_up (digits_of_statements (statements_for Reward text.statements)) 9 (rewards_digits text said) in
+        omega arith
 
 -- ---- the statements of the rewards
 
@@ -68,12 +72,14 @@ reward_value_at : (cost : Bool) (scale k f : ℕ) (axes : List Axis) (v : Value)
 reward_value_at cost scale k f axes Uniform fills h = absurd (cc)
 reward_value_at cost scale k f axes Identity fills h = absurd (cc)
 reward_value_at cost scale k f axes (Numbers ns) fills h =
-    of_numbers ℤ (pos 0) (reward_over cost scale) k f (map axis_size axes) ns h (fills ∙ ap product (sym (drop-map axis_size f axes)))
+    of_numbers ℤ (pos 0) (reward_over cost scale) k f (map axis_size axes) ns h (fills
+        ∙ ap product (sym (drop-map axis_size f axes)))
 
 pub rewards_fit : (cost : Bool) (scale : ℕ) (axes : List Axis) (s : Statement) (sizes : List ℕ)
     → IsStatementFor Reward axes s → IsWritable axes sizes s
     → length (reward_block cost scale s.value) ≡ product (drop (length (list_parts s.fields)) sizes)
-rewards_fit cost scale axes s sizes is fits = block_fits cost scale (length s.fields) axes s.value is.fills ∙ sym fits.width
+rewards_fit cost scale axes s sizes is fits = block_fits cost scale (length s.fields) axes s.value is.fills
+    ∙ sym fits.width
 
 -- ---- the cells
 
@@ -87,7 +93,8 @@ pub no_rewards : (text : Text) (scale : ℕ) (cells : List ℤ) (n : ℕ) → ce
     → AreRewardsBy text scale [] cells
 no_rewards text scale cells n e long =
     no_cells ℤ (pos 0) (reward_axes text) (reward_of_cell text.header.cost scale (reward_axes text) []) cells n e
-    (long ∙ sym (rewards_count text)) (λ cell. reward_uncovered text.header.cost scale (reward_axes text) [] cell refl)
+    (long ∙ sym (rewards_count text)) (λ cell. reward_uncovered text.header.cost scale
+        (reward_axes text) [] cell refl)
 
 -- a statement of the rewards is written
 pub rewards_taken : (text : Text) (scale : ℕ) (items : List Statement) (i : ℕ) (s : Statement) (cells new : List ℤ)
@@ -118,4 +125,5 @@ all_rewards text scale cells e are =
     all_cells ℤ (pos 0) (reward_axes text) (reward_of_cell text.header.cost (scales_of text).reward (reward_axes text)
     (statements_for Reward text.statements)) cells (reward_sizes text)
     (joint_actions_in text * states_in text * states_in text * joint_observations_in text)
-    (subst (λ n. AreRewardsBy text n (statements_for Reward text.statements) cells) e are) (reward_sizes_are text) (omega arith)
+    (subst (λ n. AreRewardsBy text n (statements_for Reward text.statements) cells) e are) (reward_sizes_are text)
+        (omega arith)

@@ -10,7 +10,8 @@ behind items (Ok more) = Ok (items ++ more)
 behind items (Err e) = Err e
 
 -- all that is read is these items and then what the rest gives
-pub record Continues {A : Type 0} (all : Result (List A) Fault) (items : List A) (rest : Result (List A) Fault) : Type 0 where
+pub record Continues {A : Type 0} (all : Result (List A) Fault) (items : List A) (rest : Result (List A) Fault) :
+    Type 0 where
   pub is : all ≡ behind items rest
 
 behind_none : {A : Type 0} (rest : Result (List A) Fault) → rest ≡ behind [] rest

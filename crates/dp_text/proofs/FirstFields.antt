@@ -1,5 +1,6 @@
 -- The first field of a line is what stands before its first Colon.
-use Rattle.std.proofs.Common.{◌≡◌, ℕ, zero, suc, ◌+◌, ◌<◌, Bool, true, false, cond, List, [], ◌∷◌, length, take, drop, refl, sym, ap, ◌∙◌, arith, add-one, length-take}
+use Rattle.std.proofs.Common.{◌≡◌, ℕ, zero, suc, ◌+◌, ◌<◌, Bool, true, false, cond, List, [], ◌∷◌, length, take, drop,
+    refl, sym, ap, ◌∙◌, arith, add-one, length-take}
 use Rattle.std.specs.Prelude.{not, Some, None}
 use Rattle.std.proofs.lemmas.List.{drop_all}
 use Rattle.std.proofs.lemmas.Option.{slice_get_within}
@@ -14,7 +15,8 @@ unfolding fields_of
 no_colon [] h = refl
 no_colon (piece ∷ pieces) h = by (no_colon pieces) (is_colon piece.kind) h
   where
-    by : (slice_get pieces (prefix_len is_no_colon pieces) ≡ None → fields_of pieces ≡ record { fields = []; rest = pieces })
+    by : (slice_get pieces (prefix_len is_no_colon pieces) ≡ None
+        → fields_of pieces ≡ record { fields = []; rest = pieces })
         → (b : Bool) → slice_get (piece ∷ pieces) (cond (not b) (1 + prefix_len is_no_colon pieces) 0) ≡ None
         → with_field_piece b piece (fields_of pieces) ≡ record { fields = []; rest = piece ∷ pieces }
     by others true f = cc
@@ -55,10 +57,12 @@ first_colon (piece ∷ pieces) (suc c) colon e h = by (λ f. first_colon pieces 
 pub first_field_is : (line : List Piece) (c : ℕ) (colon : Piece) → c ≡ prefix_len is_no_colon line
     → Some colon ≡ slice_get line c
     → fields_of line
-    ≡ with_field (record { pieces = take c line; colon = colon.at }) (fields_of (drop (length (take c line) + 1) line))
+    ≡ with_field (record { pieces = take c line; colon = colon.at })
+        (fields_of (drop (length (take c line) + 1) line))
 first_field_is line c colon e h =
     let within = slice_get_within line c colon (sym h) in
-    let len : length (take c line) + 1 ≡ suc c = omega (arith, length-take {A = Piece}) in rw len (first_colon line c colon (sym e) (sym h))
+    let len : length (take c line) + 1 ≡ suc c = omega (arith, length-take {A = Piece}) in
+        rw len (first_colon line c colon (sym e) (sym h))
 
 -- ---- the place of the first Colon
 
@@ -89,6 +93,7 @@ pub goes_on : (line : List Piece) (c : ℕ) → IsPassed line c → c < length l
 goes_on line c h l e = rw add-one (let one = goes line c l e in omega arith)
 
 pub ends_at : (line : List Piece) → IsPassed line (length line) → length line ≡ prefix_len is_no_colon line
-ends_at line h = let none = drop_all (length line) line (omega arith) in let zero_left = ap (prefix_len is_no_colon) none in omega arith
+ends_at line h = let none = drop_all (length line) line (omega arith) in
+    let zero_left = ap (prefix_len is_no_colon) none in omega arith
 
 pub ruleset steps = (starts, stops_at, goes_on, ends_at)

@@ -1,5 +1,6 @@
 -- The header, read entry by entry.
-use Rattle.std.proofs.Common.{◌≡◌, ℕ, ◌+◌, ◌≤◌, List, [], ◌∷◌, length, drop, Some, Result, Ok, Err, refl, ap, ◌∙◌, sym, subst, arith}
+use Rattle.std.proofs.Common.{◌≡◌, ℕ, ◌+◌, ◌≤◌, List, [], ◌∷◌, length, drop, Some, Result, Ok, Err, refl, ap, ◌∙◌,
+    sym, subst, arith}
 use Rattle.std.specs.Prelude.{slice_get}
 use Rattle.std.proofs.Math.ListN.{drop_of_length-le}
 use Rattle.dp_meaning.specs.declared.header.Entries.{Entries}
@@ -52,7 +53,8 @@ module _ (end : ℕ) (entries : Entries) where
 
     pub entry_one : (e : Entry) (more : Entries) → HeaderEntry e ≡ kind_of item → with_entry e item entries ≡ Ok more
         → all ≡ header_of end more (drop (place + 1) items)
-    entry_one e more kind one = at_place ∙ (first_item item (drop (place + 1) items) (HeaderEntry e) (sym kind) ∙ rw one refl)
+    entry_one e more kind one = at_place ∙ (first_item item (drop (place + 1) items) (HeaderEntry e) (sym kind)
+        ∙ rw one refl)
 
     wrong_on : (meant : Result Entries Fault) (f : Entries → Result (Header × List Item) Fault) (wrong : TextFault)
         → Reads meant (Err wrong) → ReadsHeader items (meant >>= f) (Err wrong)
@@ -70,7 +72,8 @@ module _ (end : ℕ) (entries : Entries) where
     pub statement_one : (table : Table) → StatementOf table ≡ kind_of item
         → all ≡ header_and (item_at item) entries (drop place items)
     statement_one table kind =
-        at_place ∙ (first_item item (drop (place + 1) items) (StatementOf table) (sym kind) ∙ ap (header_and (item_at item) entries)
+        at_place ∙ (first_item item (drop (place + 1) items) (StatementOf table) (sym kind)
+            ∙ ap (header_and (item_at item) entries)
         (sym (drop_at items place item here)))
 
     pub no_item : NoItem ≡ kind_of item → all ≡ fault Expected (item_at item)
@@ -80,11 +83,13 @@ module _ (end : ℕ) (entries : Entries) where
       → all ≡ header_of end entries (drop place items) → all ≡ header_and end entries (drop (length items) items)
   header_last all items place past so_far =
       let none : drop (length items) items ≡ [] = drop_of_length-le items (omega arith) in
-      so_far ∙ (ap (header_of end entries) (drop_of_length-le items past) ∙ (no_more ∙ ap (header_and end entries) (sym none)))
+      so_far ∙ (ap (header_of end entries) (drop_of_length-le items past)
+          ∙ (no_more ∙ ap (header_and end entries) (sym none)))
 
 -- what is read is the same along equal meanings
 pub reads_header_along : (items : List Item) (all rest : Result (Header × List Item) Fault)
     (answer : Result (Header × ℕ) TextFault)
     → all ≡ rest
     → ReadsHeader items rest answer → ReadsHeader items all answer
-reads_header_along items all rest answer is h = subst (λ (x : Result (Header × List Item) Fault). ReadsHeader items x answer) (sym is) h
+reads_header_along items all rest answer is h = subst (λ (x : Result (Header × List Item) Fault).
+    ReadsHeader items x answer) (sym is) h

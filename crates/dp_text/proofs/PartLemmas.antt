@@ -25,7 +25,8 @@ module _ {axis : Axis} {field : Field} {parts : List Part} {k : ℕ} (h : PartsR
   at_token : (list : GivenList) (piece : Piece) → k < length axis → list ≡ get_or axis k list
       → Some piece ≡ slice_get field.pieces k
       → Continues (parts_in axis field field.pieces) parts
-      (part_of list piece >>= λ first. parts_in (drop (k + 1) axis) field (drop (k + 1) field.pieces) >>= λ others. Ok (first ∷ others))
+      (part_of list piece >>= λ first. parts_in (drop (k + 1) axis) field (drop (k + 1) field.pieces) >>= λ others.
+          Ok (first ∷ others))
   unfolding parts_in
   at_token list piece within l p =
       let lists = drop_item axis k list within in
@@ -42,16 +43,19 @@ module _ {axis : Axis} {field : Field} {parts : List Part} {k : ℕ} (h : PartsR
   pub part_fault : (list : GivenList) (piece : Piece) (e : Fault) → k < length axis → list ≡ get_or axis k list
       → Some piece ≡ slice_get field.pieces k → Err e ≡ part_of list piece → parts_in axis field field.pieces ≡ Err e
   part_fault list piece e within l p read =
-      let stops : Continues (parts_in axis field field.pieces) parts (Err e) = rw (← read) at (at_token list piece within l p) in stops.is
+      let stops : Continues (parts_in axis field field.pieces) parts (Err e) =
+          rw (← read) at (at_token list piece within l p) in stops.is
 
   -- the field ends too early
-  pub part_missing : (list : GivenList) → k < length axis → list ≡ get_or axis k list → None ≡ slice_get field.pieces k
+  pub part_missing : (list : GivenList) → k < length axis → list ≡ get_or axis k list
+      → None ≡ slice_get field.pieces k
       → parts_in axis field field.pieces ≡ fault Expected field.colon
   unfolding parts_in
   part_missing list within l p =
       let lists = drop_item axis k list within in
       let pieces = drop_none field.pieces k (sym p) in
-      let stops : Continues (parts_in axis field field.pieces) parts (fault Expected field.colon) = rw (lists, ← l, pieces) at h.is in stops.is
+      let stops : Continues (parts_in axis field field.pieces) parts (fault Expected field.colon) =
+          rw (lists, ← l, pieces) at h.is in stops.is
 
   -- the field ends in time
   pub parts_end : k ≡ length axis → None ≡ slice_get field.pieces k → parts_in axis field field.pieces ≡ Ok parts
@@ -67,4 +71,5 @@ module _ {axis : Axis} {field : Field} {parts : List Part} {k : ℕ} (h : PartsR
   parts_go_on piece e p =
       let lists = drop_all k axis (omega arith) in
       let pieces = drop_at field.pieces k piece (sym p) in
-      let stops : Continues (parts_in axis field field.pieces) parts (fault Expected piece.at) = rw (lists, pieces) at h.is in stops.is
+      let stops : Continues (parts_in axis field field.pieces) parts (fault Expected piece.at) =
+          rw (lists, pieces) at h.is in stops.is

@@ -1,5 +1,6 @@
 -- Products of which only the part up to a limit is kept.
-use Rattle.std.proofs.Common.{◌≡◌, ℕ, zero, suc, ◌+◌, ◌*◌, ◌≤◌, List, sym, ap, ◌∙◌, arith, mul_assoc, mul_comm, inl, inr, ◌<◌, length, map, drop, get_or}
+use Rattle.std.proofs.Common.{◌≡◌, ℕ, zero, suc, ◌+◌, ◌*◌, ◌≤◌, List, sym, ap, ◌∙◌, arith, mul_assoc, mul_comm, inl,
+    inr, ◌<◌, length, map, drop, get_or}
 use Rattle.std.specs.Prelude.{min}
 use Rattle.std.proofs.lemmas.Bool.{cases_lt}
 use Rattle.std.proofs.Math.Nat.{mul-le-mul_right}
@@ -31,7 +32,8 @@ pub one_more : {most all size left : ℕ} (n rest : ℕ) → Saturates most all 
     → Saturates most all (min (size * n) most) rest
 one_more {most} {all} {size} {left} n rest h e = record {
   limit = omega arith;
-  is = h.is ∙ ap (λ k. min (size * k) most) e ∙ ap (λ k. min k most) (sym (mul_assoc size n rest)) ∙ sym (min_times most (size * n) rest);
+  is = h.is ∙ ap (λ k. min (size * k) most) e ∙ ap (λ k. min k most) (sym (mul_assoc size n rest))
+      ∙ sym (min_times most (size * n) rest);
 }
 
 pub done : {most all size : ℕ} → Saturates most all size 1 → size ≡ min all most

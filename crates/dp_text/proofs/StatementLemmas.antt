@@ -1,5 +1,6 @@
 -- A statement, by its fields and its value.
-use Rattle.std.proofs.Common.{◌≡◌, ℕ, ◌+◌, ◌<◌, ◌≤◌, true, false, List, [], ◌∷◌, ◌++◌, length, drop, Result, Ok, Err, refl, sym, ap, ◌∙◌, arith}
+use Rattle.std.proofs.Common.{◌≡◌, ℕ, ◌+◌, ◌<◌, ◌≤◌, true, false, List, [], ◌∷◌, ◌++◌, length, drop, Result, Ok, Err,
+    refl, sym, ap, ◌∙◌, arith}
 use Rattle.std.specs.Prelude.{nat_lt, Some}
 use Rattle.std.specs.List.{flat_map, slice_get}
 use Rattle.std.proofs.lemmas.Bool.Decides.{nat_tests}
@@ -46,10 +47,12 @@ module _ (header : Header) (table : Table) (item : Item) where
   too_few_fields parts h l = rw (h, few parts l) refl
 
   module _ (parts : List (List Part)) (taken : ℕ) (h : fields_read ≡ Ok parts) (l : least_fields table ≤ length parts)
-      (within : taken ≤ length (after_colon item)) (rest : (fields_of (after_colon item)).rest ≡ drop taken (after_colon item)) where
+      (within : taken ≤ length (after_colon item)) (rest : (fields_of (after_colon item)).rest
+          ≡ drop taken (after_colon item)) where
     -- what is left of the item
     left : (fields_of (after_colon item)).rest ++ flat_map pieces_of item.more ≡ drop taken (value_pieces item)
-    left = ap (λ ps. ps ++ flat_map pieces_of item.more) rest ∙ sym (drop-append-le taken (after_colon item) (flat_map pieces_of item.more) within)
+    left = ap (λ ps. ps ++ flat_map pieces_of item.more) rest
+        ∙ sym (drop-append-le taken (after_colon item) (flat_map pieces_of item.more) within)
 
     by_value : statement header table item
         ≡ (value_of table (drop (length parts) (axes_of header table)) item.next (drop taken (value_pieces item))
@@ -60,11 +63,13 @@ module _ (header : Header) (table : Table) (item : Item) where
     pub right_statement : (value : Value)
         → value_of table (drop (length parts) (axes_of header table)) item.next (drop taken (value_pieces item))
         ≡ Ok value
-        → statement header table item ≡ Ok (record { at = item_at item; table = table; fields = parts; value = value })
+        → statement header table item ≡ Ok (record { at = item_at item; table = table; fields = parts; value =
+            value })
     right_statement value v = by_value ∙ rw v refl
 
     pub wrong_value : (e : TextFault)
-        → Reads (value_of table (drop (length parts) (axes_of header table)) item.next (drop taken (value_pieces item))) (Err e)
+        → Reads (value_of table (drop (length parts) (axes_of header table)) item.next
+            (drop taken (value_pieces item))) (Err e)
         → Reads (statement header table item) (Err e)
     wrong_value (At e) v = by_value ∙ rw v refl
     wrong_value Memory v = tt
@@ -72,16 +77,19 @@ module _ (header : Header) (table : Table) (item : Item) where
 -- ---- all statements
 
 -- what is meant by the items from `first` on is these statements, and then what is meant by the items from k on
-pub record StatementsRead (header : Header) (items : List Item) (first : ℕ) (statements : List Statement) (k : ℕ) : Type 0 where
+pub record StatementsRead (header : Header) (items : List Item) (first : ℕ) (statements : List Statement) (k : ℕ) :
+    Type 0 where
   pub is : Continues (statements_of header (drop first items)) statements (statements_of header (drop k items))
 
 pub none_read : (header : Header) (items : List Item) (first : ℕ) → StatementsRead header items first [] first
 none_read header items first = record { is = starts (statements_of header (drop first items)) }
 
-module _ {header : Header} {items : List Item} {first : ℕ} {statements : List Statement} {k : ℕ} (h : StatementsRead header items first statements k) where
+module _ {header : Header} {items : List Item} {first : ℕ} {statements : List Statement} {k : ℕ}
+    (h : StatementsRead header items first statements k) where
   at_item : (item : Item) → slice_get items k ≡ Some item
       → Continues (statements_of header (drop first items)) statements
-      (statement_of_kind header item (kind_of item) >>= λ one. statements_of header (drop (k + 1) items) >>= λ others. Ok (one ∷ others))
+      (statement_of_kind header item (kind_of item) >>= λ one. statements_of header (drop (k + 1) items) >>= λ others.
+          Ok (one ∷ others))
   unfolding statements_of
   at_item item e = let here = drop_at items k item e in rw here at h.is
 
@@ -94,7 +102,8 @@ module _ {header : Header} {items : List Item} {first : ℕ} {statements : List 
       → Reads (statement_of_kind header item (kind_of item)) (Err e)
       → Reads (statements_of header (drop first items)) (Err e)
   statement_fault item (At e) s read =
-      let stops : Continues (statements_of header (drop first items)) statements (Err e) = rw read at (at_item item s) in stops.is
+      let stops : Continues (statements_of header (drop first items)) statements (Err e) =
+          rw read at (at_item item s) in stops.is
   statement_fault item Memory s read = tt
 
   pub statements_end : length items ≤ k → statements_of header (drop first items) ≡ Ok statements

@@ -34,4 +34,5 @@ pub by_items : (bytes : List ℕ) (tokens : List Token) → AreTokensOf bytes to
     ≡ text_of_items (with_end (length bytes) (items_of_pieces (length bytes) (map (piece_of bytes) tokens)))
 unfolding text_of_items
 by_items bytes tokens are =
-    by_steps bytes ∙ ap (λ (r : Result (List Token) ℕ). steps bytes (pieces_of_tokens bytes r)) ((tokens_are_of_text bytes tokens).1 are)
+    by_steps bytes ∙ ap (λ (r : Result (List Token) ℕ). steps bytes (pieces_of_tokens bytes r))
+        ((tokens_are_of_text bytes tokens).1 are)

@@ -1,5 +1,6 @@
 -- Tokens are texts, and names are words but two.
-use Rattle.std.proofs.Common.{◌≡◌, ◌≢◌, ℕ, zero, suc, ◌<◌, true, false, not, ◌&&◌, List, [], ◌∷◌, length, refl, ap, ◌∙◌, sym, arith, Result, Ok, Err, ◌^◌}
+use Rattle.std.proofs.Common.{◌≡◌, ◌≢◌, ℕ, zero, suc, ◌<◌, true, false, not, ◌&&◌, List, [], ◌∷◌, length, refl, ap,
+    ◌∙◌, sym, arith, Result, Ok, Err, ◌^◌}
 use Rattle.std.specs.Prelude.{nat_lt, slice_index}
 use Rattle.std.specs.List.{list_all}
 use Rattle.std.specs.Option.{SomeIff}
@@ -34,7 +35,8 @@ pub text_of_kind : (kind : Kind) (bytes : List ℕ) → IsOfKind kind bytes → 
 unfolding is_word
 text_of_kind Word bytes h =
     let run = (and_parts (nat_lt 0 (length bytes) && list_all is_name_byte bytes) (not (is_decimal bytes)) h).0 in
-    IsUtf8-from_ascii bytes (bytes_low bytes (and_parts (nat_lt 0 (length bytes)) (list_all is_name_byte bytes) run).1)
+    IsUtf8-from_ascii bytes (bytes_low bytes (and_parts (nat_lt 0 (length bytes))
+        (list_all is_name_byte bytes) run).1)
 text_of_kind Number bytes h = IsUtf8-from_ascii bytes (bytes_low bytes h.0)
 text_of_kind Colon bytes h = rw h (IsUtf8-from_ascii (58 ∷ []) (mark_low 58 (omega arith)))
 text_of_kind Star bytes h = rw h (IsUtf8-from_ascii (42 ∷ []) (mark_low 42 (omega arith)))
@@ -58,7 +60,8 @@ some_of_ok (Ok m) Q P n q h = (h.0.1, h.1)
 some_of_ok (Err e) Q P n q h = λ p. h (q, p)
 
 -- what `parse` reads of an index
-pub index_parsed : {E : Type 0} (bytes : List ℕ) (r : Result ℕ E) → is_index bytes ≡ true → ParsesUnsigned 32 10 bytes r
+pub index_parsed : {E : Type 0} (bytes : List ℕ) (r : Result ℕ E) → is_index bytes ≡ true
+    → ParsesUnsigned 32 10 bytes r
     → SomeIff (result_ok r) (digits_value 10 bytes < 2 ^ 32) (digits_value 10 bytes)
 unfolding is_index
 index_parsed bytes r is h =

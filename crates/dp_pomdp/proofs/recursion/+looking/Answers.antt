@@ -8,9 +8,11 @@ use Rattle.dp_spec.specs.Quantities.{action_look_ahead_in, weights_after_in}
 use Rattle.dp_pomdp.specs.Looking.{weights_of}
 use Rattle.dp_mdp.proofs.RunningSums.{next_greatest}
 use Rattle.dp_pomdp.proofs.Cuts.{greatest_or_cap, no_step, reached_cap}
-use Rattle.dp_pomdp.proofs.Steps.{looking_next, looks_are_action, offset_fits, offset_next, looks_part_fits, looking_now, deeper_room, table_before, table_now, zero_look}
+use Rattle.dp_pomdp.proofs.Steps.{looking_next, looks_are_action, offset_fits, offset_next, looks_part_fits,
+    looking_now, deeper_room, table_before, table_now, zero_look}
 use Rattle.dp_pomdp.proofs.recursion.+looking.Goals as goal
-use Rattle.dp_pomdp.proofs.recursion.+looking.Goals.{look_ahead-then-rest-eq0-via-then-rest-eq0, look_ahead-then-rest-eq0-via-else-rest-eq0+then-all_zero}
+use Rattle.dp_pomdp.proofs.recursion.+looking.Goals.{look_ahead-then-rest-eq0-via-then-rest-eq0,
+    look_ahead-then-rest-eq0-via-else-rest-eq0+then-all_zero}
 
 pub look_ahead-returns-then-best-cap-clause-is : goal.look_ahead-returns-then-best-cap-clause-is
 look_ahead-returns-then-best-cap-clause-is g t c =

@@ -14,7 +14,8 @@ pub nonzero_div-unit : goal.nonzero_div-unit
 nonzero_div-unit c = let some = some_tens c.from.result in omega arith
 
 is_over : (c : goal.After-unsigned_abs) → IsOver c.args.scale c.args.chance c.unsigned_abs.result c.pow.result
-is_over c = chance_is_over c.args.scale c.args.chance c.unsigned_abs.result c.pow.result c.requires c.unsigned_abs.ensures.value
+is_over c = chance_is_over c.args.scale c.args.chance c.unsigned_abs.result c.pow.result c.requires
+    c.unsigned_abs.ensures.value
     (c.pow.ensures ∙ ap (λ n. 10 ^ n) c.from.ensures)
 
 pub overflow_cast-result : goal.overflow_cast-result

@@ -2,7 +2,9 @@ use Rattle.dp_tables.proofs.TableRowsLemmas.{obs_repaired, some_obs}
 use Rattle.dp_tables.proofs.rows.repair_observations.Goals as goal
 
 pub repair_table-requires-clause-scale : goal.repair_table-requires-clause-scale
-repair_table-requires-clause-scale c = some_obs c.args.text.now c.args.scale c.requires.said c.requires.within c.requires.scale
+repair_table-requires-clause-scale c = some_obs c.args.text.now c.args.scale c.requires.said c.requires.within
+    c.requires.scale
 
 pub returns-clause-is : goal.returns-clause-is
-returns-clause-is c = obs_repaired c.args.text.now c.args.scale _ c.args.end _ c.repair_table.result c.requires.scale c.joint_observations.ensures.is c.repair_table.ensures.is
+returns-clause-is c = obs_repaired c.args.text.now c.args.scale _ c.args.end _ c.repair_table.result c.requires.scale
+    c.joint_observations.ensures.is c.repair_table.ensures.is

@@ -12,4 +12,5 @@ least_common_multiple-requires-clause-room c =
     let most = tens_up c.from.result 18 digits in
     let tens : c.pow-tens.result ≤ 10 ^ 18 = omega arith in
     let len : c.from-then-uniform.result ≤ 2 ^ 32 = omega arith in
-    let product : c.pow-tens.result * c.from-then-uniform.result ≤ 10 ^ 18 * 2 ^ 32 = mul-le-mul tens len in omega arith
+    let product : c.pow-tens.result * c.from-then-uniform.result ≤ 10 ^ 18 * 2 ^ 32 = mul-le-mul tens len in
+        omega arith

@@ -10,7 +10,8 @@ loop-place-preserved c =
     let place = c.loop-place.place in
     let more = one_more c.loop-place.names c.piece_at-piece.result c.in_ok-names.names c.in_ok-names.ensures in
     record {
-      is = name_one (names_after [] pieces) c.loop-place.names c.piece_at-piece.result (drop (place + 1) pieces) (drop place pieces)
+      is = name_one (names_after [] pieces) c.loop-place.names c.piece_at-piece.result (drop (place + 1) pieces)
+          (drop place pieces)
           c.in_ok-names.names c.piece_at-piece.ensures c.in_ok-names.ensures c.loop-place.invariant.is;
       few = omega (arith, more);
     }
@@ -21,7 +22,8 @@ returns-in_err-names c =
     let place = c.loop-place.place in
     let exit = err_from_is_err_and c.from_residual.result c.from_residual.ensures.1 in
     rw (exit.1, exit.2)
-    (name_wrong (names_after [] pieces) c.loop-place.names c.piece_at-piece.result (drop (place + 1) pieces) (drop place pieces)
+    (name_wrong (names_after [] pieces) c.loop-place.names c.piece_at-piece.result (drop (place + 1) pieces)
+        (drop place pieces)
     c.in_err-names.field-0.0 c.piece_at-piece.ensures c.in_err-names.ensures c.loop-place.invariant.is)
 
 pub returns : goal.returns

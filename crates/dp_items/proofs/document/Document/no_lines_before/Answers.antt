@@ -11,12 +11,14 @@ between-pieces-requires-clause-within c =
     let some = c.if-self-eq0.false in
     let before = c.self.invariant.before in
     let inside : 0 < length c.self.inside.lines.items = omega arith in
-    let line = run_at 0 c.self.inside.lines.items (length (pieces_of_text c.self.inside.bytes.now c.self.inside.tokens.items)) 0
+    let line = run_at 0 c.self.inside.lines.items (length
+        (pieces_of_text c.self.inside.bytes.now c.self.inside.tokens.items)) 0
     c.index-line.result.now c.self.invariant.one_run inside in
     rw (c.of.ensures, c.deref.ensures.value, c.index-line.ensures) line.1
 
 pub returns : goal.returns
 returns c =
     rw (c.first_at.ensures.is, c.between-pieces.ensures, c.of.ensures, c.deref.ensures.value, c.index-line.ensures)
-    (sym (first_line_stands c.self.inside.end _ c.self.inside.lines.items c.self.inside.items.before c.index-line.result.now c.if-self-eq0.false c.self.invariant.before)
+    (sym (first_line_stands c.self.inside.end _ c.self.inside.lines.items c.self.inside.items.before
+        c.index-line.result.now c.if-self-eq0.false c.self.invariant.before)
     ∙ ap (λ (v : ItemsOfText). unless_lines v.end v.before) c.self.view_is)

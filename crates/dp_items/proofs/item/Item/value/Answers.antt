@@ -12,4 +12,5 @@ pub from-requires : goal.from-requires
 from-requires c = rw c.between.ensures (two_of_all _ _ _ _ _ c.self.invariant)
 
 pub returns : goal.returns
-returns c = c.from.ensures ∙ ap (drop 2) c.between.ensures ∙ value_is _ _ _ _ _ c.self.invariant ∙ ap value_pieces c.self.view_is
+returns c = c.from.ensures ∙ ap (drop 2) c.between.ensures ∙ value_is _ _ _ _ _ c.self.invariant
+    ∙ ap value_pieces c.self.view_is

@@ -13,7 +13,8 @@ new-requires-clause-limit c = c.requires.model.sizes.joint_actions_limit
 
 pub new-requires-2-clause-some : goal.new-requires-2-clause-some
 unfolding joint_observations
-new-requires-2-clause-some c = some_joint_observation (model_of_tables c.args.sizes c.args.scales c.args.cells) c.requires.model
+new-requires-2-clause-some c = some_joint_observation (model_of_tables c.args.sizes c.args.scales c.args.cells)
+    c.requires.model
 
 pub new-requires-2-clause-limit : goal.new-requires-2-clause-limit
 unfolding joint_observations

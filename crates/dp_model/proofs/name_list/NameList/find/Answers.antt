@@ -10,4 +10,5 @@ returns-in_err-place c =
 
 pub returns : goal.returns
 returns c =
-    c.in_ok-place.ensures.index ∙ place_of-texts string_bytes c.self.inside.names.keys c.args.self.now c.args.name.now c.self.view_is
+    c.in_ok-place.ensures.index ∙ place_of-texts string_bytes c.self.inside.names.keys c.args.self.now c.args.name.now
+        c.self.view_is

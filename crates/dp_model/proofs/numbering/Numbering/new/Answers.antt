@@ -10,8 +10,10 @@ overflow_mul-count c =
     let back : c.loop-agent.agent ≡ suc (c.loop-agent.agent - 1) = omega arith in
     let there : c.loop-agent.agent - 1 < length ns = omega arith in
     let is : c.loop-agent.count * get_or ns (c.loop-agent.agent - 1) 0 ≡ product (drop (c.loop-agent.agent - 1) ns) =
-    back-count ns (c.loop-agent.agent - 1) c.loop-agent.agent c.loop-agent.count back there c.loop-agent.invariant.counted in
-    let limit : product (drop (c.loop-agent.agent - 1) ns) ≤ product ns = product-drop_le ns (c.loop-agent.agent - 1) c.requires.some in
+    back-count ns (c.loop-agent.agent - 1) c.loop-agent.agent c.loop-agent.count back there
+        c.loop-agent.invariant.counted in
+    let limit : product (drop (c.loop-agent.agent - 1) ns) ≤ product ns =
+        product-drop_le ns (c.loop-agent.agent - 1) c.requires.some in
     rw c.as_slice.ensures (omega arith)
 
 pub loop-agent-preserved : goal.loop-agent-preserved
@@ -19,4 +21,5 @@ loop-agent-preserved c =
     let ns = c.args.sizes in
     let back : c.loop-agent.agent ≡ suc (c.loop-agent.agent - 1) = omega arith in
     let there : c.loop-agent.agent - 1 < length ns = omega arith in
-    rw c.as_slice.ensures (back-steps ns (c.loop-agent.agent - 1) c.loop-agent.agent c.loop-agent.count c.loop-agent.steps back there c.loop-agent.invariant)
+    rw c.as_slice.ensures (back-steps ns (c.loop-agent.agent - 1) c.loop-agent.agent c.loop-agent.count
+        c.loop-agent.steps back there c.loop-agent.invariant)
