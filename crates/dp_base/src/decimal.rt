@@ -108,8 +108,7 @@ fn power_of(digits: &[u8]) -> u32
 }
 
 /// A significand times ten to the power `numerator_tens`, divided by ten to the power `denominator_tens`, in the
-/// least
-/// fraction digits.
+/// least fraction digits.
 fn judge(
     negative: bool,
     seen: Significand,

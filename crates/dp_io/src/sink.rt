@@ -16,8 +16,7 @@ pub trait Sink {
     /// Appends all the bytes, or fails and appends a prefix of them.
     ///
     /// The put and its bytes are counted, and its text is kept, in either case. It answers `SinkFailed` exactly
-    /// where the
-    /// count of faults rose; where the output is told, exactly where this put was to fail.
+    /// where the count of faults rose; where the output is told, exactly where this put was to fail.
     fn put(&mut self, bytes: &[u8]) -> Result<(), SinkFailed>
         requires { (view self.old).puts < 2 ^ 63 }
         ensures { Puts (view self.old) (view self.new) bytes.now result };

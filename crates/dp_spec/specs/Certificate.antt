@@ -11,9 +11,8 @@ use Rattle.dp_spec.specs.BoundTree.{BoundTree, HasSmallBranches, depth_of, great
 use Rattle.dp_spec.specs.Fitting.{FitsFront, front_bound}
 
 -- A certificate of a version, 1 or 2. Lower and upper are the ends of its interval of expected rewards, counted in
--- the
--- unit; `look` is that of its bounds, and `inner` is how many branches and merges its tree has. Its joint policy is
--- written in shared rows, which in version 1 are one for each own history.
+-- the unit; `look` is that of its bounds, and `inner` is how many branches and merges its tree has. Its joint policy
+-- is written in shared rows, which in version 1 are one for each own history.
 pub record Certificate : Type 0 where
   pub version : ℕ
   pub horizon : ℕ
@@ -33,8 +32,8 @@ pub record HasPolicyOfVersion (m : Model) (c : Certificate) : Type 0 where
   pub plain : c.version ≡ 1 → IsPlain m c.horizon c.policy
 
 -- What is asked of a certificate before it is checked against a model, or written: its horizon and its look are
--- within
--- their limits, so are the size of its tree, the paths and the branches of it, and its policy is one of its version.
+-- within their limits, so are the size of its tree, the paths and the branches of it, and its policy is one of its
+-- version.
 pub record IsCertificateOf (m : Model) (c : Certificate) : Type 0 where
   pub within : IsWithinVersion m c.horizon c.version
   pub look : (1 ≤ c.look) × (c.look ≤ 16)

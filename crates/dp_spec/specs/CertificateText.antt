@@ -108,8 +108,7 @@ pub record HasTextNumbers (c : Certificate) : Type 0 where
   pub tree : AllAllowed (node_lines c.tree)
 
 -- These bytes are the text of a certificate with a policy of its version for a model, and each line has numbers that
--- it
--- allows.
+-- it allows.
 pub record IsCertificateText (m : Model) (bytes : List ℕ) (c : Certificate) : Type 0 where
   pub policy : HasPolicyOfVersion m c
   pub allowed : AllAllowed (certificate_lines m.actions m.observations c)

@@ -13,8 +13,7 @@ BoundsEveryPolicy m h unit x =
     (qs : List PolicyTree) → IsPolicyOf m h qs → (policy_value m h qs *ℤ unit) ≤ℤ (x *ℤ pos (value_scale m h))
 
 -- What the rows of the certificate mean is a joint policy, its expected reward lies in the interval, and no joint
--- policy
--- has a greater one than the upper end.
+-- policy has a greater one than the upper end.
 pub record ClaimsHold (m : Model) (c : Certificate) : Type 0 where
   pub policy : IsPolicyOf m c.horizon (unfolded c.policy)
   pub above_lower :

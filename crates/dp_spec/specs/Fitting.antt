@@ -16,8 +16,7 @@ front_bound A m h look F = bound_in A m (h - F.stage) F look
 
 abbrev mutual
   -- A tree fits a front on whose path the least bound is cap and so many branches and merges stand above. No branch
-  -- and
-  -- no merge stands at a wide node, and a merge fits in exact arithmetic alone.
+  -- and no merge stands at a wide node, and a merge fits in exact arithmetic alone.
   pub FitsFront : Arithmetic → Model → ℕ → ℕ → ℕ → BoundTree → Front → ℤ → Type 0
   FitsFront A m h look above (leaf x) F cap = x ≡ cap
   FitsFront A m h look above (branch i c ks) F cap =

@@ -34,8 +34,7 @@ IsAllowed A m h look merging May F (Merge i a b) =
     × IsTrue A.is_exact × (merging ≡ true)
 
 -- the fronts of a model, of a horizon of h steps and a look, whether it merges, a branching rule, and the worth of
--- the
--- policy that a full front fixes
+-- the policy that a full front fixes
 abbrev pub front_space : Arithmetic → Model → ℕ → ℕ → Bool → (List Place → ℕ → Type 0) → (Front → ℤ) → Space
 front_space A m h look merging May worth = record {
   root = root_front m;

@@ -33,8 +33,7 @@ pub record IsWithinLimits (m : Model) (h : ℕ) : Type 0 where
   pub game_cells : joint_actions m * joint_observations m ^ (h - 1) ≤ 2 ^ 24
 
 -- A version of certificates is 1 or 2, and the horizon keeps its limits: in version 1 those above, and in version 2
--- only
--- from 1 to 24 steps.
+-- only from 1 to 24 steps.
 pub record IsWithinVersion (m : Model) (h version : ℕ) : Type 0 where
   pub known : (version ≡ 1) ⊎ (version ≡ 2)
   pub first : version ≡ 1 → IsWithinLimits m h

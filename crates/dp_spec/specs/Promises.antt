@@ -12,8 +12,7 @@ use Rattle.dp_spec.specs.Qualities.{IfInner, IfLeaf, IsClosed, IsLean, IsMerged,
     certificate_nodes}
 
 -- what a plan is asked for besides its horizon: the version of its certificate, the most branches and merges, the
--- look
--- of its bounds, and whether it merges
+-- look of its bounds, and whether it merges
 pub record PlanOptions : Type 0 where
   pub version : ℕ
   pub nodes : ℕ

@@ -21,8 +21,7 @@ use Rattle.dp_spec.specs.Certificate.{Certificate, arithmetic_for}
 -- ---- the nodes of a tree that fits a front
 
 -- a node: the tree that begins at it, how many branches and merges stand above it, its front, and the least bound on
--- its
--- path
+-- its path
 pub record Node : Type 0 where
   pub tree : BoundTree
   pub above : ℕ
@@ -85,8 +84,7 @@ pub record IsClosed (m : Model) (c : Certificate) : Type 0 where
   pub exact_leaves : c.is_exact ≡ true → LeavesAtMost c.lower c.tree
 
 -- Lean: no branch and no merge stands where the least bound of its path is below that of a leaf that is still open
--- and
--- could be refined, since it is not wide.
+-- and could be refined, since it is not wide.
 abbrev pub IsLean : Model → Certificate → Type 0
 IsLean m c =
     All (λ n. All (λ k. IfInner n.tree (IfNarrowLeaf m c.horizon k (λ x. c.lower <ℤ x → x ≤ℤ n.cap)))

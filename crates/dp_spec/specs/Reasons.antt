@@ -1,6 +1,5 @@
 -- The first reason why a certificate is not valid, in the order in which it is checked: mode, unit, lower end, the
--- nodes of
--- the tree in preorder, the number of inner nodes, upper end. (Own.)
+-- nodes of the tree in preorder, the number of inner nodes, upper end. (Own.)
 use Rattle.std.specs.Prelude.{ℕ, zero, suc, Bool, true, not, ◌&&◌, ◌==◌, nat_lt, cond, ℤ, pos, List, [], ◌∷◌, ◌++◌,
     length, get_or, Option, Some, None, is_none}
 use Rattle.std.specs.Bool.{beq}
@@ -18,8 +17,7 @@ use Rattle.dp_spec.specs.Certificate.{Certificate, arithmetic_for}
 use Rattle.dp_spec.specs.Qualities.{Node, certificate_nodes}
 
 -- Why a certificate is not valid: what stands in it is not what the definition gives, which is said with it. Nodes
--- are
--- numbered in preorder from 0.
+-- are numbered in preorder from 0.
 pub data Reason : Type 0 where
   -- the mode, the unit, the lower end
   mode_is : Bool → Reason

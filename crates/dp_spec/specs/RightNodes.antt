@@ -9,8 +9,7 @@ use Rattle.dp_spec.specs.BoundTree.{BoundTree, branch, child_count, leaf, merge}
 use Rattle.dp_spec.specs.Qualities.{Node}
 
 -- A branch or a merge may stand at a node: a step is left and it is not wide; the classes are unassigned, and those
--- of a
--- merge, in exact arithmetic alone, have the smaller number first.
+-- of a merge, in exact arithmetic alone, have the smaller number first.
 abbrev pub MayStand : Arithmetic → Model → ℕ → Node → BoundTree → Type 0
 MayStand A m h n (leaf x) = Unit {0}
 MayStand A m h n (branch i c ks) =
@@ -20,8 +19,7 @@ MayStand A m h n (merge i a b k) =
     × IsUnassigned i a n.front.agents × IsUnassigned i b n.front.agents
 
 -- Nothing is wrong at a node with this tree: a leaf states the least bound of its path, a branch has one child for
--- each
--- action of its agent, and the classes of a merge are equivalent.
+-- each action of its agent, and the classes of a merge are equivalent.
 abbrev pub IsRightTree : Arithmetic → Model → ℕ → Node → BoundTree → Type 0
 IsRightTree A m h n (leaf x) = x ≡ n.cap
 IsRightTree A m h n (branch i c ks) = MayStand A m h n (branch i c ks) × (child_count ks ≡ get_or m.actions i 0)

@@ -36,8 +36,7 @@ pub record IsOpenAt (S : Space) (ns : List ArenaNode) (L : Labels) (k : ℕ) (x 
   pub not_wide : S.is_wide (above_at ns k) (L.front k) ≡ false
 
 -- The state of a search. `constants` is the greatest low worth of a constant policy, `lower` the low worth of the
--- best
--- policy so far; the nodes below `settled` have been looked at, and `es` are the open leaves that are held.
+-- best policy so far; the nodes below `settled` have been looked at, and `es` are the open leaves that are held.
 pub record IsSearch (S : Space) (constants lower : ℤ) (ns : List ArenaNode) (L : Labels) (settled : ℕ)
     (es : List OpenLeaf) : Type 0 where
   pub explored : IsExploration S ns L

@@ -1,6 +1,5 @@
 -- The rows of a shared policy in the text of a certificate of version 2: a line with the counts of the stages, and
--- one
--- line for each row. (Own.)
+-- one line for each row. (Own.)
 use Rattle.std.specs.Prelude.{ℕ, zero, suc, ◌-◌, ◌*◌, ◌^◌, nat_lt, if◌then◌else◌, Option, Some, None, pos, List, [],
     ◌∷◌, ◌++◌, map, length, replicate, codes}
 use Rattle.dp_spec.specs.SharedPolicy.{PolicyRow, AgentRows, SharedPolicy, first_count, next_count}

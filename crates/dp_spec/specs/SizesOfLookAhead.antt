@@ -18,8 +18,7 @@ next_look_size A m r ws a k =
     nat_sum (joint_observations m) (λ o. unsigned_abs (look_ahead_in A m r (weights_after_in A m ws a o) k))
 
 -- Look-ahead from any weights of a time up to the horizon h; its weights and rewards are those of CanUpdateWeights
--- and
--- CanReward.
+-- and CanReward.
 pub record CanLookAhead (A : Arithmetic) (C : Calls) (m : Model) (h : ℕ) : Type 0 where
   -- the calls for weights against the table, and their sum in any order
   pub tail : (t r s : ℕ) (ws : ℕ → Span) → t + r ≡ h → AreWeights A.is_exact m t ws → s < m.states
