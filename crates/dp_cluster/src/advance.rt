@@ -42,6 +42,7 @@ impl Front {
         ensures keeps { IfOk result (λ f. KeepsToo m.now.model self.now.front f.front) }
     {
         m.invariant();
+        self.invariant();
         let earned = earned_in(self, m);
         let weights = weights_in(alloc, self, m)?;
         let agents = advanced_parts(alloc, self, m)?;

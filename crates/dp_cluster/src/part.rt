@@ -1,12 +1,12 @@
 // One agent's part of a front.
-ghost use Rattle.std.specs.Prelude.{◌≡◌, ◌<◌, ◌≤◌, ◌+◌, ◌-◌, ◌*◌, ◌^◌, ◌==◌, [], ◌∷◌, ◌++◌, ℕ, List, drop, map,
-    length, get_or, set, None, Some, IfOk, if◌then◌else◌};
+ghost use Rattle.std.specs.Prelude.{◌≡◌, ◌<◌, ◌≤◌, ◌+◌, ◌-◌, ◌*◌, ◌^◌, [], ◌∷◌, ◌++◌, ℕ, List, drop, map,
+    length, get_or, set, None, Some, IfOk};
 ghost use Rattle.std.specs.List.{range_with_len};
 ghost use Rattle.dp_spec.specs.Front.{AgentFront};
 ghost use Rattle.dp_spec.specs.Steps.{all_chosen, advanced_agent};
 ghost use Rattle.dp_spec.specs.Merge.{merged_agent, renumbered, kept_class};
 ghost use Rattle.dp_spec.specs.FullPolicy.{tree_doing, tree_doing_after};
-ghost use Rattle.dp_spec.specs.SharedPolicy.{AreAgentRows, unfolded_tree};
+ghost use Rattle.dp_spec.specs.SharedPolicy.{AgentRows, AreAgentRows, next_count, unfolded_tree};
 ghost use Rattle.dp_policy.specs.TreeValue.{policy_tree};
 ghost use Rattle.dp_cluster.specs.AgentParts.{AreMergedStages, ArePastStages, IsReached, action_after, class_after,
     class_led_to, root_part};
@@ -406,7 +406,8 @@ fn rows_of(
 
 // After how many observations a row goes on where so many stages follow its own.
 fn next_count(after: usize, observations: u32) -> u32
-    ensures { result ≡ (if after == 0 then 0 else observations) }
+    ensures count { (stages : AgentRows) → length stages ≡ after → result ≡ next_count observations stages }
+    ensures limit { result ≤ observations }
 {
     if after == 0 { 0 } else { observations }
 }
