@@ -1,13 +1,13 @@
 -- The rows of all agents of a full front: a shared policy, which means what the front fixes.
-use Rattle.std.proofs.Common.{◌≡◌, ◌++◌, inl, inr, ℕ, zero, suc, ◌+◌, ◌*◌, ◌^◌, ◌<◌, ◌≤◌, List, [], ◌∷◌, map, length, get_or, refl, sym,
-    ap, ◌∙◌, subst, arith}
+use Rattle.std.proofs.Common.{◌≡◌, ◌++◌, inl, inr, ℕ, suc, ◌+◌, ◌*◌, ◌^◌, ◌<◌, ◌≤◌, List, [], ◌∷◌, length, get_or}
+use Rattle.std.proofs.Common.{refl, sym, ◌∙◌, subst, arith}
 use Rattle.std.proofs.lemmas.Bool.{cases_lt}
 use Rattle.dp_spec.specs.Front.{AgentFront}
 use Rattle.dp_spec.specs.FullPolicy.{full_policy, tree_doing, trees_doing_fixed}
 use Rattle.dp_spec.specs.JointNumbers.{product}
 use Rattle.dp_spec.specs.Model.{Model}
-use Rattle.dp_spec.specs.SharedPolicy.{AgentRows, AreAgentRows, AreRowsOfAgents, IsSharedOf, SharedPolicy, row_count,
-    row_counts, unfolded, unfolded_tree}
+use Rattle.dp_spec.specs.SharedPolicy.{AgentRows, AreAgentRows, AreRowsOfAgents, IsSharedOf, SharedPolicy, row_count}
+use Rattle.dp_spec.specs.SharedPolicy.{row_counts, unfolded, unfolded_tree}
 use Rattle.dp_spec.specs.SharedPolicy.AreRowsOfAgents.{no_agents, and_agent}
 use Rattle.dp_spec.specs.Steps.{root_agent}
 use Rattle.dp_spec.proofs.ModelLaws.{some_joint_observation}

@@ -1,17 +1,17 @@
 -- The parts of agents as they are kept: their lists, and what each step makes of them.
-use Rattle.std.proofs.Common.{◌≡◌, inl, inr, ℕ, zero, suc, ◌+◌, ◌-◌, ◌*◌, ◌/◌, ◌%◌, ◌^◌, ◌<◌, Bool, true, false, cond,
-    eqb, List, [], ◌∷◌, ◌++◌, map, length, get_or, set, replicate, Option, Some, None, take, append_assoc, add-one,
-    refl, sym, ap, ◌∙◌, subst, arith}
+use Rattle.std.proofs.Common.{◌≡◌, inl, inr, ℕ, zero, suc, ◌+◌, ◌-◌, ◌*◌, ◌/◌, ◌%◌, ◌^◌, ◌<◌, Bool, true, false, cond}
+use Rattle.std.proofs.Common.{eqb, List, [], ◌∷◌, ◌++◌, map, length, get_or, set, replicate, Option, Some, None, take}
+use Rattle.std.proofs.Common.{append_assoc, add-one, refl, sym, ap, ◌∙◌, subst, arith}
 use Rattle.std.specs.Prelude.{unwrap_or, is_some, ◌&&◌}
 use Rattle.std.specs.List.{range_with_len}
 use Rattle.std.proofs.Math.ListN.{length-set}
 use Rattle.std.proofs.Math.Nat.{pow-suc, pow-zero}
 use Rattle.std.proofs.lemmas.Bool.{and_from, cases_eq, cases_lt}
 use Rattle.std.proofs.lemmas.Bool.Decides.{nat_tests}
-use Rattle.std.proofs.lemmas.List.{get_or-map, get_or-replicate, get_or-set_other, get_or-set_same, length-append,
-    length-map, length-replicate, map_push}
-use Rattle.std.proofs.lemmas.List.FromFn.{fill_by_all, get_or-map-range_with_len, length-map-range_with_len,
-    map-range_with_len_more}
+use Rattle.std.proofs.lemmas.List.{get_or-map, get_or-replicate, get_or-set_other, get_or-set_same, length-append}
+use Rattle.std.proofs.lemmas.List.{length-map, length-replicate, map_push}
+use Rattle.std.proofs.lemmas.List.FromFn.{fill_by_all, get_or-map-range_with_len, length-map-range_with_len}
+use Rattle.std.proofs.lemmas.List.FromFn.{map-range_with_len_more}
 use Rattle.std.proofs.lemmas.Nat.{mod_below}
 use Rattle.dp_spec.specs.Front.{AgentFront}
 use Rattle.dp_spec.specs.Merge.{merged_agent, renumbered, without, kept_class}
@@ -20,8 +20,8 @@ use Rattle.dp_spec.proofs.JointNumberLaws.{part_below, positive_right, row_below
 use Rattle.dp_laws.proofs.MergedAgents.{get_or-without_above, get_or-without_below, length-without}
 use Rattle.dp_laws.proofs.MergedFronts.{kept_high, kept_low}
 use Rattle.dp_cluster.specs.declared.part.PastStage.{PastStage}
-use Rattle.dp_cluster.specs.AgentParts.{AreMergedStages, ArePastStages, OwnPart, actions_after, class_after,
-    class_led_to, part_of, past_classes}
+use Rattle.dp_cluster.specs.AgentParts.{AreMergedStages, ArePastStages, OwnPart, actions_after, class_after}
+use Rattle.dp_cluster.specs.AgentParts.{class_led_to, part_of, past_classes}
 use Rattle.dp_cluster.specs.PastClasses.{classes_of}
 
 -- ---- lists made from functions
@@ -404,7 +404,8 @@ after_choice n ss ss' k i cs cs' v c a is lt stages all chosen =
     let part : part_of n ss' k cs' ≡ record (part_of n ss k cs)
     { chosen = set (part_of n ss k cs).chosen c (Some a) } =
     (λ j. part_of n (stages j) k (list j)) ∙ part_with_choice n ss k cs c a (below_count n ss k cs v c is lt) in
-    (λ j. record { observations = n; front = part j; past = past_classes n (stages j) }) ∙ ap (λ (w : OwnPart). chosen_in w c a) is
+    (λ j. record { observations = n; front = part j; past = past_classes n (stages j) })
+    ∙ ap (λ (w : OwnPart). chosen_in w c a) is
 
 -- the actions of all classes
 pub after_advance : (n : ℕ) (ss ss' : List PastStage) (k i : ℕ) (cs cs' : List (Option ℕ)) (s : PastStage)
@@ -482,4 +483,5 @@ after_merge n ss ss' k i cs cs' v a b is ab lt stages past all chosen =
     let part : part_of n ss' (k - 1) cs' ≡ merged_agent a b (part_of n ss k cs) =
     ap (part_of n ss' (k - 1)) list ∙ parts_merged n k cs a b ab (below_count n ss k cs v b is lt)
     ss ss' stages past in
-    (λ j. record { observations = n; front = part j; past = past_as_before n a b ss ss' stages j }) ∙ ap (λ (w : OwnPart). merged_in w a b) is
+    (λ j. record { observations = n; front = part j; past = past_as_before n a b ss ss' stages j })
+    ∙ ap (λ (w : OwnPart). merged_in w a b) is

@@ -1,6 +1,6 @@
 // One agent's part of a front.
-ghost use Rattle.std.specs.Prelude.{◌≡◌, ◌<◌, ◌≤◌, ◌+◌, ◌-◌, ◌*◌, ◌^◌, [], ◌∷◌, ◌++◌, ℕ, List, drop, map,
-    length, get_or, set, None, Some, IfOk};
+ghost use Rattle.std.specs.Prelude.{◌≡◌, ◌<◌, ◌≤◌, ◌+◌, ◌-◌, ◌*◌, ◌^◌, [], ◌∷◌, ◌++◌, ℕ, List, drop, map, length};
+ghost use Rattle.std.specs.Prelude.{get_or, set, None, Some, IfOk};
 ghost use Rattle.std.specs.List.{range_with_len};
 ghost use Rattle.dp_spec.specs.Front.{AgentFront};
 ghost use Rattle.dp_spec.specs.Steps.{all_chosen, advanced_agent};
@@ -8,8 +8,8 @@ ghost use Rattle.dp_spec.specs.Merge.{merged_agent, renumbered, kept_class};
 ghost use Rattle.dp_spec.specs.FullPolicy.{tree_doing, tree_doing_after};
 ghost use Rattle.dp_spec.specs.SharedPolicy.{AgentRows, AreAgentRows, next_count, unfolded_tree};
 ghost use Rattle.dp_policy.specs.TreeValue.{policy_tree};
-ghost use Rattle.dp_cluster.specs.AgentParts.{AreMergedStages, ArePastStages, IsReached, action_after, class_after,
-    class_led_to, root_part};
+ghost use Rattle.dp_cluster.specs.AgentParts.{AreMergedStages, ArePastStages, IsReached, action_after, class_after};
+ghost use Rattle.dp_cluster.specs.AgentParts.{class_led_to, root_part};
 ghost use Rattle.dp_cluster.specs.FullRows.{rows_before, stage_rows};
 ghost use Rattle.dp_cluster.specs.PastClasses.{HasRowEachClass, classes_of, no_classes};
 

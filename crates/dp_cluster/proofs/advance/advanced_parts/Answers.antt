@@ -3,8 +3,8 @@ use Rattle.std.proofs.lemmas.List.{map_push}
 use Rattle.dp_spec.specs.Steps.{advanced_agents}
 use Rattle.dp_cluster.specs.AgentParts.{OwnPart}
 use Rattle.dp_cluster.specs.PastClasses.{past_after}
-use Rattle.dp_cluster.proofs.AdvancedParts.{advanced_length, next_taken, part_advanced_is, part_has_classes,
-    part_has_members, part_past_is, part_room, part_seen_is, taken_whole}
+use Rattle.dp_cluster.proofs.AdvancedParts.{advanced_length, next_taken, part_advanced_is, part_has_classes}
+use Rattle.dp_cluster.proofs.AdvancedParts.{part_has_members, part_past_is, part_room, part_seen_is, taken_whole}
 use Rattle.dp_cluster.proofs.ClassesBehind.{after_length}
 use Rattle.dp_cluster.proofs.ChosenActions.{seen_of}
 use Rattle.dp_cluster.proofs.advance.advanced_parts.Goals as goal
