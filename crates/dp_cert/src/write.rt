@@ -1,14 +1,37 @@
 //! Certificate texts written.
-ghost use Rattle.std.specs.Prelude.{◌≡◌, ◌++◌, ◌∷◌, ◌==◌, [], cond, true, false, codes, decimal, map, length, IfOk,
-    OnOk};
+ghost use Rattle.std.specs.Prelude.{
+  ◌≡◌,
+  ◌++◌,
+  ◌∷◌,
+  ◌==◌,
+  [],
+  cond,
+  true,
+  false,
+  codes,
+  decimal,
+  map,
+  length,
+  IfOk,
+  OnOk,
+};
 ghost use Rattle.std.specs.Fmt.{signed_decimal};
 ghost use Rattle.dp_spec.specs.Certificate.{HasPolicyOfVersion};
 ghost use Rattle.dp_spec.specs.CertificateText.{certificate_text};
 ghost use Rattle.dp_spec.specs.Model.{Model};
 ghost use Rattle.dp_tree.specs.TreeValue.{bound_tree};
 ghost use Rattle.dp_cert.specs.CertificateBytes.{actions_bytes, agents_bytes, certificate_bytes, counted_bytes};
-ghost use Rattle.dp_cert.specs.CertificateBytes.{counts_bytes, head_bytes, interval_bytes, manner_bytes, node_bytes,
-    plain_bytes, row_bytes, row_tail, rows_bytes};
+ghost use Rattle.dp_cert.specs.CertificateBytes.{
+  counts_bytes,
+  head_bytes,
+  interval_bytes,
+  manner_bytes,
+  node_bytes,
+  plain_bytes,
+  row_bytes,
+  row_tail,
+  rows_bytes,
+};
 ghost use Rattle.dp_cert.specs.CertificateBytes.{signed_bytes, stages_bytes, three_bytes};
 ghost use Rattle.dp_cert.specs.CertificateValue.{certificate_of};
 
