@@ -1,0 +1,5 @@
+mod RowDraws
+mod TreesAlong
+mod JointActions
+mod Played
+mod EpisodeRows
