@@ -9,6 +9,7 @@ ghost use Rattle.dp_spec.specs.Front.{class_counts};
 ghost use Rattle.dp_spec.specs.JointNumbers.{parts_of, product};
 ghost use Rattle.dp_spec.specs.WellFormed.{IsFront};
 ghost use Rattle.dp_spec.specs.Model.{joint_actions};
+ghost use Rattle.dp_pomdp.specs.Rooms.{IsRoomFor};
 ghost use Rattle.dp_check.specs.Bounding.{AreChoices, with_greater, AreLookAheads, IsBounding, IsWithRoom,
     arithmetic_of, look_ahead_at};
 
@@ -66,27 +67,23 @@ fn push_class(
     requires front { IsWithRoom m.now.model bounds.now front.now }
     requires stage { front.now.front.stage < bounds.now.fit.horizon }
     requires class { class < product (class_counts front.now.front.agents) }
-    requires room { bounds.now.look * m.now.model.states ≤ room.old }
+    requires room { IsRoomFor bounds.now.fit.exact m.now.model bounds.now.look room.old }
     ensures row { IfOk result (λ _. all.new.items ≡ all.old.items ++
         map (look_ahead_at m.now.model bounds.now front.now.front class)
         (range_with_len 0 (joint_actions m.now.model))) }
-    ensures room { room.new ≡ room.old }
+    ensures room { IsRoomFor bounds.now.fit.exact m.now.model bounds.now.look room.new }
 {
-    m.invariant();
     let weights = front.class_weights(class);
     let stage = front.stage();
-    for action in 0..m.joint_actions() {
-        let bound = room.action_bound(
-            m,
-            bounds.fit,
-            &bounds.table,
-            weights,
-            stage,
-            action,
-            bounds.look,
-        );
-        all.push(bound)?;
-    }
+    room.push_row(
+        m,
+        bounds.fit,
+        &bounds.table,
+        weights,
+        stage,
+        bounds.look,
+        all,
+    )?;
     Ok(())
 }
 
