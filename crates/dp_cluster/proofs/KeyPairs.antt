@@ -1,27 +1,27 @@
 -- The pairs along the one joint history of a joint class, where no classes were joined.
-use Rattle.std.proofs.Common.{◌≡◌, inl, inr, ℕ, zero, suc, ◌+◌, ◌-◌, ◌*◌, ◌/◌, ◌%◌, ◌^◌, ◌<◌, ◌≤◌, List, [], ◌∷◌}
-use Rattle.std.proofs.Common.{◌++◌, map, length, get_or, take, append_assoc, add-one, refl, sym, ap, ◌∙◌, subst, arith}
-use Rattle.std.proofs.lemmas.Nat.{div-mul-add, mod-mul-add}
+use Rattle.std.proofs.Common.{◌≡◌, ℕ, zero, suc, ◌+◌, ◌-◌, ◌/◌, ◌%◌, ◌^◌, ◌<◌, List, [], ◌∷◌}
+use Rattle.std.proofs.Common.{◌++◌, length, get_or, take, append_assoc, add-one, refl, sym, ap, ◌∙◌, subst, arith}
+use Rattle.std.proofs.lemmas.Nat.{div-mul-add, mod-mul-add, mod_below}
 use Rattle.dp_spec.specs.Front.{AgentFront, Front, class_counts, fixed_actions, fixed_joint_action, joint_class}
 use Rattle.dp_spec.specs.Front.{next_own_histories, own_classes, own_histories}
 use Rattle.dp_spec.specs.JointHistory.{IsJointHistory}
-use Rattle.dp_spec.specs.JointNumbers.{joint_number, parts_of, product}
-use Rattle.dp_spec.specs.Model.{Model, joint_observations}
+use Rattle.dp_spec.specs.JointNumbers.{joint_number, parts_of}
+use Rattle.dp_spec.specs.Model.{IsModel, Model, joint_observations}
 use Rattle.dp_spec.specs.Steps.{root_agent}
-use Rattle.dp_spec.specs.WellFormed.{AreAgentFronts, AreApart, IsFront, KeepsHistoriesApart}
-use Rattle.dp_spec.specs.WellFormed.AreAgentFronts.{and_agent, no_agents}
+use Rattle.dp_spec.specs.WellFormed.{AreApart, KeepsHistoriesApart}
 use Rattle.dp_spec.proofs.JointNumberLaws.{AreBelow, joint_number-parts_of, joint_number_below, parts_below}
 use Rattle.dp_spec.proofs.JointNumberLaws.{parts_of-joint_number}
 use Rattle.dp_laws.proofs.AdvancedFronts.{classes_below}
 use Rattle.dp_laws.proofs.LoneHistories.{alone, some_member}
 use Rattle.dp_laws.proofs.OwnHistories.{Within, own_histories_within}
+use Rattle.dp_model.specs.Parts.{AreParts}
 use Rattle.dp_cluster.specs.AgentParts.{OwnPart}
-use Rattle.dp_cluster.specs.Keys.{HasNumbersAt, HasNumbersOf, HasOwnNumbers, HasSharedClass, IsKeyOf, IsOnlyHistory}
+use Rattle.dp_cluster.specs.Keys.{HasNumbersAt, HasNumbersOf, HasOwnNumbers, HasSharedClass, IsKeyOf}
 use Rattle.dp_cluster.specs.Keys.{last_seen, pairs_along, without_last}
 use Rattle.dp_cluster.specs.KeptFronts.{IsFrontOf, KeptFront}
 use Rattle.dp_cluster.specs.PastClasses.{PastClasses, no_classes}
-use Rattle.dp_cluster.proofs.AdvancedParts.{read_front, read_seen, take_more}
-use Rattle.dp_cluster.proofs.ChosenActions.{seen_of}
+use Rattle.dp_cluster.proofs.AdvancedParts.{agent_at, read_front, read_seen, seen_positive, take_more}
+use Rattle.dp_cluster.proofs.ChosenActions.{agents_of, seen_of}
 
 -- ---- lists of parts, agent by agent
 
@@ -79,6 +79,33 @@ within_at [] t xs i w lt = absurd (omega arith)
 within_at (n ∷ ns) t [] i w lt = absurd w
 within_at (n ∷ ns) t (x ∷ xs) zero w lt = w.0
 within_at (n ∷ ns) t (x ∷ xs) (suc i) w lt = within_at ns t xs i w.1 (omega arith)
+
+-- last observations are parts of a joint observation
+pub seen_parts : (m : Model) (own : List ℕ) → IsModel m → length own ≡ length m.observations
+    → AreParts m.observations (last_seen m.observations own)
+seen_parts m own is e = record {
+  alike = seen_long m.observations own e;
+  below = λ i lt.
+      let read = seen_read m.observations own i 0 e lt in
+      let below = mod_below (get_or own i 0) (get_or m.observations i 0) (seen_positive m is i lt) in
+      subst (λ (z : ℕ). z < get_or m.observations i 0) (sym read) below;
+}
+
+-- fixed actions are parts of a joint action
+pub action_parts : (m : Model) (k : KeptFront) (t : ℕ) (own : List ℕ) → IsFrontOf m k → t < k.front.stage
+    → Within m.observations t own → AreParts m.actions (fixed_actions k.front.agents t own)
+action_parts m k t own is lt within =
+    let seen = seen_of is.front.agents in
+    let actions = agents_of is.front.agents in
+    let long = within_long m.observations t own within in
+    let counted = actions_long k.front.agents t own (omega arith) in record {
+      alike = omega arith;
+      below = λ i inside.
+          let read = actions_read k.front.agents t own i 0 (omega arith) (omega arith) in
+          let below = (agent_at is.front.agents i (omega arith)).fixed_below t (get_or own i 0) lt
+          (within_at m.observations t own i within (omega arith)) in
+          subst (λ (z : ℕ). z < get_or m.actions i 0) (sym read) below;
+    }
 
 -- ---- one step back
 
@@ -225,6 +252,15 @@ module _ (m : Model) (k : KeptFront) (is : IsFrontOf m k) (i : ℕ) (inside : i 
         ∙ own.before t x (omega (arith, at_stage)) (subst (λ (n : ℕ). x < n ^ t) own_seen below);
   }
 
+  -- an own history of an earlier stage leads to the class of its number
+  pub own_class : get_or k.past i [] ≡ p.past → HasNumbersAt m k i → (t x : ℕ) → t < k.front.stage
+      → x < get_or m.observations i 0 ^ t
+      → (x < p.observations ^ t) × (get_or (get_or p.past t no_classes).class_of x 0 ≡ x)
+  own_class past own t x lt below = (
+    subst (λ (n : ℕ). x < n ^ t) own_seen below,
+    ap (λ (l : List PastClasses). get_or (get_or l t no_classes).class_of x 0) (sym past) ∙ own.before t x lt below,
+  )
+
   apart_at : (f : ℕ) (ns : List ℕ) (ds : List AgentFront) (i : ℕ) → i < length ns → i < length ds → AreApart f ns ds
       → (x y : ℕ) → x < get_or ns i 0 ^ f → y < get_or ns i 0 ^ f
       → get_or (get_or ds i root_agent).class_of x 0 ≡ get_or (get_or ds i root_agent).class_of y 0 → x ≡ y
@@ -294,8 +330,7 @@ module _ (m : Model) (k : KeptFront) (is : IsFrontOf m k) (own : HasNumbersOf m 
         let within = own_within m k.front.stage some.0 some.1 in
         let same : own_classes k.front.agents (own_histories m.observations some.0) ≡ classes =
         sym (parts_of-joint_number counts _ (classes_below is.front.agents _ within))
-        ∙ ap (parts_of counts) some.2 ∙ parts_of-joint_number counts classes below in
-        (
+        ∙ ap (parts_of counts) some.2 ∙ parts_of-joint_number counts classes below in (
           some.0,
           some.1,
           sym (classes_are_histories k.front.stage m.observations k.front.agents _ (seen_of is.front.agents)
@@ -308,8 +343,7 @@ module _ (m : Model) (k : KeptFront) (is : IsFrontOf m k) (own : HasNumbersOf m 
         → own_histories m.observations H ≡ classes → pairs ≡ pairs_along (fixed_joint_action m k.front) H)
         → IsKeyOf m k.front (joint_number (class_counts k.front.agents) classes) pairs
     key_is pairs along =
-        let H = class_history.0 in
-        (
+        let H = class_history.0 in (
           H,
           record {
             history = class_history.1;

@@ -1,6 +1,6 @@
 -- Parts where no classes were joined: each own history has its own number for its class.
 use Rattle.std.proofs.Common.{◌≡◌, inl, inr, ◌⊎◌, ℕ, zero, suc, ◌+◌, ◌-◌, ◌*◌, ◌/◌, ◌%◌, ◌^◌, ◌<◌, ◌≤◌, List, [], ◌∷◌}
-use Rattle.std.proofs.Common.{◌++◌, map, length, get_or, drop, Option, refl, sym, ap, ◌∙◌, subst, arith}
+use Rattle.std.proofs.Common.{map, length, get_or, drop, Option, refl, sym, ap, ◌∙◌, subst, arith}
 use Rattle.std.specs.List.{range_with_len}
 use Rattle.std.specs.declared.alloc.Global.{Global}
 use Rattle.std.specs.declared.rc.Rc.{Rc}
@@ -8,8 +8,7 @@ use Rattle.std.proofs.Math.Nat.{pow-suc, pow-zero}
 use Rattle.std.proofs.Math.Seq.{drop-cons}
 use Rattle.std.proofs.lemmas.Bool.{cases_lt}
 use Rattle.std.proofs.lemmas.List.{length-drop, length-map}
-use Rattle.std.proofs.lemmas.Nat.{mod_below}
-use Rattle.dp_spec.proofs.JointNumberLaws.{part_below, positive_right, row_below}
+use Rattle.dp_spec.proofs.JointNumberLaws.{part_below, row_below}
 use Rattle.dp_cluster.specs.declared.part.PastStage.{PastStage}
 use Rattle.dp_cluster.specs.AgentParts.{ArePastStages, HaveNoLinks, LeadTogether, OwnPart, class_after, class_led_to}
 use Rattle.dp_cluster.specs.AgentParts.{part_of, past_classes}
@@ -56,22 +55,25 @@ past_numbers n (s ∷ ss) none t x lt below =
 
 -- ---- with links
 
+pub none_left : (xs : List ℕ) → length xs ≡ 0 → xs ≡ []
+none_left [] e = refl
+none_left (x ∷ xs) e = absurd (omega arith)
+
 nil_or_not : (xs : List ℕ) → (xs ≡ []) ⊎ (¬ (xs ≡ []))
 nil_or_not [] = inl refl
 nil_or_not (x ∷ xs) = inr (λ e. cc)
 
 pub links_lead_together : (n : ℕ) (ss : List PastStage) → 0 < n → ArePastStages n ss → (¬ HaveNoLinks ss)
     → LeadTogether n ss
-links_lead_together n [] some past no = absurd (no tt)
-links_lead_together n (s ∷ ss) some past no =
+links_lead_together n [] some past linked = absurd (linked tt)
+links_lead_together n (s ∷ ss) some past linked =
     elim (nil_or_not s.links.items) [
       | inl e ↦
-          let before = links_lead_together n ss some past.2 (λ none. no (e, none)) in
+          let before = links_lead_together n ss some past.2 (λ none. linked (e, none)) in
           let x = before.0 in
           let y = before.1 in
           let less = row_below x y n 0 before.2 some in
-          let x_below : x < n ^ length ss = let lt = before.2 in let le = before.3 in omega arith in
-          (
+          let x_below : x < n ^ length ss = let lt = before.2 in let le = before.3 in omega arith in (
             x * n + 0,
             y * n + 0,
             omega arith,
@@ -79,7 +81,7 @@ links_lead_together n (s ∷ ss) some past no =
             leads_on n s ss past x 0 some ∙ ap (λ (c : ℕ). class_led_to s (c * n + 0)) before.4
                 ∙ sym (leads_on n s ss past y 0 some),
           )
-      | inr linked ↦ past.4 linked
+      | inr here ↦ past.4 here
     ]
 
 -- ---- the stage that others are behind
@@ -117,11 +119,10 @@ module _ (n : ℕ) (ss : List PastStage) (k : ℕ) (cs : List (Option ℕ)) (pas
       }
 
   shared_in : 0 < n → (¬ HaveNoLinks ss) → HasSharedClass (own_part n ss k cs)
-  shared_in some no =
+  shared_in some linked =
       let stage = part_stage n ss k cs in
-      let two = links_lead_together n ss some past no in
-      let x_below : two.0 < n ^ length ss = let lt = two.2 in let le = two.3 in omega arith in
-      (
+      let two = links_lead_together n ss some past linked in
+      let x_below : two.0 < n ^ length ss = let lt = two.2 in let le = two.3 in omega arith in (
         two.0,
         two.1,
         two.2,
@@ -169,11 +170,26 @@ module _ (n : ℕ) (ss : List PastStage) (k : ℕ) (cs : List (Option ℕ)) (pas
     action_fixed x c below e =
         let below' : x < n ^ length rest = subst (λ (z : ℕ). x < n ^ z) (sym rest_long) below in
         sym (
-          ap (λ (z : ℕ). get_or (get_or (own_part n ss k cs).front.fixed z []) x 0) (sym rest_long)
-          ∙ ap (λ (l : List ℕ). get_or l x 0) (stage_actions n (length ss - 1 - t) ss rest s here)
-          ∙ made_at (n ^ length rest) x 0 (λ y. get_or s.actions.items (class_after n rest y) 0) below'
-          ∙ ap (λ (z : ℕ). get_or s.actions.items z 0) (sym (class_here x below) ∙ e)
+        ap (λ (z : ℕ). get_or (get_or (own_part n ss k cs).front.fixed z []) x 0) (sym rest_long)
+        ∙ ap (λ (l : List ℕ). get_or l x 0) (stage_actions n (length ss - 1 - t) ss rest s here)
+        ∙ made_at (n ^ length rest) x 0 (λ y. get_or s.actions.items (class_after n rest y) 0) below'
+        ∙ ap (λ (z : ℕ). get_or s.actions.items z 0) (sym (class_here x below) ∙ e)
         )
+
+    module _ (v : OwnPart) (is : own_part n ss k cs ≡ v) (c : ℕ) where
+      pub has_action : (x : ℕ) × (x < v.observations ^ t) × (get_or (get_or v.past t no_classes).class_of x 0 ≡ c)
+          → c < length s.actions.items
+      has_action some =
+          let P : OwnPart → Type 0 = λ v. (x : ℕ) × (x < v.observations ^ t)
+          × (get_or (get_or v.past t no_classes).class_of x 0 ≡ c) in
+          let own = subst P (sym is) some in class_has_action own.0 c own.1 own.2
+
+      pub action_is : (a : ℕ) → a ≡ get_or s.actions.items c 0 → (x : ℕ) → x < v.observations ^ t
+          → get_or (get_or v.past t no_classes).class_of x 0 ≡ c → a ≡ get_or (get_or v.front.fixed t []) x 0
+      action_is a ea =
+          let P : OwnPart → Type 0 = λ v. (x : ℕ) → x < v.observations ^ t
+          → get_or (get_or v.past t no_classes).class_of x 0 ≡ c → a ≡ get_or (get_or v.front.fixed t []) x 0 in
+          subst P is (λ x below e. ea ∙ action_fixed x c below e)
 
   module _ (v : OwnPart) (is : own_part n ss k cs ≡ v) where
     pub own_numbers : HaveNoLinks ss → HasOwnNumbers v
@@ -181,6 +197,15 @@ module _ (n : ℕ) (ss : List PastStage) (k : ℕ) (cs : List (Option ℕ)) (pas
 
     pub shared_class : 0 < v.observations → (¬ HaveNoLinks ss) → HasSharedClass v
     shared_class = subst (λ (v : OwnPart). 0 < v.observations → (¬ HaveNoLinks ss) → HasSharedClass v) is shared_in
+
+-- the stage of a time that is read of shared stages
+pub stage_back : (past : List (Rc PastStage Global)) (t : ℕ) (r : Rc PastStage Global) (s : PastStage)
+    → t < length past → r ≡ get_or past (length past - 1 - t) r → s ≡ r.value
+    → s ≡ get_or (map (λ s. s.value) past) (length (map (λ s. s.value) past) - 1 - t) s
+stage_back past t r s lt read is =
+    let size = length-map past (λ (q : Rc PastStage Global). q.value) in
+    subst (λ (z : ℕ). s ≡ get_or (map (λ q. q.value) past) (z - 1 - t) s) (sym size)
+    (stage_at past (length past - 1 - t) r s (omega arith) read is)
 
 -- ---- stage by stage
 

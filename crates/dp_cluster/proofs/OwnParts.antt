@@ -20,7 +20,8 @@ use Rattle.dp_spec.proofs.JointNumberLaws.{part_below, positive_right, row_below
 use Rattle.dp_laws.proofs.MergedAgents.{get_or-without_above, get_or-without_below, length-without}
 use Rattle.dp_laws.proofs.MergedFronts.{kept_high, kept_low}
 use Rattle.dp_cluster.specs.declared.part.PastStage.{PastStage}
-use Rattle.dp_cluster.specs.AgentParts.{AreMergedStages, ArePastStages, HasMembers, LeadTogether, OwnPart, actions_after, class_after}
+use Rattle.dp_cluster.specs.AgentParts.{AreMergedStages, ArePastStages, HasMembers, LeadTogether, OwnPart}
+use Rattle.dp_cluster.specs.AgentParts.{actions_after, class_after}
 use Rattle.dp_cluster.specs.AgentParts.{class_led_to, part_of, past_classes}
 use Rattle.dp_cluster.specs.PastClasses.{classes_of}
 

@@ -18,12 +18,7 @@ impl Front {
     /// The key of a joint class, one class for each agent, before the horizon: the joint action and the
     /// joint observation of each step of its one joint history, the earliest step first. `None` exactly
     /// where some class of some agent holds more than one own history. The error is want of memory.
-    pub fn key(
-        &self,
-        alloc: Global,
-        m: &Model,
-        classes: &[u32],
-    ) -> Result<Option<Vec<u32>>, Memory>
+    pub fn key(&self, alloc: Global, m: &Model, classes: &[u32]) -> Result<Option<Vec<u32>>, Memory>
         requires of_model { IsFrontOf m.now.model self.now }
         requires stage { self.now.front.stage < self.now.horizon }
         requires classes { AreParts (class_counts self.now.front.agents) classes.now }
