@@ -28,7 +28,8 @@ use Rattle.dp_cluster.proofs.ChosenActions.{agents_of, seen_of}
 pub taken_next : (ys all all' : List ℕ) (new i : ℕ) → i < length ys → new ≡ get_or ys i new → all' ≡ all ++ new ∷ []
     → all ≡ take i ys → all' ≡ take (i + 1) ys
 taken_next ys all all' new i lt e pushed before =
-    pushed ∙ ap (λ l. l ++ new ∷ []) before ∙ sym (take_more ys i new lt e) ∙ ap (λ (n : ℕ). take n ys) (sym (add-one i))
+    pushed ∙ ap (λ l. l ++ new ∷ []) before ∙ sym (take_more ys i new lt e)
+    ∙ ap (λ (n : ℕ). take n ys) (sym (add-one i))
 
 pub shorter_long : (ns xs : List ℕ) → length xs ≡ length ns → length (without_last ns xs) ≡ length ns
 shorter_long [] xs e = refl

@@ -23,4 +23,5 @@ pub mod OwnPlaces
 pub mod OwnRuns
 pub mod RunsOfWeights
 pub mod WeightRows
+pub mod WideFronts
 pub mod Widening

@@ -1,21 +1,15 @@
--- Classes without an action, counted one after the other.
-use Rattle.std.proofs.Common.{◌≡◌, ℕ, zero, suc, ◌+◌, ◌<◌, ◌≤◌, Bool, true, false, List, [], ◌∷◌, length, get_or,
-    drop, add-one, Option, Some, None, refl, sym, ap, ◌∙◌, arith}
-use Rattle.std.specs.Prelude.{is_none, is_some, not, ◌&&◌, ◌==◌, nat_lt}
+-- Wide fronts: classes without an action, counted one after the other.
+use Rattle.std.proofs.Common.{◌≡◌, ℕ, zero, suc, ◌+◌, ◌<◌, ◌≤◌, Bool, true, false, List, [], ◌∷◌, length, get_or}
+use Rattle.std.proofs.Common.{drop, add-one, Option, Some, None, refl, sym, ap, ◌∙◌, arith}
+use Rattle.std.specs.Prelude.{is_none, is_some, not, ◌==◌}
 use Rattle.std.proofs.lemmas.Bool.Decides.{nat_tests}
 use Rattle.std.proofs.Math.Seq.{drop-cons}
+use Rattle.std.proofs.lemmas.List.{drop_all}
 use Rattle.dp_spec.specs.Front.{AgentFront, Front, class_counts}
-use Rattle.dp_spec.specs.Reasons.{is_unassigned}
 use Rattle.dp_spec.specs.Steps.{root_agent}
 use Rattle.dp_spec.specs.Model.{Model}
 use Rattle.dp_spec.specs.Wide.{is_wide, none_count, unassigned_count, widens}
 use Rattle.dp_cluster.specs.KeptFronts.{choice_at}
-
-drop_all : {X : Type 0} (xs : List X) (i : ℕ) → length xs ≤ i → drop i xs ≡ []
-drop_all [] zero le = refl
-drop_all [] (suc i) le = refl
-drop_all (x ∷ xs) zero le = absurd (omega arith)
-drop_all (x ∷ xs) (suc i) le = drop_all xs i (omega arith)
 
 -- ---- the classes of an agent
 
@@ -49,7 +43,7 @@ counted_none os c k total lt none e =
 
 pub counted_all : (os : List (Option ℕ)) (c k total : ℕ) → length os ≤ c → k + none_count (drop c os) ≡ total
     → k ≡ total
-counted_all os c k total le e = let all = ap none_count (drop_all os c le) in
+counted_all os c k total le e = let all = ap none_count (drop_all c os le) in
     let last = ap (λ z. k + z) (sym all)
     ∙ e in omega arith
 
@@ -64,23 +58,10 @@ counted_agent ds i k total here lt is e =
 
 pub counted_agents : (ds : List AgentFront) (i k total : ℕ) → length ds ≤ i
     → k + unassigned_count (drop i ds) ≡ total → k ≡ total
-counted_agents ds i k total le e = let all = ap unassigned_count (drop_all ds i le) in
+counted_agents ds i k total le e = let all = ap unassigned_count (drop_all i ds le) in
     let last = ap (λ z. k + z) (sym all) ∙ e in omega arith
 
--- ---- whether one has none
-
-pub no_agent : (ds : List AgentFront) (i c : ℕ) → length ds ≤ i → is_unassigned i c ds ≡ false
-no_agent [] i c le = refl
-no_agent (d ∷ ds) zero c le = absurd (omega arith)
-no_agent (d ∷ ds) (suc i) c le = no_agent ds i c (omega arith)
-
-pub unassigned_at : (ds : List AgentFront) (i c : ℕ) → i < length ds
-    → is_unassigned i c ds ≡ (nat_lt c (get_or (class_counts ds) i 0) && is_none (choice_at ds i c))
-unassigned_at [] i c lt = absurd (omega arith)
-unassigned_at (d ∷ ds) zero c lt = refl
-unassigned_at (d ∷ ds) (suc i) c lt = unassigned_at ds i c (omega arith)
-
--- ---- whether a node is wide
+-- ---- whether a front is wide
 
 -- with 2048 branches and merges above it a node is wide, where a step is left
 pub wide_below : (m : Model) (h above : ℕ) (F : Front) → F.stage < h → is_wide m h above F ≡ false
@@ -109,7 +90,7 @@ last_widens m h above F w lt less last is = grind (arith, nat_tests)
 
 -- ---- as the code reads a class
 
-none_test : (o : Option ℕ) (t : Bool) → is_some o ≡ not t → t ≡ is_none o
+pub none_test : (o : Option ℕ) (t : Bool) → is_some o ≡ not t → t ≡ is_none o
 none_test None true e = refl
 none_test None false e = absurd (let bad : false ≡ true = e in cc)
 none_test (Some a) true e = absurd (let bad : true ≡ false = e in cc)
@@ -133,22 +114,3 @@ pub read_none : (ds : List AgentFront) (i c : ℕ) (o : Option ℕ) (t : Bool) �
     → is_some o ≡ not t
     → is_none (get_or (get_or ds i root_agent).chosen c None) ≡ t
 read_none ds i c o t lt e test = sym (none_test o t test ∙ ap is_none (e ∙ chosen_read ds i c lt))
-
--- whether it exists and has none
-pub no_class : (ds : List AgentFront) (i c : ℕ) → i < length ds → get_or (class_counts ds) i 0 ≤ c
-    → false ≡ is_unassigned i c ds
-no_class ds i c lt le = sym (unassigned_at ds i c lt ∙ not_below c (get_or (class_counts ds) i 0)
-    (is_none (choice_at ds i c)) le)
-  where
-    not_below : (c n : ℕ) (t : Bool) → n ≤ c → (nat_lt c n && t) ≡ false
-    not_below c n t le = grind (arith, nat_tests)
-
-pub class_none : (ds : List AgentFront) (i c : ℕ) (o : Option ℕ) (t : Bool) → i < length ds
-    → c < get_or (class_counts ds) i 0
-    → o ≡ choice_at ds i c → is_some o ≡ not t → t ≡ is_unassigned i c ds
-class_none ds i c o t lt inside e test =
-    none_test o t test ∙ ap is_none e ∙ sym (unassigned_at ds i c lt
-    ∙ below c (get_or (class_counts ds) i 0) (is_none (choice_at ds i c)) inside)
-  where
-    below : (c n : ℕ) (t : Bool) → c < n → (nat_lt c n && t) ≡ t
-    below c n t lt = grind (arith, nat_tests)

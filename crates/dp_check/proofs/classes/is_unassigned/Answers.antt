@@ -1,7 +1,7 @@
 use Rattle.std.proofs.Common.{◌<◌, length, get_or, sym, arith}
 use Rattle.dp_spec.specs.Front.{class_counts}
-use Rattle.dp_check.proofs.WideNodes.{class_none, no_agent, no_class}
-use Rattle.dp_check.proofs.wide.is_unassigned.Goals as goal
+use Rattle.dp_check.proofs.FreeClasses.{class_none, no_agent, no_class}
+use Rattle.dp_check.proofs.classes.is_unassigned.Goals as goal
 
 pub returns-then-agent-agents : goal.returns-then-agent-agents
 returns-then-agent-agents c = sym (no_agent c.args.front.now.front.agents c.args.agent c.args.class

@@ -1,7 +1,7 @@
 use Rattle.std.proofs.Common.{◌≡◌, ◌<◌, true, length, sym, ◌∙◌, arith, rules}
 use Rattle.dp_check.specs.Walks.{has_no_pairs}
 use Rattle.dp_check.proofs.EquivalentPairs.{and_false, no_pair_next, pair_found}
-use Rattle.dp_check.proofs.wide.has_no_pairs.Goals as goal
+use Rattle.dp_check.proofs.classes.has_no_pairs.Goals as goal
 
 pub returns-in-Some : goal.returns-in-Some
 returns-in-Some c =

@@ -1,11 +1,11 @@
 use Rattle.std.proofs.Common.{◌<◌, ◌≤◌, ◌^◌, length, ap, arith, eqb, rules}
 use Rattle.dp_spec.specs.Wide.{unassigned_count}
-use Rattle.dp_search.proofs.WideNodes.{counted_agent, counted_agents}
-use Rattle.dp_search.proofs.wide.has_last_choice.Goals as goal
+use Rattle.dp_cluster.proofs.WideFronts.{counted_agent, counted_agents}
+use Rattle.dp_cluster.proofs.front.Front.has_last_choice.Goals as goal
 
 pub loop-agent-preserved : goal.loop-agent-preserved
 loop-agent-preserved c =
-    let ds = c.args.front.now.front.agents in
+    let ds = c.args.self.now.front.agents in
     let lt : c.loop-agent.agent < length ds = omega (
       arith,
       c.agents-agent-end.ensures,
@@ -18,7 +18,7 @@ loop-agent-preserved c =
 
 pub returns : goal.returns
 returns c =
-    let ds = c.args.front.now.front.agents in
+    let ds = c.args.self.now.front.agents in
     let le : length ds ≤ c.loop-agent.agent = omega (
       arith,
       c.agents-agent-end.ensures,

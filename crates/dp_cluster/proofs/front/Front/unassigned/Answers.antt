@@ -1,13 +1,13 @@
 use Rattle.std.proofs.Common.{◌+◌, ◌<◌, ◌≤◌, drop, get_or, length, ap, ◌∙◌, arith}
 use Rattle.dp_spec.specs.Steps.{root_agent}
 use Rattle.dp_spec.specs.Wide.{none_count}
-use Rattle.dp_check.proofs.WideNodes.{classes_read, counted_all, counted_none, counted_one, read_none}
-use Rattle.dp_check.proofs.wide.unassigned_of.Goals as goal
-use Rattle.dp_check.proofs.wide.unassigned_of.Goals.{then-is_none, else-is_none}
+use Rattle.dp_cluster.proofs.WideFronts.{classes_read, counted_all, counted_none, counted_one, read_none}
+use Rattle.dp_cluster.proofs.front.Front.unassigned.Goals as goal
+use Rattle.dp_cluster.proofs.front.Front.unassigned.Goals.{then-is_none, else-is_none}
 
 pub loop-class-preserved : goal.loop-class-preserved
 loop-class-preserved c =
-    let ds = c.args.front.now.front.agents in
+    let ds = c.args.self.now.front.agents in
     let os = (get_or ds c.args.agent root_agent).chosen in
     let long = classes_read ds c.args.agent c.requires in
     let lt : c.loop-class.class < length os = omega (
@@ -35,7 +35,7 @@ loop-class-preserved c =
 
 pub returns : goal.returns
 returns c =
-    let ds = c.args.front.now.front.agents in
+    let ds = c.args.self.now.front.agents in
     let os = (get_or ds c.args.agent root_agent).chosen in
     let long = classes_read ds c.args.agent c.requires in
     let le : length os ≤ c.loop-class.class = omega (
