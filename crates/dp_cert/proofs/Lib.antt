@@ -16,4 +16,9 @@ pub mod ReadPlainRows
 pub mod ReadHeads
 pub mod ReadCertificates
 pub mod ReadTexts
+pub mod LineReads
+pub mod TreeReads
+pub mod PlainReads
+pub mod SharedReads
+pub mod CertificateReads
 pub mod WrittenTexts

@@ -125,7 +125,7 @@ spelled_words : (ws : List (List ℕ)) → spelled_items (fixed_form ws) [] ≡ 
 spelled_words [] = refl
 spelled_words (w ∷ ws) = ap (λ (l : List (List ℕ)). w ∷ l) (spelled_words ws)
 
-allowed_words : (ws : List (List ℕ)) → Allows (fixed_form ws) []
+pub allowed_words : (ws : List (List ℕ)) → Allows (fixed_form ws) []
 allowed_words [] = tt
 allowed_words (w ∷ ws) = allowed_words ws
 

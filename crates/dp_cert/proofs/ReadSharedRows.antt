@@ -331,13 +331,13 @@ cell_few [] t all = omega arith
 cell_few (c ∷ cells) zero all = all.0
 cell_few (c ∷ cells) (suc t) all = cell_few cells t all.1
 
-product_at : (cells xs : List ℕ) (t : ℕ) → get_or (products cells xs) t 0 ≡ get_or cells t 0 * get_or xs t 0
+pub product_at : (cells xs : List ℕ) (t : ℕ) → get_or (products cells xs) t 0 ≡ get_or cells t 0 * get_or xs t 0
 product_at [] xs t = omega arith
 product_at (c ∷ cells) [] t = omega arith
 product_at (c ∷ cells) (x ∷ xs) zero = refl
 product_at (c ∷ cells) (x ∷ xs) (suc t) = product_at cells xs t
 
-count_at : (stages : AgentRows) (t : ℕ) → get_or (stage_counts stages) t 0 ≡ row_count stages t
+pub count_at : (stages : AgentRows) (t : ℕ) → get_or (stage_counts stages) t 0 ≡ row_count stages t
 count_at [] t = refl
 count_at (rows ∷ stages) zero = refl
 count_at (rows ∷ stages) (suc t) = count_at stages t

@@ -1,5 +1,5 @@
 -- What the functions that read parts of a certificate text answer.
-use Rattle.std.specs.Prelude.{ℕ, List, Option, Some, None, Result, Ok, Err}
+use Rattle.std.specs.Prelude.{◌≡◌, ℕ, List, Option, Some, None, Result, Ok, Err}
 use Rattle.dp_model.specs.declared.limit.TooLarge.{TooLarge}
 use Rattle.dp_lines.specs.Grammar.{Grammar, IsText, IsFirstBad, PassesLimit, Fault, bad, limit}
 use Rattle.dp_lines.specs.Reading.{HasFault, GivesOr}
@@ -27,3 +27,10 @@ Answers view (Ok x) g bytes = IsText g bytes (view x)
 Answers view (Err (faults.At line why)) g bytes = IsFirstBad g 1 bytes line why
 Answers view (Err (faults.TooLarge passed)) g bytes = PassesLimit g bytes passed
 Answers view (Err faults.Memory) g bytes = Unit {0}
+
+-- what was read, seen by view, is this, or memory ran out
+abbrev pub IsReadAs : {X V : Type 0} → (X → V) → Result X CertFault → V → Type 0
+IsReadAs view (Ok x) v = view x ≡ v
+IsReadAs view (Err (faults.At line why)) v = ⊥
+IsReadAs view (Err (faults.TooLarge passed)) v = ⊥
+IsReadAs view (Err faults.Memory) v = Unit {0}

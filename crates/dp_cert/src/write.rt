@@ -20,8 +20,11 @@ ghost use Rattle.dp_spec.specs.Certificate.{HasPolicyOfVersion};
 ghost use Rattle.dp_spec.specs.CertificateText.{certificate_text};
 ghost use Rattle.dp_spec.specs.Model.{Model};
 ghost use Rattle.dp_tree.specs.TreeValue.{bound_tree};
-ghost use Rattle.dp_cert.specs.CertificateBytes.{actions_bytes, agents_bytes, certificate_bytes, counted_bytes};
 ghost use Rattle.dp_cert.specs.CertificateBytes.{
+  actions_bytes,
+  agents_bytes,
+  certificate_bytes,
+  counted_bytes,
   counts_bytes,
   head_bytes,
   interval_bytes,
@@ -29,10 +32,12 @@ ghost use Rattle.dp_cert.specs.CertificateBytes.{
   node_bytes,
   plain_bytes,
   row_bytes,
-  row_tail,
   rows_bytes,
+  signed_bytes,
+  stages_bytes,
+  three_bytes,
 };
-ghost use Rattle.dp_cert.specs.CertificateBytes.{signed_bytes, stages_bytes, three_bytes};
+ghost use Rattle.dp_lines.specs.Lines.{row_tail};
 ghost use Rattle.dp_cert.specs.CertificateValue.{certificate_of};
 
 use crate::Certificate;
