@@ -1,5 +1,6 @@
 //! The game of a front.
-ghost use Rattle.std.specs.Prelude.{◌≡◌, ◌<◌, ◌-◌, ℕ, true, [], Some, None, length, get_or, slice_index, IfOk};
+ghost use Rattle.std.specs.Prelude.{◌≡◌, ◌<◌, ◌-◌, ℕ, true, [], Some, None, length, get_or, slice_index, IfOk,
+    IfSome};
 ghost use Rattle.dp_spec.specs.Arithmetic.{arithmetic};
 ghost use Rattle.dp_spec.specs.Fitting.{front_bound};
 ghost use Rattle.dp_spec.specs.Front.{Front as PlainFront};
@@ -128,6 +129,22 @@ impl Game {
             result ≡ front_bound (arithmetic (is_exact_mode m h) m.scales) m h look F }
     {
         self.bound
+    }
+
+    /// The action that is chosen for a class, or none.
+    #[inline]
+    pub fn choice(&self, agent: u32, class: u32) -> Option<u32>
+        requires agent { agent < length self.now.choices }
+        requires class { class < length (get_or self.now.choices agent []) }
+        ensures is { result ≡ own_choice self.now agent class }
+        ensures action { IfSome result (λ a. a < slice_index self.now.actions agent) }
+    {
+        self.invariant();
+        let own = &self.choices[agent as usize];
+        match own.at(class as usize) {
+            None => None,
+            Some(action) => Some(u32::from(action)),
+        }
     }
 
     /// Chooses an action for a class that has none. It takes no memory.

@@ -14,3 +14,4 @@ pub mod BranchPlaces
 pub mod Expansions
 pub mod PlannerFronts
 pub mod PlannedCertificates
+pub mod UnderwayFronts
