@@ -1,42 +1,15 @@
 //! Certificate texts written.
-ghost use Rattle.std.specs.Prelude.{
-  ◌≡◌,
-  ◌++◌,
-  ◌∷◌,
-  ◌==◌,
-  [],
-  cond,
-  true,
-  false,
-  codes,
-  decimal,
-  map,
-  length,
-  IfOk,
-  OnOk,
-};
+ghost use Rattle.std.specs.Prelude.{◌≡◌, ◌++◌, ◌∷◌, ◌==◌, [], cond, true, false, codes, decimal, map, length, IfOk};
+ghost use Rattle.std.specs.Prelude.{OnOk};
 ghost use Rattle.std.specs.Fmt.{signed_decimal};
 ghost use Rattle.dp_spec.specs.Certificate.{HasPolicyOfVersion};
 ghost use Rattle.dp_spec.specs.CertificateText.{certificate_text};
 ghost use Rattle.dp_spec.specs.Model.{Model};
 ghost use Rattle.dp_tree.specs.TreeValue.{bound_tree};
-ghost use Rattle.dp_cert.specs.CertificateBytes.{
-  actions_bytes,
-  agents_bytes,
-  certificate_bytes,
-  counted_bytes,
-  counts_bytes,
-  head_bytes,
-  interval_bytes,
-  manner_bytes,
-  node_bytes,
-  plain_bytes,
-  row_bytes,
-  rows_bytes,
-  signed_bytes,
-  stages_bytes,
-  three_bytes,
-};
+ghost use Rattle.dp_cert.specs.CertificateBytes.{actions_bytes, agents_bytes, certificate_bytes, counted_bytes};
+ghost use Rattle.dp_cert.specs.CertificateBytes.{counts_bytes, head_bytes, interval_bytes, manner_bytes, node_bytes};
+ghost use Rattle.dp_cert.specs.CertificateBytes.{plain_bytes, row_bytes, rows_bytes, signed_bytes, stages_bytes};
+ghost use Rattle.dp_cert.specs.CertificateBytes.{three_bytes};
 ghost use Rattle.dp_lines.specs.Lines.{row_tail};
 ghost use Rattle.dp_cert.specs.CertificateValue.{certificate_of};
 

@@ -11,7 +11,8 @@ pub record KeptRoom : Type 0 where
   pub looks : List KeptLook
   pub rows : List KeptLook
 
--- It is room for looks of at most so many steps over the states of a model, in the arithmetic of a mode: what it keeps
+-- It is room for looks of at most so many steps over the states of a model, in the arithmetic of a mode: what it
+-- keeps
 -- are look-aheads.
 pub record IsRoomFor (e : Bool) (m : Model) (look : ℕ) (room : KeptRoom) : Type 0 where
   pub long : look * m.states ≤ room.buffers
