@@ -1,14 +1,10 @@
 -- Classes that exist and have no action.
-use Rattle.std.proofs.Common.{◌≡◌, ℕ, zero, suc, ◌+◌, ◌<◌, ◌≤◌, Bool, true, false, List, [], ◌∷◌, length, get_or}
-use Rattle.std.proofs.Common.{drop, add-one, Option, Some, None, refl, sym, ap, ◌∙◌, arith}
-use Rattle.std.specs.Prelude.{is_none, is_some, not, ◌&&◌, ◌==◌, nat_lt}
+use Rattle.std.proofs.Common.{◌≡◌, ℕ, zero, suc, ◌<◌, ◌≤◌, Bool, false, List, [], ◌∷◌, length, get_or, Option, refl}
+use Rattle.std.proofs.Common.{sym, ap, ◌∙◌, arith}
+use Rattle.std.specs.Prelude.{is_none, is_some, not, ◌&&◌, nat_lt}
 use Rattle.std.proofs.lemmas.Bool.Decides.{nat_tests}
-use Rattle.std.proofs.Math.Seq.{drop-cons}
-use Rattle.dp_spec.specs.Front.{AgentFront, Front, class_counts}
+use Rattle.dp_spec.specs.Front.{AgentFront, class_counts}
 use Rattle.dp_spec.specs.Reasons.{is_unassigned}
-use Rattle.dp_spec.specs.Steps.{root_agent}
-use Rattle.dp_spec.specs.Model.{Model}
-use Rattle.dp_spec.specs.Wide.{is_wide, none_count, unassigned_count, widens}
 use Rattle.dp_cluster.specs.KeptFronts.{choice_at}
 use Rattle.dp_cluster.proofs.WideFronts.{none_test}
 
