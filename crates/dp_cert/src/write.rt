@@ -21,14 +21,15 @@ use dp_tree::Tree;
 use itoa::Buffer;
 use std::alloc::Global;
 
-/// The one text of a certificate that fits a model. It takes memory linear in the text, and time linear in
-/// the certificate. The error is want of memory.
+/// The one text of a certificate that fits a model, whose lines allow all its numbers. It takes memory linear
+/// in the text, and time linear in the certificate. The error is want of memory.
 pub fn write_cert(alloc: Global, certificate: &Certificate) -> Result<Vec<u8>, Memory>
     ensures bytes { IfOk result (λ text. text.items ≡ certificate_bytes (certificate_of certificate.now)) }
     ensures text { IfOk result (λ text. (m : Model) → HasPolicyOfVersion m (certificate_of certificate.now) →
         text.items ≡ certificate_text m.actions m.observations (certificate_of certificate.now)) }
-    ensures spelled { IfOk result (λ text. (m : Model) → IsModel m → IsCertificateOf m (certificate_of certificate.now) →
-        IsCertificateText m text.items (certificate_of certificate.now)) }
+    ensures spelled { IfOk result (λ text. (m : Model) → IsModel m
+        → IsCertificateOf m (certificate_of certificate.now)
+        → IsCertificateText m text.items (certificate_of certificate.now)) }
 {
     let text = written(alloc, certificate)?;
     Ok(text)
