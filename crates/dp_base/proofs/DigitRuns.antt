@@ -1,6 +1,6 @@
 -- The digits at the front of a text, one by one.
-use Rattle.std.proofs.Common.{◌≡◌, ℕ, ◌+◌, ◌-◌, ◌<◌, ◌≤◌, true, false, leb, inl, inr, List, [], ◌∷◌, ◌++◌, length,
-    get_or, take, sym, ap, subst, ◌∙◌, append_assoc, arith}
+use Rattle.std.proofs.Common.{◌≡◌, ℕ, ◌+◌, ◌-◌, ◌<◌, ◌≤◌, true, false, leb, inl, inr, List, [], ◌∷◌, ◌++◌, length}
+use Rattle.std.proofs.Common.{get_or, take, sym, ap, subst, ◌∙◌, append_assoc, arith}
 use Rattle.std.specs.Char.{is_ascii_digit}
 use Rattle.std.specs.List.{prefix_len}
 use Rattle.std.proofs.lemmas.Bool.{and_parts, leb-true}
@@ -24,7 +24,7 @@ pub run_more : (text : List ℕ) (i : ℕ) → i ≤ prefix_len is_ascii_digit t
 run_more text i le lt digit =
     elim (equal_or_less i (prefix_len is_ascii_digit text) le) [
       | inl e ↦ let stop = prefix_len_stops is_ascii_digit text 0 (omega arith) in let here = rw (← e) at stop in
-            absurd cc
+          absurd cc
       | inr more ↦ omega arith
     ]
 
@@ -51,7 +51,7 @@ seen_more ds text i s lt digit seen =
     let back : 48 + (get_or text i 0 - 48) ≡ get_or text i 0 = omega arith in
     let same : (ds ++ take i text) ++ (48 + (get_or text i 0 - 48)) ∷ [] ≡ ds ++ take (i + 1) text =
     append_assoc ds (take i text) (_ ∷ []) ∙ ap (λ b. ds ++ (take i text ++ b ∷ [])) back
-        ∙ ap (λ (l : List ℕ). ds ++ l) (sym (take_more text i 0 lt)) in
+    ∙ ap (λ (l : List ℕ). ds ++ l) (sym (take_more text i 0 lt)) in
     subst (λ (l : List ℕ). IsSeen l s) same seen
 
 -- one of all of them

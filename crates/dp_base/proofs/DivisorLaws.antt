@@ -1,9 +1,9 @@
 -- The least common multiple by the greatest common divisor.
 use Rattle.std.proofs.Common.{◌≡◌, ℕ, zero, suc, ◌+◌, ◌*◌, ◌/◌, ◌%◌, ◌<◌, ◌≤◌, refl, sym, ap, subst, arith}
 use Rattle.std.specs.Int.{◌∣◌, IsGcd}
-use Rattle.std.proofs.Math.Nat.{dvd-add_iff_left, dvd-mod_iff, dvd-mul_left, dvd-mul_right, dvd-mul_right_of_dvd,
-    mul-pos, mul-dvd-mul_left, mul-dvd-mul_right, div-mul_cancel, pos_of_dvd_of_pos, dvd_of_mul-dvd-mul_right,
-    mod-add-div}
+use Rattle.std.proofs.Math.Nat.{dvd-add_iff_left, dvd-mod_iff, dvd-mul_left, dvd-mul_right, dvd-mul_right_of_dvd}
+use Rattle.std.proofs.Math.Nat.{mul-pos, mul-dvd-mul_left, mul-dvd-mul_right, div-mul_cancel, pos_of_dvd_of_pos}
+use Rattle.std.proofs.Math.Nat.{dvd_of_mul-dvd-mul_right, mod-add-div}
 use Rattle.std.proofs.lemmas.Nat.Gcd.{same_from_IsGcd, IsGcd-from_zero, IsGcd-from_mod, dvd_antisymm, le_of_dvd}
 use Rattle.dp_base.specs.Divisors.{IsLcm, gcd_within, gcd_of, lcm_of}
 
@@ -18,7 +18,7 @@ dvd-scaled steps n a zero g d le h p q = subst (λ k. d ∣ n * k)
 dvd-scaled zero n a (suc b) g d le h p q = absurd (omega arith)
 dvd-scaled (suc steps) n a (suc b) g d le h p q =
     let split : n * (a % suc b) + n * suc b * (a / suc b) ≡ n * a =
-        spread n (a % suc b) (suc b) (a / suc b) a (mod-add-div a (suc b)) in
+    spread n (a % suc b) (suc b) (a / suc b) a (mod-add-div a (suc b)) in
     let more : d ∣ n * suc b * (a / suc b) = dvd-mul_right_of_dvd d q (a / suc b) in
     let rest : d ∣ n * (a % suc b) = (dvd-add_iff_left d more).1 (subst (λ k. d ∣ k) (sym split) p) in
     let less : a % suc b ≤ steps = omega arith in

@@ -1,6 +1,6 @@
 -- Division rounded down and up.
-use Rattle.std.proofs.Common.{◌≡◌, ℕ, zero, suc, ◌*◌, ◌/◌, ◌<◌, ◌≤◌, ℤ, pos, negsuc, ◌*ℤ◌, neg_ℤ, ◌≤ℤ◌, unsigned_abs,
-    arith}
+use Rattle.std.proofs.Common.{◌≡◌, ℕ, zero, suc, ◌*◌, ◌/◌, ◌<◌, ◌≤◌, ℤ, pos, negsuc, ◌*ℤ◌, neg_ℤ, ◌≤ℤ◌, unsigned_abs}
+use Rattle.std.proofs.Common.{arith}
 use Rattle.std.proofs.lemmas.Int.{ints}
 use Rattle.std.proofs.Math.Nat.{div-lt_iff_lt-mul, div-mul-le_self, mul-le-mul_left}
 use Rattle.dp_base.specs.Rounding.{ceiling_of, floor_of, mul_down, mul_up}
@@ -49,7 +49,7 @@ unfolding mul_up ceiling_of
 part_abs (pos n) p d some le = let both = part_up n p d some le in omega (arith, ints)
 part_abs (negsuc n) p d some le =
     let e = turned_twice (suc n * p) d in let q = quotient_most (suc n * p) (suc n) d some
-        (mul-le-mul_left (suc n) le) in omega arith
+    (mul-le-mul_left (suc n) le) in omega arith
   where
     turned_twice : (k d : ℕ) → unsigned_abs (neg_ℤ (floor_of (neg_ℤ (neg_ℤ (pos k))) d)) ≡ k / d
     turned_twice zero d = unsigned_abs-neg (pos (0 / d))

@@ -1,6 +1,7 @@
 -- The test of the decimal shape is passed exactly by the texts with its parts.
-use Rattle.std.proofs.Common.{◌≡◌, ℕ, suc, ◌+◌, ◌<◌, Bool, true, false, ◌&&◌, ◌||◌, eqb, leb, ltb, ◌⊎◌, inl, inr,
-    List, [], ◌∷◌, ◌++◌, length, take, drop, refl, sym, ap, subst, ◌∙◌, append_assoc, length-append, arith}
+use Rattle.std.proofs.Common.{◌≡◌, ℕ, suc, ◌+◌, ◌<◌, Bool, true, false, ◌&&◌, ◌||◌, eqb, leb, ltb, ◌⊎◌, inl, inr}
+use Rattle.std.proofs.Common.{List, [], ◌∷◌, ◌++◌, length, take, drop, refl, sym, ap, subst, ◌∙◌, append_assoc}
+use Rattle.std.proofs.Common.{length-append, arith}
 use Rattle.std.specs.Prelude.{IsTrue, ◌↔◌}
 use Rattle.std.specs.List.{prefix_len, list_all}
 use Rattle.std.specs.Char.{is_ascii_digit}
@@ -9,10 +10,10 @@ use Rattle.std.proofs.lemmas.List.{take-append-drop, append-nil}
 use Rattle.std.proofs.Math.Seq.{drop-append_seam}
 use Rattle.std.proofs.lemmas.List.Folds.{length-prefix_len}
 use Rattle.dp_base.specs.Bytes.{is_sign}
-use Rattle.dp_base.specs.DecimalShape.{first, unsigned, digit_count, after_digits, is_power, is_exponent,
-    is_magnitude, is_decimal}
-use Rattle.dp_base.specs.DecimalGrammar.{AreDigits, IsOptionalSign, IsOptionalPoint, IsPower, IsOptionalExponent,
-    HasDecimalShape}
+use Rattle.dp_base.specs.DecimalShape.{first, unsigned, digit_count, after_digits, is_power, is_exponent}
+use Rattle.dp_base.specs.DecimalShape.{is_magnitude, is_decimal}
+use Rattle.dp_base.specs.DecimalGrammar.{AreDigits, IsOptionalSign, IsOptionalPoint, IsPower, IsOptionalExponent}
+use Rattle.dp_base.specs.DecimalGrammar.{HasDecimalShape}
 use Rattle.dp_base.proofs.DigitRuns.{digit_low}
 use Rattle.dp_base.proofs.Magnitudes.{pointed_shape, plain_shape}
 
@@ -60,10 +61,14 @@ power_true : (text : List ℕ) → IsPower text → is_power (unsigned text) ≡
 power_true text p =
     let number : unsigned text ≡ p.digits =
     ap unsigned p.text_is ∙ unsigned_of p.sign p.digits p.sign_is
-        (subst (λ (l : List ℕ). is_sign (first l) ≡ false) (append-nil p.digits)
-        (first_no_sign p.digits [] p.digits_are p.some)) in
-    rw (number, le-leb 1 (length p.digits) (omega (arith, p.some)), le-leb (length p.digits) 3 p.few,
-        p.digits_are) refl
+    (subst (λ (l : List ℕ). is_sign (first l) ≡ false) (append-nil p.digits)
+    (first_no_sign p.digits [] p.digits_are p.some)) in
+    rw (
+      number,
+      le-leb 1 (length p.digits) (omega (arith, p.some)),
+      le-leb (length p.digits) 3 p.few,
+      p.digits_are,
+    ) refl
 
 -- and so does an exponent
 exponent_true : (text : List ℕ) → IsOptionalExponent text → is_exponent text ≡ true
@@ -89,7 +94,7 @@ digits_append : (a b : List ℕ) → AreDigits a → AreDigits b → AreDigits (
 digits_append [] b p q = q
 digits_append (x ∷ a) b p q =
     rw (and_parts (is_ascii_digit x) (list_all is_ascii_digit a) p).0
-        (digits_append a b (and_parts (is_ascii_digit x) (list_all is_ascii_digit a) p).1 q)
+    (digits_append a b (and_parts (is_ascii_digit x) (list_all is_ascii_digit a) p).1 q)
 
 -- digits and an exponent pass the test
 plain_true : (ds exponent : List ℕ) → AreDigits ds → 0 < length ds → IsOptionalExponent exponent
@@ -99,7 +104,7 @@ plain_true ds exponent all some e =
     let after = after_front ds exponent all other in
     let miss : eqb (first (after_digits (ds ++ exponent))) 46 ≡ false = rw after (exponent_no_point exponent e) in
     let count : ltb 0 (digit_count (ds ++ exponent)) ≡ true =
-        rw (front_count ds exponent all other) (lt-ltb 0 (length ds) some) in
+    rw (front_count ds exponent all other) (lt-ltb 0 (length ds) some) in
     let exp : is_exponent (after_digits (ds ++ exponent)) ≡ true = rw after (exponent_true exponent e) in
     plain_shape (ds ++ exponent) miss count exp
 
@@ -111,18 +116,21 @@ pointed_true whole fraction exponent w f some e =
     let other = exponent_no_digit exponent e in
     let number : List ℕ = whole ++ (46 ∷ (fraction ++ exponent)) in
     let after : after_digits (whole ++ (46 ∷ (fraction ++ exponent))) ≡ 46 ∷ (fraction ++ exponent) =
-        after_front whole (46 ∷ (fraction ++ exponent)) w refl in
+    after_front whole (46 ∷ (fraction ++ exponent)) w refl in
     let hit : eqb (first (after_digits (whole ++ (46 ∷ (fraction ++ exponent))))) 46 ≡ true = rw after refl in
     let counts : digit_count (whole ++ (46 ∷ (fraction ++ exponent))) + digit_count (fraction ++ exponent)
-        ≡ length whole + length fraction = omega (arith, front_count whole (46 ∷ (fraction ++ exponent)) w refl,
-        front_count fraction exponent f other) in
+    ≡ length whole + length fraction = omega (
+      arith,
+      front_count whole (46 ∷ (fraction ++ exponent)) w refl,
+      front_count fraction exponent f other,
+    ) in
     let count : ltb 0 (digit_count (whole ++ (46 ∷ (fraction ++ exponent)))
-        + digit_count (drop 1 (after_digits (whole ++ (46 ∷ (fraction ++ exponent)))))) ≡ true =
+    + digit_count (drop 1 (after_digits (whole ++ (46 ∷ (fraction ++ exponent)))))) ≡ true =
     ap (λ (l : List ℕ). ltb 0 (digit_count (whole ++ (46 ∷ (fraction ++ exponent))) + digit_count (drop 1 l))) after
-        ∙ lt-ltb 0 _ (omega (arith, counts, some)) in
+    ∙ lt-ltb 0 _ (omega (arith, counts, some)) in
     let exp : is_exponent (after_digits (drop 1 (after_digits (whole ++ (46 ∷ (fraction ++ exponent)))))) ≡ true =
     ap (λ (l : List ℕ). is_exponent (after_digits (drop 1 l))) after
-        ∙ ap is_exponent (after_front fraction exponent f other) ∙ exponent_true exponent e in
+    ∙ ap is_exponent (after_front fraction exponent f other) ∙ exponent_true exponent e in
     pointed_shape (whole ++ (46 ∷ (fraction ++ exponent))) hit count exp
 
 -- the parts behind the sign pass the test
@@ -131,11 +139,11 @@ magnitude_true : (whole mark fraction exponent : List ℕ) → AreDigits whole �
     → is_magnitude (whole ++ (mark ++ (fraction ++ exponent))) ≡ true
 magnitude_true whole [] fraction exponent w m f some e =
     subst (λ (l : List ℕ). is_magnitude l ≡ true) (append_assoc whole fraction exponent)
-        (plain_true (whole ++ fraction) exponent (digits_append whole fraction w f)
-        (omega (arith, length-append whole fraction, some)) e)
+    (plain_true (whole ++ fraction) exponent (digits_append whole fraction w f)
+    (omega (arith, length-append whole fraction, some)) e)
 magnitude_true whole (b ∷ []) fraction exponent w m f some e =
     subst (λ (p : ℕ). is_magnitude (whole ++ (p ∷ (fraction ++ exponent))) ≡ true) (sym m)
-        (pointed_true whole fraction exponent w f some e)
+    (pointed_true whole fraction exponent w f some e)
 magnitude_true whole (b ∷ c ∷ rest) fraction exponent w m f some e = absurd m
 
 -- and begin with no sign
@@ -195,12 +203,12 @@ exponent_parts (l ∷ power) h =
     let some : eqb (length (l ∷ power)) 0 ≡ false = ne_eqb _ 0 (λ e. absurd (omega arith)) in
     let both : ((eqb l 101 || eqb l 69) && is_power (unsigned power)) ≡ true = rw some at h in
     let which = or_cases (eqb l 101) (eqb l 69) (and_parts (eqb l 101 || eqb l 69)
-        (is_power (unsigned power)) both).0 in
+    (is_power (unsigned power)) both).0 in
     let digits = unsigned power in
     let test : ((leb 1 (length (unsigned power)) && leb (length (unsigned power)) 3) && list_all is_ascii_digit
-        (unsigned power)) ≡ true = (and_parts (eqb l 101 || eqb l 69) (is_power (unsigned power)) both).1 in
+    (unsigned power)) ≡ true = (and_parts (eqb l 101 || eqb l 69) (is_power (unsigned power)) both).1 in
     let count = (and_parts (leb 1 (length digits) && leb (length digits) 3)
-        (list_all is_ascii_digit digits) test).0 in
+    (list_all is_ascii_digit digits) test).0 in
     let s = split_sign power in (
       elim which as (λ x. (l ≡ 101) ⊎ (l ≡ 69)) [ inl e ↦ inl (eqb-true l 101 e) | inr e ↦ inr (eqb-true l 69 e) ],
       record {
@@ -233,7 +241,7 @@ module _ (text number : List ℕ) (s : Signed text) (same : number ≡ unsigned 
   pointed_parts : eqb (first rest) 46 ≡ true → is_magnitude number ≡ true → HasDecimalShape text
   pointed_parts hit h =
       let both : (ltb 0 (digit_count number + digit_count (drop 1 rest)) && is_exponent (after_digits (drop 1 rest)))
-          ≡ true = rw hit at h in
+      ≡ true = rw hit at h in
       let count = ltb-true 0 _ (and_parts (ltb 0 (digit_count number + digit_count (drop 1 rest))) _ both).0 in
       record {
         sign = s.sign;
@@ -244,14 +252,18 @@ module _ (text number : List ℕ) (s : Signed text) (same : number ≡ unsigned 
         text_is =
             s.text_is
             ∙ ap (λ (l : List ℕ). s.sign ++ l) (sym same ∙ split_run number
-                ∙ ap (λ (l : List ℕ). take (digit_count number) number ++ l) (head_point rest hit
-                ∙ ap (λ (l : List ℕ). 46 ∷ l) (split_run (drop 1 rest))));
+            ∙ ap (λ (l : List ℕ). take (digit_count number) number ++ l) (head_point rest hit
+            ∙ ap (λ (l : List ℕ). 46 ∷ l) (split_run (drop 1 rest))));
         sign_is = s.sign_is;
         whole_are = run_digits number;
         mark_is = refl;
         fraction_are = run_digits (drop 1 rest);
-        some = omega (arith, count, length-prefix_len is_ascii_digit number,
-            length-prefix_len is_ascii_digit (drop 1 rest));
+        some = omega (
+          arith,
+          count,
+          length-prefix_len is_ascii_digit number,
+          length-prefix_len is_ascii_digit (drop 1 rest),
+        );
         exponent_is = exponent_parts (after_digits (drop 1 rest))
             (and_parts (ltb 0 (digit_count number + digit_count (drop 1 rest)))
             (is_exponent (after_digits (drop 1 rest))) both).1;

@@ -1,6 +1,6 @@
 -- Laws of the greatest value of a function over a list, and over the numbers below n.
-use Rattle.std.proofs.Common.{◌≡◌, inl, inr, ℕ, ◌<◌, ◌≤◌, ℤ, pos, ◌+ℤ◌, ◌≤ℤ◌, unsigned_abs, List, [], ◌∷◌, length,
-    refl, subst, arith, ◌*ℤ◌, ap, sym, ◌∙◌}
+use Rattle.std.proofs.Common.{◌≡◌, inl, inr, ℕ, ◌<◌, ◌≤◌, ℤ, pos, ◌+ℤ◌, ◌≤ℤ◌, unsigned_abs, List, [], ◌∷◌, length}
+use Rattle.std.proofs.Common.{refl, subst, arith, ◌*ℤ◌, ap, sym, ◌∙◌}
 use Rattle.std.specs.Int.{int_max}
 use Rattle.std.proofs.lemmas.Int.{ints, clamps}
 use Rattle.dp_base.proofs.Members.{IsIn, IsIn-below, below-IsIn, some_in}
@@ -42,7 +42,7 @@ greatest_ext f g [] h = refl
 greatest_ext f g (x ∷ []) h = h x (inl refl)
 greatest_ext f g (x ∷ (y ∷ ys)) h =
     let rest : greatest f (y ∷ ys) ≡ greatest g (y ∷ ys) = greatest_ext f g (y ∷ ys) (λ a i. h a (inr i)) in
-        rw (h x (inl refl), rest)
+    rw (h x (inl refl), rest)
 
 max_of_sums : (a b c d p q : ℤ) → p ≤ℤ (a +ℤ b) → q ≤ℤ (c +ℤ d) → int_max p q ≤ℤ (int_max a c +ℤ int_max b d)
 max_of_sums a b c d p q h g = omega (arith, ints, clamps)
@@ -54,7 +54,7 @@ greatest_of_sums f g e [] h = zle_of (pos 0) (pos 0 +ℤ pos 0) refl
 greatest_of_sums f g e (x ∷ []) h = h x (inl refl)
 greatest_of_sums f g e (x ∷ (y ∷ ys)) h =
     max_of_sums (f x) (g x) (greatest f (y ∷ ys)) (greatest g (y ∷ ys)) _ _ (h x (inl refl))
-        (greatest_of_sums f g e (y ∷ ys) (λ a i. h a (inr i)))
+    (greatest_of_sums f g e (y ∷ ys) (λ a i. h a (inr i)))
 
 max_mono : (a b c d : ℤ) → a ≤ℤ c → b ≤ℤ d → int_max a b ≤ℤ int_max c d
 max_mono a b c d p q = omega (arith, ints, clamps)

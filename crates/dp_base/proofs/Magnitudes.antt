@@ -1,6 +1,6 @@
 -- The value of a number, by its parts.
-use Rattle.std.proofs.Common.{◌≡◌, ℕ, ◌+◌, ◌*◌, ◌^◌, Bool, true, false, eqb, ltb, List, ◌++◌, drop, Result, refl, sym,
-    ap, ◌∙◌, arith}
+use Rattle.std.proofs.Common.{◌≡◌, ℕ, ◌+◌, ◌*◌, ◌^◌, Bool, true, false, eqb, ltb, List, ◌++◌, drop, Result, refl, sym}
+use Rattle.std.proofs.Common.{ap, ◌∙◌, arith}
 use Rattle.std.specs.Char.{is_ascii_digit}
 use Rattle.std.specs.List.{take_while}
 use Rattle.std.specs.Str.Parse.{digits_value}
@@ -10,8 +10,8 @@ use Rattle.std.proofs.lemmas.List.Folds.{length-prefix_len}
 use Rattle.dp_base.specs.declared.decimal.Decimal.{Decimal}
 use Rattle.dp_base.specs.declared.decimal.NumFault.{NumFault}
 use Rattle.dp_base.specs.DecimalShape.{first, digit_count, after_digits, is_exponent, is_magnitude}
-use Rattle.dp_base.specs.Decimals.{significand, numerator_tens, denominator_tens, tens_more, tens_less, judged,
-    shortest, magnitude_where}
+use Rattle.dp_base.specs.Decimals.{significand, numerator_tens, denominator_tens, tens_more, tens_less, judged}
+use Rattle.dp_base.specs.Decimals.{shortest, magnitude_where}
 
 -- of a significand over and under powers of ten
 abbrev value : Bool → ℕ → ℕ → ℕ → Result Decimal NumFault
@@ -23,8 +23,8 @@ by_parts : (negative : Bool) (number : List ℕ) (n up down : ℕ) → is_magnit
     → magnitude_where (is_magnitude number) negative number ≡ value negative n up down
 by_parts negative number n up down shape e f g =
     ap (λ b. magnitude_where b negative number) shape ∙ ap
-        (λ k. value negative k (numerator_tens number) (denominator_tens number)) e
-        ∙ ap (λ k. value negative n k (denominator_tens number)) f ∙ ap (value negative n up) g
+    (λ k. value negative k (numerator_tens number) (denominator_tens number)) e
+    ∙ ap (λ k. value negative n k (denominator_tens number)) f ∙ ap (value negative n up) g
 
 module _ (number : List ℕ) where
   -- what stands behind its first digits
@@ -84,29 +84,34 @@ pub same_pointed : (negative : Bool) (number rest after exponent : List ℕ) (wh
     → Begins number rest whole → Behind rest after exponent fraction
     → (whole + fraction ≡ 0 → ⊥) → is_exponent exponent ≡ true
     → judged (shortest negative (digits_value 10 (take_while is_ascii_digit number ++ take_while is_ascii_digit after)
-        * 10 ^ tens_more exponent) (fraction + tens_less exponent))
+    * 10 ^ tens_more exponent) (fraction + tens_less exponent))
     ≡ magnitude_where (is_magnitude number) negative number
 same_pointed negative number rest after exponent whole fraction b p none exp =
     let hit : eqb (first (after_digits number)) 46 ≡ true =
-        rw (← b.count_is, ← b.rest_is) (eq-eqb (first rest) 46 p.point_is) in
+    rw (← b.count_is, ← b.rest_is) (eq-eqb (first rest) 46 p.point_is) in
     let some : ltb 0 (digit_count number + digit_count (drop 1 (after_digits number))) ≡ true =
-        rw (← b.count_is, ← b.rest_is, ← p.after_is, ← p.count_is) (lt-ltb 0 (whole + fraction) (omega arith)) in
+    rw (← b.count_is, ← b.rest_is, ← p.after_is, ← p.count_is) (lt-ltb 0 (whole + fraction) (omega arith)) in
     let shape : is_exponent (after_digits (drop 1 (after_digits number))) ≡ true =
-        rw (← b.count_is, ← b.rest_is, ← p.after_is, ← p.count_is, ← p.exponent_is) exp in
-    rw (p.exponent_is, p.count_is, p.after_is, b.rest_is,
-        b.count_is) (sym (by_parts negative number _ _ _ (pointed_shape number hit some shape)
-        (pointed_digits number hit) (pointed_numerator number hit) (pointed_denominator number hit)))
+    rw (← b.count_is, ← b.rest_is, ← p.after_is, ← p.count_is, ← p.exponent_is) exp in
+    rw (
+      p.exponent_is,
+      p.count_is,
+      p.after_is,
+      b.rest_is,
+      b.count_is,
+    ) (sym (by_parts negative number _ _ _ (pointed_shape number hit some shape)
+    (pointed_digits number hit) (pointed_numerator number hit) (pointed_denominator number hit)))
 
 -- and for one without
 pub same_plain : (negative : Bool) (number rest : List ℕ) (whole : ℕ) → Begins number rest whole
     → (first rest ≡ 46 → ⊥) → (whole ≡ 0 → ⊥) → is_exponent rest ≡ true
     → judged (shortest negative (digits_value 10 (take_while is_ascii_digit number) * 10 ^ tens_more rest)
-        (0 + tens_less rest))
+    (0 + tens_less rest))
     ≡ magnitude_where (is_magnitude number) negative number
 same_plain negative number rest whole b other none exp =
     let miss : eqb (first (after_digits number)) 46 ≡ false =
-        rw (← b.count_is, ← b.rest_is) (ne_eqb (first rest) 46 other) in
+    rw (← b.count_is, ← b.rest_is) (ne_eqb (first rest) 46 other) in
     let some : ltb 0 (digit_count number) ≡ true = rw (← b.count_is) (lt-ltb 0 whole (omega arith)) in
     let shape : is_exponent (after_digits number) ≡ true = rw (← b.count_is, ← b.rest_is) exp in
     rw (b.rest_is, b.count_is) (sym (by_parts negative number _ _ _ (plain_shape number miss some shape)
-        (plain_digits number miss) (plain_numerator number miss) (plain_denominator number miss)))
+    (plain_digits number miss) (plain_numerator number miss) (plain_denominator number miss)))

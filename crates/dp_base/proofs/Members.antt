@@ -1,6 +1,6 @@
 -- Members of lists, of filtered lists and of the numbers below n.
-use Rattle.std.proofs.Common.{◌≡◌, ◌⊎◌, inl, inr, ℕ, zero, suc, ◌<◌, Bool, true, false, cond, List, [], ◌∷◌, length,
-    filter, refl, sym, ap, ◌∙◌, arith}
+use Rattle.std.proofs.Common.{◌≡◌, ◌⊎◌, inl, inr, ℕ, zero, suc, ◌<◌, Bool, true, false, cond, List, [], ◌∷◌, length}
+use Rattle.std.proofs.Common.{filter, refl, sym, ap, ◌∙◌, arith}
 use Rattle.dp_base.proofs.Order.{last_or_before}
 use Rattle.dp_base.specs.Sums.{numbers_below}
 

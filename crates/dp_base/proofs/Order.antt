@@ -27,8 +27,8 @@ pub le_of_mul_le_left : (t : ℕ) (a b : ℤ) → 0 < t → (pos t *ℤ a) ≤�
 le_of_mul_le_left t a b p h =
     by_lt_z b a
     (λ lt. let more = mul-le-mul_left t (lt_out b a lt) in
-        let e : t * suc (up b + down a) ≡ t * up b + t * down a + t = omega arith in
-        absurd (omega (arith, product_is (pos t) a, product_is (pos t) b, le_out _ _ h)))
+    let e : t * suc (up b + down a) ≡ t * up b + t * down a + t = omega arith in
+    absurd (omega (arith, product_is (pos t) a, product_is (pos t) b, le_out _ _ h)))
     (λ le. le)
 
 -- and on the right
@@ -54,13 +54,19 @@ mul_le_right n a b h = zle_trans _ _ _ (zle_of _ _ (zmul_comm a (pos n)))
 
 -- the greater of two is one of them
 pub max_is_either : (a b : ℤ) → (int_max a b ≡ a) ⊎ (int_max a b ≡ b)
-max_is_either a b = elim (le_total a b) [ inl le ↦ inr (omega (arith, ints, clamps)) | inr le ↦
-    inl (omega (arith, ints, clamps)) ]
+max_is_either a b = elim (le_total a b) [
+  | inl le ↦ inr (omega (arith, ints, clamps))
+  | inr le ↦
+      inl (omega (arith, ints, clamps))
+]
 
 -- so is the smaller
 pub min_is_either : (a b : ℤ) → (int_min a b ≡ a) ⊎ (int_min a b ≡ b)
-min_is_either a b = elim (le_total a b) [ inl le ↦ inl (omega (arith, ints, clamps)) | inr le ↦
-    inr (omega (arith, ints, clamps)) ]
+min_is_either a b = elim (le_total a b) [
+  | inl le ↦ inl (omega (arith, ints, clamps))
+  | inr le ↦
+      inr (omega (arith, ints, clamps))
+]
 
 -- the smaller of two is at most the second
 pub min_le_right : (a b : ℤ) → int_min a b ≤ℤ b

@@ -1,6 +1,6 @@
 -- What is read from a text, in terms of the number that it writes.
-use Rattle.std.proofs.Common.{◌≡◌, ◌≢◌, ℕ, zero, suc, ◌+◌, ◌-◌, ◌*◌, ◌/◌, ◌%◌, ◌^◌, ◌<◌, ◌≤◌, inl, inr, Bool, true,
-    false, eqb, List, Result, Ok, Err, ℤ, pos, ◌*ℤ◌, refl, sym, ap, subst, ◌∙◌, arith}
+use Rattle.std.proofs.Common.{◌≡◌, ◌≢◌, ℕ, zero, suc, ◌+◌, ◌-◌, ◌*◌, ◌/◌, ◌%◌, ◌^◌, ◌<◌, ◌≤◌, inl, inr, Bool, true}
+use Rattle.std.proofs.Common.{false, eqb, List, Result, Ok, Err, ℤ, pos, ◌*ℤ◌, refl, sym, ap, subst, ◌∙◌, arith}
 use Rattle.std.specs.Prelude.{unsigned_abs, IfOk, ◌↔◌, IsTrue}
 use Rattle.std.proofs.lemmas.Bool.{le-leb, lt-leb, lt-ltb, le-ltb, cases_lt, cases_eq, ne_eqb}
 use Rattle.std.proofs.lemmas.Int.{unsigned_abs-mul}
@@ -10,8 +10,8 @@ use Rattle.dp_base.specs.declared.decimal.Decimal.{Decimal}
 use Rattle.dp_base.specs.declared.decimal.NumFault.{NumFault}
 use Rattle.dp_base.specs.declared.decimal.NumFault.TheVariants.{Shape, Large, Digits}
 use Rattle.dp_base.specs.DecimalShape.{first, unsigned, is_magnitude, is_decimal}
-use Rattle.dp_base.specs.Decimals.{significand, numerator_tens, denominator_tens, signed, Writes, WritesShortest,
-    IsLarge, IsSmall, HasTooManyDigits, shortest, judged, decimal_of, IsRead}
+use Rattle.dp_base.specs.Decimals.{significand, numerator_tens, denominator_tens, signed, Writes, WritesShortest}
+use Rattle.dp_base.specs.Decimals.{IsLarge, IsSmall, HasTooManyDigits, shortest, judged, decimal_of, IsRead}
 use Rattle.dp_base.proofs.SignificandLaws.{some_tens, times_ten}
 use Rattle.dp_base.proofs.Shortest.{decimal_with, unsigned_abs-signed}
 
@@ -33,8 +33,14 @@ pub record ShortestForm (negative : Bool) (v down : ℕ) : Type 0 where
 
 -- a whole number is its own
 at_zero_digits : (negative : Bool) (v : ℕ) → ShortestForm negative v 0
-at_zero_digits negative v = record { n = v; k = 0; j = 0; is = refl; reduced =
-    record { sum = refl; value = omega arith; ends = λ lt. absurd (omega arith) } }
+at_zero_digits negative v = record {
+  n = v;
+  k = 0;
+  j = 0;
+  is = refl;
+  reduced =
+      record { sum = refl; value = omega arith; ends = λ lt. absurd (omega arith) };
+}
 
 -- a number that ends in 0 has that of its tenth
 ten_less : (negative : Bool) (v down : ℕ) → v % 10 ≡ 0 → ShortestForm negative (v / 10) down
@@ -44,22 +50,35 @@ ten_less negative v down none rest = record {
   k = rest.k;
   j = rest.j + 1;
   is = rw none rest.is;
-  reduced = record { sum = omega (arith, rest.reduced.sum); value =
-      omega (arith, times_ten rest.n rest.j, rest.reduced.value); ends = rest.reduced.ends };
+  reduced = record {
+    sum = omega (arith, rest.reduced.sum);
+    value =
+        omega (arith, times_ten rest.n rest.j, rest.reduced.value);
+    ends = rest.reduced.ends;
+  };
 }
 
 -- one that does not is its own
 not_less : (negative : Bool) (v down : ℕ) → v % 10 ≢ 0 → ShortestForm negative v (suc down)
-not_less negative v down some = record { n = v; k = suc down; j = 0; is = rw (ne_eqb (v % 10) 0 some) refl; reduced =
-    record { sum = omega arith; value = omega arith; ends = λ lt. some } }
+not_less negative v down some = record {
+  n = v;
+  k = suc down;
+  j = 0;
+  is = rw (ne_eqb (v % 10) 0 some) refl;
+  reduced =
+      record { sum = omega arith; value = omega arith; ends = λ lt. some };
+}
 
 -- it is as described
 pub shortest_form : (negative : Bool) (v down : ℕ) → ShortestForm negative v down
 shortest_form negative v zero = at_zero_digits negative v
 shortest_form negative v (suc down) =
     let rest = shortest_form negative (v / 10) down in
-    elim (cases_eq (v % 10) 0) [ inl none ↦ ten_less negative v down none rest | inr some ↦
-        not_less negative v down some ]
+    elim (cases_eq (v % 10) 0) [
+      | inl none ↦ ten_less negative v down none rest
+      | inr some ↦
+          not_less negative v down some
+    ]
 
 -- ---- the number that is written
 
@@ -85,24 +104,27 @@ ends_in q n e = omega arith
 -- and no form with fewer digits does
 form_least : (s up down v n k j m fewer : ℕ) → v ≡ s * 10 ^ up → IsReduced v down n k j
     → m * 10 ^ down ≡ s * 10 ^ (up + fewer) → k ≤ fewer
-form_least s up down v n k j m fewer e low writes = elim (cases_lt fewer k) [ inr le ↦ le | inl lt ↦
-    absurd (less lt) ]
+form_least s up down v n k j m fewer e low writes = elim (cases_lt fewer k) [
+  | inr le ↦ le
+  | inl lt ↦
+      absurd (less lt)
+]
   where
     less : fewer < k → ⊥
     less lt =
         let i : ℕ = k - fewer - 1 in
         let k_is : k ≡ i + 1 + fewer = omega arith in
         let down_is : 10 ^ down ≡ 10 ^ j * (10 ^ (i + 1) * 10 ^ fewer) =
-            ap (λ (d : ℕ). 10 ^ d) (sym low.sum ∙ ap (λ (q : ℕ). j + q) k_is) ∙ pow-add 10 j (i + 1 + fewer)
-            ∙ ap (λ p. 10 ^ j * p) (pow-add 10 (i + 1) fewer) in
+        ap (λ (d : ℕ). 10 ^ d) (sym low.sum ∙ ap (λ (q : ℕ). j + q) k_is) ∙ pow-add 10 j (i + 1 + fewer)
+        ∙ ap (λ p. 10 ^ j * p) (pow-add 10 (i + 1) fewer) in
         let left : m * 10 ^ down ≡ m * (10 ^ j * (10 ^ (i + 1) * 10 ^ fewer)) = ap (λ p. m * p) down_is in
         let right : s * 10 ^ (up + fewer) ≡ s * (10 ^ up * 10 ^ fewer) = ap (λ p. s * p) (pow-add 10 up fewer) in
         let value : n * 10 ^ j * 10 ^ fewer ≡ s * 10 ^ up * 10 ^ fewer = ap (λ p. p * 10 ^ fewer) (low.value ∙ e) in
         let both : m * 10 ^ (i + 1) * (10 ^ j * 10 ^ fewer) ≡ n * (10 ^ j * 10 ^ fewer) =
-            omega (arith, left, right, value, writes) in
+        omega (arith, left, right, value, writes) in
         let some : 0 < 10 ^ j * 10 ^ fewer = omega (arith, pow-add 10 j fewer, some_tens (j + fewer)) in
         let cancelled : m * 10 ^ (i + 1) ≡ n = eq_of_mul-eq-mul_right (10 ^ j * 10 ^ fewer) some
-            (m * 10 ^ (i + 1)) n both in
+        (m * 10 ^ (i + 1)) n both in
         let ten : m * 10 ^ i * 10 ≡ n = sym (times_ten m i) ∙ cancelled in
         low.ends (omega arith) (ends_in (m * 10 ^ i) n ten)
 
@@ -128,7 +150,7 @@ module _ (text : List ℕ) where
   writes_form =
       signed-mul negative form.n (10 ^ denominator_tens number)
       ∙ ap (signed negative) (form_value (significand number) (numerator_tens number)
-          (denominator_tens number) tens form.n form.k form.j refl form.reduced)
+      (denominator_tens number) tens form.n form.k form.j refl form.reduced)
       ∙ sym (signed-mul negative (significand number) (10 ^ (numerator_tens number + form.k)))
 
   -- magnitudes of two ways to write it
@@ -144,7 +166,7 @@ module _ (text : List ℕ) where
   least_form : (units : ℤ) (digits : ℕ) → Writes text units digits → form.k ≤ digits
   least_form units digits writes =
       form_least (significand number) (numerator_tens number) (denominator_tens number) tens form.n form.k form.j
-          (unsigned_abs units) digits refl form.reduced (magnitude_is units digits writes)
+      (unsigned_abs units) digits refl form.reduced (magnitude_is units digits writes)
 
   -- both
   shortest_writes : WritesShortest text (signed negative form.n) form.k
@@ -157,7 +179,7 @@ module _ (text : List ℕ) where
       large : (down v n k j : ℕ) → IsReduced v down n k j → 10 ^ (18 + k) ≤ n → 10 ^ (18 + down) ≤ v
       large down v n k j low le =
           let e : 10 ^ (18 + down) ≡ 10 ^ (18 + k) * 10 ^ j =
-              ap (λ (i : ℕ). 10 ^ i) (omega (arith, low.sum)) ∙ pow-add 10 (18 + k) j in
+          ap (λ (i : ℕ). 10 ^ i) (omega (arith, low.sum)) ∙ pow-add 10 (18 + k) j in
           omega (arith, e, low.value, mul-le-mul_right (10 ^ j) le)
 
   -- and below it where that is below
@@ -167,7 +189,7 @@ module _ (text : List ℕ) where
       small : (down v n k j : ℕ) → IsReduced v down n k j → n < 10 ^ (18 + k) → v < 10 ^ (18 + down)
       small down v n k j low lt =
           let e : 10 ^ (18 + down) ≡ 10 ^ (18 + k) * 10 ^ j =
-              ap (λ (i : ℕ). 10 ^ i) (omega (arith, low.sum)) ∙ pow-add 10 (18 + k) j in
+          ap (λ (i : ℕ). 10 ^ i) (omega (arith, low.sum)) ∙ pow-add 10 (18 + k) j in
           let all : (n + 1) * 10 ^ j ≤ 10 ^ (18 + k) * 10 ^ j = mul-le-mul_right (10 ^ j) (omega arith) in
           omega (arith, e, low.value, all, some_tens j)
 
@@ -201,8 +223,13 @@ outcome_where text true e =
           elim (cases_lt 18 f.k) [
             | inl more ↦
                 fine f.k e
-                (record { small = small_form text lt; more = more; units = signed negative f.n; shortest =
-                    shortest_writes text })
+                (record {
+                  small = small_form text lt;
+                  more = more;
+                  units = signed negative f.n;
+                  shortest =
+                      shortest_writes text;
+                })
                 (judged_form text e ∙ rw (abs, lt-leb (10 ^ (18 + f.k)) f.n lt, lt-ltb 18 f.k more) refl)
             | inr few ↦
                 read (signed negative f.n) f.k e (small_form text lt) (rw abs lt) few (shortest_writes text)
@@ -259,12 +286,16 @@ digits_iff text k =
     elim (outcome text) [
       | misshapen other e ↦ (λ x. absurd cc, λ x. let y = x.0 in absurd cc)
       | large shape is e ↦ (λ x. absurd cc, λ x. absurd (not_both text x.1.small is))
-      | fine j shape is e ↦
-          (λ x. (shape, subst (HasTooManyDigits text) (same_fault j k (sym e ∙ x)) is), λ x. e
-              ∙ ap (λ n. Err (Digits n)) (same_digits text is.units x.1.units j k is.shortest x.1.shortest))
-      | read units j shape small abs few writes e ↦
-          (λ x. absurd cc, λ x. let same = same_digits text units x.1.units j k writes x.1.shortest in
-              let more = x.1.more in absurd (omega arith))
+      | fine j shape is e ↦ (
+        λ x. (shape, subst (HasTooManyDigits text) (same_fault j k (sym e ∙ x)) is),
+        λ x. e
+            ∙ ap (λ n. Err (Digits n)) (same_digits text is.units x.1.units j k is.shortest x.1.shortest),
+      )
+      | read units j shape small abs few writes e ↦ (
+        λ x. absurd cc,
+        λ x. let same = same_digits text units x.1.units j k writes x.1.shortest in
+            let more = x.1.more in absurd (omega arith),
+      )
     ]
 
 -- what is given is the number that is written, with the least digits and within the limits

@@ -30,8 +30,15 @@ unfolding ceiling_of
 le-ceiling_of a d some = turned a (floor_of (neg_ℤ a) d) d (floor_of-le (neg_ℤ a) d some)
   where
     turned : (a f : ℤ) (d : ℕ) → (f *ℤ pos d) ≤ℤ neg_ℤ a → a ≤ℤ (neg_ℤ f *ℤ pos d)
-    turned a f d h = omega (arith, ints, product_is f (pos d), product_is (neg_ℤ f) (pos d), neg_is f, neg_is a,
-        negated_product f d)
+    turned a f d h = omega (
+      arith,
+      ints,
+      product_is f (pos d),
+      product_is (neg_ℤ f) (pos d),
+      neg_is f,
+      neg_is a,
+      negated_product f d,
+    )
 
 -- and less than the divisor above it
 pub ceiling_of-lt : (a : ℤ) (d : ℕ) → 0 < d → (ceiling_of a d *ℤ pos d) <ℤ (a +ℤ pos d)
@@ -39,5 +46,12 @@ unfolding ceiling_of
 ceiling_of-lt a d some = turned a (floor_of (neg_ℤ a) d) d (lt-floor_of (neg_ℤ a) d some)
   where
     turned : (a f : ℤ) (d : ℕ) → neg_ℤ a <ℤ (f *ℤ pos d +ℤ pos d) → (neg_ℤ f *ℤ pos d) <ℤ (a +ℤ pos d)
-    turned a f d h = omega (arith, ints, product_is f (pos d), product_is (neg_ℤ f) (pos d), neg_is f, neg_is a,
-        negated_product f d)
+    turned a f d h = omega (
+      arith,
+      ints,
+      product_is f (pos d),
+      product_is (neg_ℤ f) (pos d),
+      neg_is f,
+      neg_is a,
+      negated_product f d,
+    )

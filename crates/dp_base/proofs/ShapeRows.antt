@@ -7,14 +7,14 @@ use Rattle.dp_base.specs.Names.{is_word, is_name}
 
 pub decimal_texts : list_all is_decimal (
     codes "0" ∷ codes "1." ∷ codes ".5" ∷ codes "1.5" ∷ codes "+1" ∷ codes "-2.50" ∷ codes "1e-3" ∷ codes "1E+2" ∷
-        codes "1e999"
+    codes "1e999"
     ∷ codes "-.5e7" ∷ codes "00.100" ∷ []) ≡ true
 unfolding is_decimal
 decimal_texts = refl
 
 pub other_texts : list_any is_decimal (
     codes "" ∷ codes "." ∷ codes "+" ∷ codes "-" ∷ codes "-." ∷ codes "+-1" ∷ codes "1.2.3" ∷ codes "e5" ∷ codes ".e5"
-        ∷ codes "1e" ∷ codes "1e+"
+    ∷ codes "1e" ∷ codes "1e+"
     ∷ codes "1e1000" ∷ codes "1e1.0" ∷ codes "1x" ∷ codes " 1" ∷ codes "1 " ∷ codes "0x10" ∷ []) ≡ false
 unfolding is_decimal
 other_texts = refl

@@ -1,6 +1,6 @@
 -- The least digits of a number that was seen.
-use Rattle.std.proofs.Common.{◌≡◌, ◌≢◌, ℕ, zero, suc, ◌+◌, ◌-◌, ◌*◌, ◌/◌, ◌%◌, ◌^◌, ◌<◌, ◌≤◌, Bool, true, false, leb,
-    List, Result, Ok, Err, refl, sym, ap, ◌∙◌, arith, zero-add}
+use Rattle.std.proofs.Common.{◌≡◌, ◌≢◌, ℕ, zero, suc, ◌+◌, ◌-◌, ◌*◌, ◌/◌, ◌%◌, ◌^◌, ◌<◌, ◌≤◌, Bool, true, false, leb}
+use Rattle.std.proofs.Common.{List, Result, Ok, Err, refl, sym, ap, ◌∙◌, arith, zero-add}
 use Rattle.std.specs.Prelude.{ℤ, unsigned_abs}
 use Rattle.std.proofs.lemmas.Bool.{ne_eqb, le-leb, lt-ltb, le-ltb, lt-leb}
 use Rattle.std.proofs.Math.Nat.{mul-le-mul_right, zero-mul}
@@ -58,9 +58,9 @@ module _ (ds : List ℕ) (s : Significand) (negative : Bool) (up down : ℕ) whe
   all_tens : (seen : IsSeen ds s) → digits_value 10 ds * 10 ^ up ≡ seen.0 * 10 ^ (s.zeros + up)
   all_tens seen =
       let sum : seen.0 * 10 ^ (s.zeros + up) ≡ seen.0 * (10 ^ s.zeros * 10 ^ up) =
-          ap (λ p. seen.0 * p) (pow-add 10 s.zeros up) in
+      ap (λ p. seen.0 * p) (pow-add 10 s.zeros up) in
       let first : digits_value 10 ds * 10 ^ up ≡ seen.0 * 10 ^ s.zeros * 10 ^ up =
-          ap (λ v. v * 10 ^ up) seen.1.value in
+      ap (λ v. v * 10 ^ up) seen.1.value in
       omega (arith, sum, first)
 
   -- where the tens make it a whole number
@@ -70,12 +70,12 @@ module _ (ds : List ℕ) (s : Significand) (negative : Bool) (up down : ℕ) whe
   at_whole seen le =
       let split : s.zeros + up ≡ (s.zeros + up - down) + down = omega arith in
       let apart : seen.0 * 10 ^ (s.zeros + up) ≡ seen.0 * (10 ^ (s.zeros + up - down) * 10 ^ down) =
-          ap (λ k. seen.0 * 10 ^ k) split ∙ ap (λ p. seen.0 * p) (pow-add 10 (s.zeros + up - down) down) in
+      ap (λ k. seen.0 * 10 ^ k) split ∙ ap (λ p. seen.0 * p) (pow-add 10 (s.zeros + up - down) down) in
       let tens : digits_value 10 ds * 10 ^ up ≡ seen.0 * 10 ^ (s.zeros + up - down) * 10 ^ down =
-          all_tens seen ∙ omega (arith, apart) in
+      all_tens seen ∙ omega (arith, apart) in
       let none : down ≡ down + 0 = omega arith in
       rw tens (ap (shortest negative (seen.0 * 10 ^ (s.zeros + up - down) * 10 ^ down)) none
-          ∙ shortest_less negative (seen.0 * 10 ^ (s.zeros + up - down)) down 0)
+      ∙ shortest_less negative (seen.0 * 10 ^ (s.zeros + up - down)) down 0)
 
   -- where they do not
   pub at_fraction : (seen : IsSeen ds s) → 0 < s.len → s.zeros + up < down
@@ -83,7 +83,7 @@ module _ (ds : List ℕ) (s : Significand) (negative : Bool) (up down : ℕ) whe
   at_fraction seen some lt =
       let split : down ≡ (s.zeros + up) + (down - (s.zeros + up)) = omega arith in
       rw (all_tens seen) (ap (shortest negative (seen.0 * 10 ^ (s.zeros + up))) split
-          ∙ shortest_less negative seen.0 (s.zeros + up) (down - (s.zeros + up)))
+      ∙ shortest_less negative seen.0 (s.zeros + up) (down - (s.zeros + up)))
       ∙ shortest_stop negative seen.0 (down - (s.zeros + up)) (seen.1.some some).ends
 
 -- the magnitude of a number with a sign
@@ -120,8 +120,10 @@ whole_fits n len more high le = omega (arith, below_whole n len more high le)
 -- and is given
 pub ok_whole : (negative : Bool) (n len more : ℕ) → HasLength n len → len + more ≤ 18
     → judged (decimal_with negative (n * 10 ^ more) 0) ≡ Ok (decimal_with negative (n * 10 ^ more) 0)
-ok_whole negative n len more long le = rw (unsigned_abs-signed negative (n * 10 ^ more),
-    lt-leb (10 ^ 18) (n * 10 ^ more) (below_whole n len more long.high le)) refl
+ok_whole negative n len more long le = rw (
+  unsigned_abs-signed negative (n * 10 ^ more),
+  lt-leb (10 ^ 18) (n * 10 ^ more) (below_whole n len more long.high le),
+) refl
 
 -- of a fraction with more than 18 digits before the point
 pub large_fraction : (negative : Bool) (n len k : ℕ) → HasLength n len → 18 + k < len
@@ -138,14 +140,20 @@ not_large n len k high le = lt-leb (10 ^ (18 + k)) n (let most = tens_up len (18
 -- and refused where it has more than 18 fraction digits
 pub digits_fraction : (negative : Bool) (n len k : ℕ) → HasLength n len → len ≤ 18 + k → 18 < k
     → judged (decimal_with negative n k) ≡ Err (Digits k)
-digits_fraction negative n len k long le lt = rw (unsigned_abs-signed negative n, not_large n len k long.high le,
-    lt-ltb 18 k lt) refl
+digits_fraction negative n len k long le lt = rw (
+  unsigned_abs-signed negative n,
+  not_large n len k long.high le,
+  lt-ltb 18 k lt,
+) refl
 
 -- and else given
 pub ok_fraction : (negative : Bool) (n len k : ℕ) → HasLength n len → len ≤ 18 + k → k ≤ 18
     → judged (decimal_with negative n k) ≡ Ok (decimal_with negative n k)
-ok_fraction negative n len k long le small = rw (unsigned_abs-signed negative n, not_large n len k long.high le,
-    le-ltb 18 k small) refl
+ok_fraction negative n len k long le small = rw (
+  unsigned_abs-signed negative n,
+  not_large n len k long.high le,
+  le-ltb 18 k small,
+) refl
 
 -- where it has 127 bits
 pub fraction_fits : (n len k : ℕ) → n < 10 ^ len → len ≤ 18 + k → k ≤ 18 → n < 2 ^ 127

@@ -10,8 +10,11 @@ use Rattle.dp_base.specs.Significands.{IsSeen}
 
 -- the number of digits with one more behind them
 pushed : (ds : List ℕ) (d : ℕ) → d < 10 → digits_value 10 (ds ++ (48 + d) ∷ []) ≡ digits_value 10 ds * 10 + d
-pushed ds d lt = omega (arith, digits_value_push 10 ds (48 + d),
-    digit_value_digit (48 + d) (omega arith, omega arith))
+pushed ds d lt = omega (
+  arith,
+  digits_value_push 10 ds (48 + d),
+  digit_value_digit (48 + d) (omega arith, omega arith),
+)
 
 -- ten times a power of ten
 pub ten_more : (z : ℕ) → 10 ^ (z + 1) ≡ 10 ^ z * 10
@@ -111,13 +114,25 @@ next_digit ds d s t lt some there len zeros number seen =
       record {
         value = rw zeros (omega (arith, pushed ds d lt, was.value, times_ten seen.0 s.zeros));
         none = λ h. absurd (omega arith);
-        some = λ _. rw len (record { high = more_high n s.len s.zeros d long.high lt; low =
-            more_low n s.len s.zeros d long.low; ends = more_ends n s.zeros d lt some });
+        some = λ _. rw len (record {
+          high = more_high n s.len s.zeros d long.high lt;
+          low =
+              more_low n s.len s.zeros d long.low;
+          ends = more_ends n s.zeros d lt some;
+        });
         kept = λ short. number short ∙ ap (λ k. k * 10 ^ (s.zeros + 1) + d) (was.kept (omega arith));
       },
     )
 
 -- no digits
 pub nothing_seen : (s : Significand) → s.number ≡ 0 → s.len ≡ 0 → s.zeros ≡ 0 → IsSeen [] s
-nothing_seen s number len zeros = (0, record { value = rw zeros refl; none = λ _. refl; some =
-    λ lt. absurd (omega arith); kept = λ _. number })
+nothing_seen s number len zeros = (
+  0,
+  record {
+    value = rw zeros refl;
+    none = λ _. refl;
+    some =
+        λ lt. absurd (omega arith);
+    kept = λ _. number;
+  },
+)

@@ -1,6 +1,6 @@
 -- Sums over the numbers below n.
-use Rattle.std.proofs.Common.{◌≡◌, ◌≢◌, inl, inr, ℕ, zero, suc, ◌+◌, ◌*◌, ◌<◌, ◌≤◌, ℤ, pos, ◌+ℤ◌, ◌*ℤ◌, ◌≤ℤ◌, cond,
-    eqb, refl, sym, ap, ◌∙◌, arith, add-zero, add-suc}
+use Rattle.std.proofs.Common.{◌≡◌, ◌≢◌, inl, inr, ℕ, zero, suc, ◌+◌, ◌*◌, ◌<◌, ◌≤◌, ℤ, pos, ◌+ℤ◌, ◌*ℤ◌, ◌≤ℤ◌, cond}
+use Rattle.std.proofs.Common.{eqb, refl, sym, ap, ◌∙◌, arith, add-zero, add-suc}
 use Rattle.std.proofs.Math.IntN.{+ℤ_idl, +ℤ_idr, +ℤ_assoc}
 use Rattle.std.proofs.lemmas.Bool.Decides.{nat_tests}
 use Rattle.std.proofs.lemmas.Int.{ints}
@@ -107,7 +107,7 @@ pub rotate : (n m k : ℕ) (f : ℕ → ℕ → ℕ → ℤ)
     ≡ int_sum k (λ o. int_sum m (λ t. int_sum n (λ s. f s t o)))
 rotate n m k f =
     int_sum_ext n _ _ (λ s h. int_sum_swap m k (f s)) ∙ int_sum_swap n k (λ s o. int_sum m (λ t. f s t o))
-        ∙ int_sum_ext k _ _ (λ o h. int_sum_swap n m (λ s t. f s t o))
+    ∙ int_sum_ext k _ _ (λ o h. int_sum_swap n m (λ s t. f s t o))
 
 -- weights against one number
 pub int_sum_weigh : (n : ℕ) (f : ℕ → ℕ) (x : ℤ) → int_sum n (λ s. pos (f s) *ℤ x) ≡ pos (nat_sum n f) *ℤ x
@@ -127,7 +127,7 @@ place_split a c f =
 pub int_sum_out : (n a : ℕ) (f : ℕ → ℤ) → a < n → int_sum n f ≡ int_sum n (λ c. cond (eqb a c) (pos 0) (f c)) +ℤ f a
 int_sum_out n a f h =
     int_sum_ext n _ _ (λ c p. place_split a c f) ∙ int_sum_add n (λ c. cond (eqb a c) (pos 0) (f c))
-        (λ c. cond (eqb a c) (f a) (pos 0))
+    (λ c. cond (eqb a c) (f a) (pos 0))
     ∙ ap (λ x. int_sum n (λ c. cond (eqb a c) (pos 0) (f c)) +ℤ x) (int_sum_one n a (f a) h)
 
 -- two numbers aside
@@ -139,17 +139,20 @@ pub int_sum_two : (n a b : ℕ) (f g : ℕ → ℤ) → a < n → b < n → a �
     → (f a +ℤ f b) ≤ℤ (g a +ℤ g b) → int_sum n f ≤ℤ int_sum n g
 int_sum_two n a b f g p q ne same h =
     let out : (f : ℕ → ℤ) → int_sum n f ≡ int_sum n (λ c. cond (eqb b c) (pos 0) (cond (eqb a c) (pos 0) (f c)))
-        +ℤ f b +ℤ f a =
+    +ℤ f b +ℤ f a =
     λ f. int_sum_out n a f p ∙ ap (λ x. x +ℤ f a) (int_sum_out n b _ q
-        ∙ ap (λ x. int_sum n (λ c. cond (eqb b c) (pos 0) (cond (eqb a c) (pos 0) (f c))) +ℤ x)
-        (ite_other a b (pos 0) (f b) ne)) in
+    ∙ ap (λ x. int_sum n (λ c. cond (eqb b c) (pos 0) (cond (eqb a c) (pos 0) (f c))) +ℤ x)
+    (ite_other a b (pos 0) (f b) ne)) in
     rw (out f, out g)
     (two_le _ _ _ _ _ _
     (int_sum_ext n _ _ (λ c u. elim (cases_eq a c) [
       | inl e ↦ rw (e, ite_same c (pos 0) (f c), ite_same c (pos 0) (g c))
       | inr na ↦ elim (cases_eq b c) [
-        | inl e ↦ rw (e, ite_same c (pos 0) (cond (eqb a c) (pos 0) (f c)),
-              ite_same c (pos 0) (cond (eqb a c) (pos 0) (g c)))
+        | inl e ↦ rw (
+          e,
+          ite_same c (pos 0) (cond (eqb a c) (pos 0) (f c)),
+          ite_same c (pos 0) (cond (eqb a c) (pos 0) (g c)),
+        )
         | inr nb ↦ rw (same c u na nb)
       ]
     ]))

@@ -1,7 +1,7 @@
 -- The decimal shape of a text: an optional sign; digits with at most one point before, among or after them,
 -- and at least one digit; optionally `e` or `E`, an optional sign and one to three digits.
-use Rattle.std.specs.Prelude.{ℕ, ◌+◌, Bool, ◌&&◌, ◌||◌, ◌==◌, nat_lt, nat_le, if◌then◌else◌, List, length, drop,
-    slice_index}
+use Rattle.std.specs.Prelude.{ℕ, ◌+◌, Bool, ◌&&◌, ◌||◌, ◌==◌, nat_lt, nat_le, if◌then◌else◌, List, length, drop}
+use Rattle.std.specs.Prelude.{slice_index}
 use Rattle.std.specs.List.{prefix_len, list_all}
 use Rattle.std.specs.Char.{is_ascii_digit}
 use Rattle.dp_base.specs.Bytes.{is_sign, decimal_point}

@@ -1,7 +1,7 @@
 -- The number that a text of the decimal shape writes, and what is read from it.
-use Rattle.std.specs.Prelude.{◌≡◌, Result, Ok, Err, ℕ, zero, suc, ◌+◌, ◌*◌, ◌^◌, ◌/◌, ◌%◌, ◌<◌, ◌≤◌, Bool, true,
-    false, ◌==◌, nat_lt, nat_le, if◌then◌else◌, List, [], ◌++◌, length, drop, slice_index, ℤ, pos, neg_ℤ, ◌*ℤ◌,
-    unsigned_abs}
+use Rattle.std.specs.Prelude.{◌≡◌, Result, Ok, Err, ℕ, zero, suc, ◌+◌, ◌*◌, ◌^◌, ◌/◌, ◌%◌, ◌<◌, ◌≤◌, Bool, true}
+use Rattle.std.specs.Prelude.{false, ◌==◌, nat_lt, nat_le, if◌then◌else◌, List, [], ◌++◌, length, drop, slice_index}
+use Rattle.std.specs.Prelude.{ℤ, pos, neg_ℤ, ◌*ℤ◌, unsigned_abs}
 use Rattle.std.specs.List.{take_while}
 use Rattle.std.specs.Char.{is_ascii_digit}
 use Rattle.std.specs.Str.Parse.{digits_value}
@@ -57,7 +57,7 @@ abbrev pub Writes : List ℕ → ℤ → ℕ → Type 0
 Writes text units digits =
     let number = unsigned text in
     (units *ℤ pos (10 ^ denominator_tens number)) ≡ (signed (first text == minus) (significand number) *ℤ pos
-        (10 ^ (numerator_tens number + digits)))
+    (10 ^ (numerator_tens number + digits)))
 
 -- and no fewer digits do
 pub record WritesShortest (text : List ℕ) (units : ℤ) (digits : ℕ) : Type 0 where
@@ -87,8 +87,11 @@ pub record HasTooManyDigits (text : List ℕ) (digits : ℕ) : Type 0 where
 abbrev pub shortest : Bool → ℕ → ℕ → Decimal
 shortest negative units zero = record { units = signed negative units; digits = 0 }
 shortest negative units (suc digits) =
-    if units % 10 == 0 then shortest negative (units / 10) digits else record { units =
-        signed negative units; digits = suc digits }
+    if units % 10 == 0 then shortest negative (units / 10) digits else record {
+      units =
+          signed negative units;
+      digits = suc digits;
+    }
 
 -- the magnitude of a decimal is at least 10 ^ 18
 abbrev pub is_large : Decimal → Bool

@@ -1,6 +1,6 @@
 -- What a shelf holds, found by the name.
-use Rattle.std.proofs.Common.{◌≡◌, ℕ, List, [], ◌∷◌, Bool, true, false, Option, Some, map, find, string_bytes, refl,
-    sym, cond}
+use Rattle.std.proofs.Common.{◌≡◌, ℕ, List, [], ◌∷◌, Bool, true, false, Option, Some, map, find, string_bytes, refl}
+use Rattle.std.proofs.Common.{sym, cond}
 use Rattle.std.proofs.lemmas.Slice.Eq.{bytes_eq-Decides}
 use Rattle.std.specs.Option.{option_map}
 use Rattle.std.specs.Str.{bytes_eq}
@@ -29,7 +29,7 @@ pub held_by_last : (held : List Held) (name : List ℕ)
 held_by_last [] name = refl
 held_by_last (h ∷ held) name =
     chosen (bytes_eq (string_bytes h.name) name) h (find (λ pair. bytes_eq pair.0 name) (map pair_of held))
-        (find (λ h. bytes_eq (string_bytes h.name) name) held) (held_by_last held name)
+    (find (λ h. bytes_eq (string_bytes h.name) name) held) (held_by_last held name)
 
 -- the latest pair is what its own name holds
 first_found : (name bytes : List ℕ) (held : List (List ℕ × List ℕ)) (b : Bool) → b ≡ true

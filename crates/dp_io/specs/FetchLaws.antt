@@ -1,6 +1,6 @@
 -- What follows of every fetch.
-use Rattle.std.specs.Prelude.{◌≡◌, ℕ, ◌<◌, ◌≤◌, ◌⊎◌, nat_lt, if◌then◌else◌, List, length, Option, Some, None, Result,
-    Ok, Err, Vec}
+use Rattle.std.specs.Prelude.{◌≡◌, ℕ, ◌<◌, ◌≤◌, ◌⊎◌, nat_lt, if◌then◌else◌, List, length, Option, Some, None, Result}
+use Rattle.std.specs.Prelude.{Ok, Err, Vec}
 use Rattle.std.specs.declared.alloc.Global.{Global}
 use Rattle.dp_io.specs.declared.shelf.FetchFault.{FetchFault}
 use Rattle.dp_io.specs.declared.shelf.FetchFault.TheVariants as faults

@@ -42,4 +42,4 @@ sink_view sink = record {
 abbrev pub kept_of : MemSinkView → ℕ → ℕ
 kept_of sink count =
     min (min count (room_left sink)) (if is_named sink then option_map_or
-        (λ call. call.1) sink.named count else count)
+    (λ call. call.1) sink.named count else count)

@@ -1,6 +1,6 @@
 -- What a shelf means, and what a fetch does.
-use Rattle.std.specs.Prelude.{◌≡◌, ℕ, ◌<◌, ◌≤◌, Bool, true, false, List, [], ◌∷◌, ◌++◌, length, Option, Some, Result,
-    Ok, Err, IfSome, Vec, count_by}
+use Rattle.std.specs.Prelude.{◌≡◌, ℕ, ◌<◌, ◌≤◌, Bool, true, false, List, [], ◌∷◌, ◌++◌, length, Option, Some, Result}
+use Rattle.std.specs.Prelude.{Ok, Err, IfSome, Vec, count_by}
 use Rattle.std.specs.declared.alloc.Global.{Global}
 use Rattle.dp_io.specs.declared.shelf.Ending.{Ending}
 use Rattle.dp_io.specs.declared.shelf.Ending.TheVariants.{Given, Failed, Long}

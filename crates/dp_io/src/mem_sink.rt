@@ -44,8 +44,15 @@ impl MemSink {
     /// A sink with room for so many bytes, all of which it takes from memory now.
     pub fn new(alloc: Global, room: u64) -> Result<MemSink, Memory>
         ensures { IfOk result
-            (λ sink. sink ≡ record { bytes = []; room = room; puts = 0; offered = 0; faults = 0; texts = [];
-                named = None }) }
+            (λ sink. sink ≡ record {
+              bytes = [];
+              room = room;
+              puts = 0;
+              offered = 0;
+              faults = 0;
+              texts = [];
+              named = None;
+            }) }
     {
         Ok(MemSink {
             bytes: Vec::with_capacity(alloc, room as usize)?,

@@ -1,6 +1,6 @@
 -- What a document holds is what its text means.
-use Rattle.std.proofs.Common.{◌≡◌, ◌≢◌, ℕ, zero, suc, ◌<◌, ◌≤◌, ◌^◌, Bool, true, false, cond, List, [], ◌∷◌, length,
-    get_or, take, map, Some, refl, sym, ap, subst, ◌∙◌, arith}
+use Rattle.std.proofs.Common.{◌≡◌, ◌≢◌, ℕ, zero, suc, ◌<◌, ◌≤◌, ◌^◌, Bool, true, false, cond, List, [], ◌∷◌, length}
+use Rattle.std.proofs.Common.{get_or, take, map, Some, refl, sym, ap, subst, ◌∙◌, arith}
 use Rattle.std.specs.Prelude.{slice_get, filter, All, option_map}
 use Rattle.std.proofs.lemmas.List.{get_or_default}
 use Rattle.std.proofs.lemmas.Option.{slice_get-map, slice_get-get_or}
@@ -86,11 +86,11 @@ pub item_there : (pieces : List Piece) (lines : List LineRange) (items : List It
     → slice_get (map (item_in pieces lines) items) place ≡ Some item
 item_there pieces lines items place range first item inside each range_is first_is item_is =
     let is : IsItemRange pieces lines range = subst (IsItemRange pieces lines) (sym range_is)
-        (each place range inside) in
+    (each place range inside) in
     let in_order = is.in_order in
     let within = is.within in
     let line : get_or lines range.line no_line ≡ first =
-        get_or_default lines range.line no_line first (omega arith) ∙ sym first_is in
+    get_or_default lines range.line no_line first (omega arith) ∙ sym first_is in
     slice_get-map (item_in pieces lines) items place
     ∙ ap (option_map (item_in pieces lines)) (slice_get-get_or items place range inside)
     ∙ ap (λ (s : ItemRange). Some (item_in pieces lines s)) (sym range_is)

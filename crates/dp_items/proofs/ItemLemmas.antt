@@ -1,6 +1,6 @@
 -- The lines of an item are one stretch of pieces.
-use Rattle.std.proofs.Common.{◌≡◌, ℕ, zero, suc, ◌+◌, ◌-◌, ◌<◌, ◌≤◌, true, List, [], ◌∷◌, ◌++◌, length, get_or, take,
-    drop, map, None, Some, refl, sym, ap, ◌∙◌, arith}
+use Rattle.std.proofs.Common.{◌≡◌, ℕ, zero, suc, ◌+◌, ◌-◌, ◌<◌, ◌≤◌, true, List, [], ◌∷◌, ◌++◌, length, get_or, take}
+use Rattle.std.proofs.Common.{drop, map, None, Some, refl, sym, ap, ◌∙◌, arith}
 use Rattle.std.specs.Prelude.{slice_get, slice_range}
 use Rattle.std.specs.List.{flat_map}
 use Rattle.std.proofs.Math.Seq.{take-add}
@@ -53,7 +53,7 @@ run_pieces pieces from (range ∷ ranges) past run =
     let ahead = run_ahead range.past ranges past run.1 in
     ap (λ (k : ℕ). slice_range pieces k range.past ++ flat_map pieces_of (map (line_of pieces) ranges)) run.0.first
     ∙ ap (λ (l : List Piece). slice_range pieces from range.past ++ l)
-        (run_pieces pieces range.past ranges past run.1)
+    (run_pieces pieces range.past ranges past run.1)
     ∙ stretches pieces from range.past past (omega arith) ahead
 
 -- ---- items
@@ -81,14 +81,16 @@ module _ (pieces : List Piece) (first : LineRange) (more : List LineRange) (past
   whole_is = sym (stretches pieces first.first first.past past first_ahead first_within)
 
   pub two_of_all : 2 ≤ length (slice_range pieces first.first past)
-  two_of_all = rw whole_is (let h = two in omega (arith,
-      length-append (slice_range pieces first.first first.past) (slice_range pieces first.past past)))
+  two_of_all = rw whole_is (let h = two in omega (
+    arith,
+    length-append (slice_range pieces first.first first.past) (slice_range pieces first.past past),
+  ))
 
   pub value_is : drop 2 (slice_range pieces first.first past) ≡ value_pieces (item_of pieces first more next)
   value_is = ap (drop 2) whole_is
       ∙ drop-append-le 2 (slice_range pieces first.first first.past) (slice_range pieces first.past past) two
       ∙ ap (λ (l : List Piece). drop 2 (slice_range pieces first.first first.past) ++ l)
-          (sym (run_pieces pieces first.past more past is.one_run))
+      (sym (run_pieces pieces first.past more past is.one_run))
 
 -- a line by its place
 pub line_by_place : (pieces : List Piece) (ranges : List LineRange) (i : ℕ) (d : LineRange) → i < length ranges

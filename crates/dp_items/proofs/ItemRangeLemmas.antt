@@ -1,6 +1,6 @@
 -- Gathering lines into items, from the last line to the first.
-use Rattle.std.proofs.Common.{◌≡◌, ℕ, zero, suc, ◌+◌, ◌-◌, ◌<◌, ◌≤◌, ◌^◌, Bool, true, false, List, [], ◌∷◌, ◌++◌,
-    length, get_or, take, drop, map, refl, sym, ap, subst, ◌∙◌, arith}
+use Rattle.std.proofs.Common.{◌≡◌, ℕ, zero, suc, ◌+◌, ◌-◌, ◌<◌, ◌≤◌, ◌^◌, Bool, true, false, List, [], ◌∷◌, ◌++◌}
+use Rattle.std.proofs.Common.{length, get_or, take, drop, map, refl, sym, ap, subst, ◌∙◌, arith}
 use Rattle.std.specs.Prelude.{slice_range, reverse, All}
 use Rattle.std.proofs.lemmas.List.{drop_more, drop-drop, drop_all, reverse-append}
 use Rattle.std.proofs.lemmas.List.Elements.{All-push}
@@ -53,8 +53,11 @@ module _ (end : ℕ) (pieces : List Piece) (lines : List LineRange) where
     pub next_limit : next ≤ 2 ^ 26
     pub each : All (IsItemRange pieces lines) ranges
     pub items : items_of end (map (line_of pieces) (drop at lines))
-        ≡ record { before = map (line_of pieces) (slice_range lines at before); items =
-            map (item_in pieces lines) (reverse ranges) }
+        ≡ record {
+          before = map (line_of pieces) (slice_range lines at before);
+          items =
+              map (item_in pieces lines) (reverse ranges);
+        }
 
   pub at_start : end ≤ 2 ^ 26 → AreItemsFrom (length lines) (length lines) (length pieces) end []
   unfolding items_of
@@ -109,33 +112,39 @@ module _ (end : ℕ) (pieces : List Piece) (lines : List LineRange) where
       past_within =
           let is = so_far.past_is in
           let ahead = run_ahead (start (drop before lines) (length pieces)) (drop before lines) (length pieces)
-              (run_drop before 0 lines (length pieces) run) in
+          (run_drop before 0 lines (length pieces) run) in
           omega arith
 
       is_item : begins_item (slice_range pieces line.first line.past) ≡ true → IsItemRange pieces lines range
       is_item b = record {
         in_order = (let in_order = so_far.in_order in omega arith);
         within = so_far.within;
-        item = record { begins = b; limit = run_here.0.limit; one_run = behind; within = past_within; next_limit =
-            so_far.next_limit };
+        item = record {
+          begins = b;
+          limit = run_here.0.limit;
+          one_run = behind;
+          within = past_within;
+          next_limit =
+              so_far.next_limit;
+        };
       }
 
       -- the items with this line in front
       in_front : (b : Bool) → begins_item (slice_range pieces line.first line.past) ≡ b
           → items_of end (map (line_of pieces) (drop at lines))
           ≡ with_line end b (line_of pieces line) (gathered (slice_range lines (at + 1) before)
-              (map (item_in pieces lines) (reverse ranges)))
+          (map (item_in pieces lines) (reverse ranges)))
       unfolding items_of
       in_front b e =
           ap (λ (l : List LineRange). items_of end (map (line_of pieces) l)) cut
           ∙ ap (λ v. with_line end v (line_of pieces line)
-              (items_of end (map (line_of pieces) (drop (at + 1) lines)))) e
+          (items_of end (map (line_of pieces) (drop (at + 1) lines)))) e
           ∙ ap (with_line end b (line_of pieces line)) so_far.items
 
       pub begins : begins_item (slice_range pieces line.first line.past) ≡ true
           → first_at end (slice_range pieces line.first line.past) ≤ 2 ^ 26
           → AreItemsFrom at at line.first (first_at end (slice_range pieces line.first line.past))
-              (ranges ++ range ∷ [])
+          (ranges ++ range ∷ [])
       begins b limit =
           let last : reverse (ranges ++ range ∷ []) ≡ range ∷ reverse ranges = reverse-append ranges (range ∷ []) in
           record {
@@ -147,11 +156,11 @@ module _ (end : ℕ) (pieces : List Piece) (lines : List LineRange) where
             each = All-push (IsItemRange pieces lines) ranges range so_far.each (is_item b);
             items = in_front true b
                 ∙ ap (λ n. gathered [] (item_of pieces line (slice_range lines (at + 1) before) n ∷ map
-                    (item_in pieces lines) (reverse ranges))) (sym so_far.next_is)
+                (item_in pieces lines) (reverse ranges))) (sym so_far.next_is)
                 ∙ ap (λ (l : List LineRange). gathered l (map (item_in pieces lines) (range ∷ reverse ranges)))
-                    (sym (empty_stretch lines at))
+                (sym (empty_stretch lines at))
                 ∙ ap (λ (l : List ItemRange). gathered (slice_range lines at at) (map (item_in pieces lines) l))
-                    (sym last);
+                (sym last);
           }
 
       pub goes_on : begins_item (slice_range pieces line.first line.past) ≡ false
@@ -181,7 +190,7 @@ module _ (end : ℕ) (pieces : List Piece) (lines : List LineRange) where
         (all_reverse (IsItemRange pieces lines) made so_far.each);
     items = so_far.items
         ∙ ap (λ k. gathered (take k lines) (map (item_in pieces lines) (reverse made)))
-            (let e : before - 0 ≡ ranges.before = omega arith in e)
+        (let e : before - 0 ≡ ranges.before = omega arith in e)
         ∙ ap (λ (l : List ItemRange). gathered (take ranges.before lines) (map (item_in pieces lines) l))
-            (sym items_are);
+        (sym items_are);
   }

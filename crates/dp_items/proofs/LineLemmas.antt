@@ -1,6 +1,6 @@
 -- Cutting pieces into lines, one piece after the other.
-use Rattle.std.proofs.Common.{◌≡◌, ℕ, ◌+◌, ◌-◌, ◌<◌, ◌≤◌, ◌^◌, Bool, true, false, cond, List, [], ◌∷◌, ◌++◌, length,
-    take, drop, map, Option, Some, None, refl, sym, ap, subst, ◌∙◌, append_assoc, arith}
+use Rattle.std.proofs.Common.{◌≡◌, ℕ, ◌+◌, ◌-◌, ◌<◌, ◌≤◌, ◌^◌, Bool, true, false, cond, List, [], ◌∷◌, ◌++◌, length}
+use Rattle.std.proofs.Common.{take, drop, map, Option, Some, None, refl, sym, ap, subst, ◌∙◌, append_assoc, arith}
 use Rattle.std.specs.Prelude.{filter, nat_lt, slice_get, slice_range}
 use Rattle.std.proofs.lemmas.List.{append-nil, length-drop, length-take, map-append, drop-drop}
 use Rattle.std.proofs.lemmas.Bool.Decides.{nat_tests}
@@ -55,8 +55,15 @@ drops p rest is = ap (λ k. cond (is_no_line_end k) (p ∷ kept_pieces rest) (ke
 one_stretch : (b : Bool) (from : ℕ) (range : LineRange) → nat_lt range.first range.past ≡ b → from ≡ range.first
     → range.first ≤ range.past
     → range.ends ≤ 2 ^ 26 → AreOneRun from (cond b (range ∷ []) []) range.past
-one_stretch true from range test run h limit = (record { first = sym run; some = grind (arith, nat_tests); limit =
-    limit }, refl)
+one_stretch true from range test run h limit = (
+  record {
+    first = sym run;
+    some = grind (arith, nat_tests);
+    limit =
+        limit;
+  },
+  refl,
+)
 one_stretch false from range test run h limit = grind (arith, nat_tests)
 
 pub none_of : {X : Type 0} (found : Option X) → ((x : X) → found ≡ Some x → ⊥) → found ≡ None
@@ -106,7 +113,7 @@ module _ (end : ℕ) (pieces : List Piece) where
       let long : length (slice_range kept range.first range.past) ≡ range.past - range.first =
       omega (arith, length-take (range.past - range.first) (drop range.first kept), length-drop range.first kept) in
       ap (λ b. cond b (line_of kept range ∷ filter has_pieces others) (filter has_pieces others))
-          (same_test range.first range.past _ long)
+      (same_test range.first range.past _ long)
       ∙ chosen (nat_lt range.first range.past)
     where
       chosen : (b : Bool) → cond b (line_of kept range ∷ filter has_pieces others) (filter has_pieces others)
@@ -123,9 +130,9 @@ module _ (end : ℕ) (pieces : List Piece) where
   closes ranges range at others so_far is =
       let now : List Piece = slice_range kept range.first range.past in
       let first : onto (slice_range kept range.first range.past) (lines_of end (drop at pieces))
-          ≡ line_of kept range ∷ others =
+      ≡ line_of kept range ∷ others =
       ap (onto now) is ∙ ap (λ (l : List Piece). record { pieces = l; ends = range.ends } ∷ others)
-          (append-nil now) in
+      (append-nil now) in
       ap (λ (l : List Line). l ++ filter has_pieces others) (map-append (line_of kept) ranges (unless_empty range))
       ∙ append_assoc (map (line_of kept) ranges) (map (line_of kept) (unless_empty range)) (filter has_pieces others)
       ∙ ap (λ (l : List Line). map (line_of kept) ranges ++ l) (sym (shown range others so_far.within))
@@ -140,10 +147,13 @@ module _ (end : ℕ) (pieces : List Piece) where
   ends_line ranges range at p so_far here kind ends limit =
       let cut = drop_at pieces at p here in
       let others : List Line = lines_of end (drop (at + 1) pieces) in
-      let line : lines_of end (drop at pieces) ≡ record { pieces = []; ends =
-          range.ends } ∷ lines_of end (drop (at + 1) pieces) =
+      let line : lines_of end (drop at pieces) ≡ record {
+        pieces = [];
+        ends =
+            range.ends;
+      } ∷ lines_of end (drop (at + 1) pieces) =
       ap (lines_of end) cut ∙ ap (λ k. with_piece k p others) kind
-          ∙ ap (λ e. record { pieces = []; ends = e } ∷ others) (sym ends) in
+      ∙ ap (λ e. record { pieces = []; ends = e } ∷ others) (sym ends) in
       record {
         in_order = omega arith;
         behind = (let behind = so_far.behind in omega arith);
@@ -153,7 +163,7 @@ module _ (end : ℕ) (pieces : List Piece) where
         so_far = ap (λ (l : List Piece). map (line_of kept) (ranges ++ unless_empty range)
             ++ filter has_pieces (onto l others)) (empty_stretch kept range.past)
             ∙ ap (λ (l : List Line). map (line_of kept) (ranges ++ unless_empty range) ++ filter has_pieces l)
-                (onto_none others)
+            (onto_none others)
             ∙ closes ranges range at others so_far line;
       }
 
@@ -165,15 +175,15 @@ module _ (end : ℕ) (pieces : List Piece) where
       let others : List Line = lines_of end (drop (at + 1) pieces) in
       let in_order = so_far.in_order in
       let left : drop past kept ≡ p ∷ kept_pieces (drop (at + 1) pieces) =
-          so_far.left ∙ ap kept_pieces cut ∙ keeps p (drop (at + 1) pieces) other in
+      so_far.left ∙ ap kept_pieces cut ∙ keeps p (drop (at + 1) pieces) other in
       let one : (past + 1) - past ≡ 1 = omega arith in
       let last : slice_range kept past (past + 1) ≡ p ∷ [] =
-          ap (λ k. take k (drop past kept)) one ∙ ap (take 1) left in
+      ap (λ k. take k (drop past kept)) one ∙ ap (take 1) left in
       let more : slice_range kept first (past + 1) ≡ slice_range kept first past ++ p ∷ [] =
       sym (stretches kept first past (past + 1) in_order (omega arith))
-          ∙ ap (λ (l : List Piece). slice_range kept first past ++ l) last in
+      ∙ ap (λ (l : List Piece). slice_range kept first past ++ l) last in
       let line : onto (slice_range kept first (past + 1)) others
-          ≡ onto (slice_range kept first past) (lines_of end (drop at pieces)) =
+      ≡ onto (slice_range kept first past) (lines_of end (drop at pieces)) =
       ap (λ (l : List Piece). onto l others) more ∙ sym (onto_more (slice_range kept first past) p others)
       ∙ ap (onto (slice_range kept first past)) (sym (ap (lines_of end) cut ∙ other_piece p.kind p others other)) in
       record {
@@ -187,7 +197,7 @@ module _ (end : ℕ) (pieces : List Piece) where
 
   pub at_end : (ranges : List LineRange) (range : LineRange) (at : ℕ) → AreLinesSoFar ranges range.first range.past at
       → slice_get pieces at ≡ None → range.ends ≡ end → end ≤ 2 ^ 26
-          → AreLinesOf end pieces (ranges ++ unless_empty range)
+      → AreLinesOf end pieces (ranges ++ unless_empty range)
   unfolding lines_of
   at_end ranges range at so_far none ends limit =
       let cut = drop_none pieces at none in

@@ -1,6 +1,6 @@
 -- What stands at a place of a list, and from it on.
-use Rattle.std.proofs.Common.{◌≡◌, ℕ, zero, suc, ◌+◌, ◌<◌, length, get_or, drop-cons, List, [], ◌∷◌, drop, add-one,
-    arith}
+use Rattle.std.proofs.Common.{◌≡◌, ℕ, zero, suc, ◌+◌, ◌<◌, length, get_or, drop-cons, List, [], ◌∷◌, drop, add-one}
+use Rattle.std.proofs.Common.{arith}
 use Rattle.std.specs.Prelude.{Some, None}
 use Rattle.std.specs.List.{slice_get}
 use Rattle.std.proofs.lemmas.List.{drop_all}

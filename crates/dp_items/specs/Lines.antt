@@ -1,6 +1,6 @@
 -- Lines as stretches of the pieces of a text, line ends aside.
-use Rattle.std.specs.Prelude.{◌≡◌, ℕ, ◌<◌, ◌≤◌, ◌^◌, Bool, true, false, if◌then◌else◌, nat_lt, List, [], ◌∷◌, length,
-    map, filter, slice_range}
+use Rattle.std.specs.Prelude.{◌≡◌, ℕ, ◌<◌, ◌≤◌, ◌^◌, Bool, true, false, if◌then◌else◌, nat_lt, List, [], ◌∷◌, length}
+use Rattle.std.specs.Prelude.{map, filter, slice_range}
 use Rattle.dp_lexer.specs.declared.Kind.{Kind}
 use Rattle.dp_lexer.specs.declared.Kind.TheVariants.{LineEnd}
 use Rattle.dp_meaning.specs.Items.{Piece, Line, Item, begins_item, has_pieces, lines_of}
@@ -42,8 +42,12 @@ pub record AreLinesOf (end : ℕ) (pieces : List Piece) (ranges : List LineRange
 
 -- the item of a first line and those that follow it
 abbrev pub item_of : List Piece → LineRange → List LineRange → ℕ → Item
-item_of pieces first more next = record { first = line_of pieces first; more = map (line_of pieces) more; next =
-    next }
+item_of pieces first more next = record {
+  first = line_of pieces first;
+  more = map (line_of pieces) more;
+  next =
+      next;
+}
 
 -- an item's lines are one stretch of pieces, up to `past`
 pub record IsItem (pieces : List Piece) (first : LineRange) (more : List LineRange) (past next : ℕ) : Type 0 where

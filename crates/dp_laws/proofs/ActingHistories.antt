@@ -4,8 +4,8 @@ use Rattle.std.proofs.Common.{◌≡◌, ℕ, zero, suc, ◌+◌, ◌-◌, ◌<�
 use Rattle.dp_laws.proofs.KeptActions.{history_length}
 use Rattle.dp_laws.proofs.OwnHistories.{Within, own_histories_within}
 use Rattle.dp_laws.proofs.OneStep.{trees_after_fit, root_joint_action_below}
-use Rattle.dp_laws.proofs.OrderedSpans.{IsOrdered, history_sum_ordered, history_sum_point, total_size, weight_ordered,
-    where_ordered, where_point}
+use Rattle.dp_laws.proofs.OrderedSpans.{IsOrdered, history_sum_ordered, history_sum_point, total_size, weight_ordered}
+use Rattle.dp_laws.proofs.OrderedSpans.{where_ordered, where_point}
 use Rattle.dp_spec.specs.Arithmetic.{Arithmetic, point}
 use Rattle.dp_spec.specs.Calls.{Calls}
 use Rattle.dp_spec.specs.Front.{AgentFront, Front, fixed_actions, fixed_joint_action, joint_class, own_histories}

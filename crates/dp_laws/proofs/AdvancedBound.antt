@@ -1,10 +1,10 @@
 -- a bound does not grow by advancing
-use Rattle.std.proofs.Common.{◌≡◌, ℕ, zero, suc, ◌+◌, ◌-◌, ◌<◌, Bool, true, false, cond, eqb, ℤ, pos, ◌+ℤ◌, ◌≤ℤ◌,
-    List, refl, sym, ap, ◌∙◌, arith}
+use Rattle.std.proofs.Common.{◌≡◌, ℕ, zero, suc, ◌+◌, ◌-◌, ◌<◌, Bool, true, false, cond, eqb, ℤ, pos, ◌+ℤ◌, ◌≤ℤ◌}
+use Rattle.std.proofs.Common.{List, refl, sym, ap, ◌∙◌, arith}
 use Rattle.std.proofs.lemmas.Int.{ints}
 use Rattle.dp_base.proofs.Order.{add_le_right}
-use Rattle.dp_laws.proofs.AdvancedFronts.{action_at, action_before, as_many_agents, class_in_range, counts_are_pairs,
-    pair_weight, weight_same, weight_same_to}
+use Rattle.dp_laws.proofs.AdvancedFronts.{action_at, action_before, as_many_agents, class_in_range, counts_are_pairs}
+use Rattle.dp_laws.proofs.AdvancedFronts.{pair_weight, weight_same, weight_same_to}
 use Rattle.dp_laws.proofs.AgreeingActions.{chosen_action_agrees}
 use Rattle.dp_laws.proofs.JointPairs.{int_sum_pairs}
 use Rattle.dp_laws.proofs.LinearSteps.{reward_of_histories}

@@ -1,6 +1,6 @@
 -- what the advanced front of a complete front fixes, and how it weighs
-use Rattle.std.proofs.Common.{◌≡◌, ◌≢◌, inl, inr, ℕ, zero, suc, ◌+◌, ◌*◌, ◌/◌, ◌%◌, ◌^◌, ◌<◌, cond, eqb, List, [],
-    ◌∷◌, map, length, get_or, Option, None, refl, sym, ap, ◌∙◌, subst, arith}
+use Rattle.std.proofs.Common.{◌≡◌, ◌≢◌, inl, inr, ℕ, zero, suc, ◌+◌, ◌*◌, ◌/◌, ◌%◌, ◌^◌, ◌<◌, cond, eqb, List, []}
+use Rattle.std.proofs.Common.{◌∷◌, map, length, get_or, Option, None, refl, sym, ap, ◌∙◌, subst, arith}
 use Rattle.std.specs.Prelude.{unwrap_or}
 use Rattle.std.specs.List.{range_with_len}
 use Rattle.std.proofs.lemmas.Bool.Decides.{nat_tests}
@@ -12,8 +12,8 @@ use Rattle.dp_laws.proofs.LinearSteps.{weights_after_histories}
 use Rattle.dp_laws.proofs.OwnHistories.{Within, next_history_below, own_histories_within}
 use Rattle.dp_laws.proofs.KeptActions.{history_length}
 use Rattle.dp_laws.proofs.CompleteFronts.{new_class}
-use Rattle.dp_spec.specs.Front.{AgentFront, Front, class_counts, class_weight, fixed_actions, fixed_joint_action,
-    joint_class, next_own_histories, own_classes, own_histories}
+use Rattle.dp_spec.specs.Front.{AgentFront, Front, class_counts, class_weight, fixed_actions, fixed_joint_action}
+use Rattle.dp_spec.specs.Front.{joint_class, next_own_histories, own_classes, own_histories}
 use Rattle.dp_spec.specs.JointHistory.{IsJointHistory, history_weight}
 use Rattle.dp_spec.specs.JointNumbers.{joint_number, parts_of, product}
 use Rattle.dp_spec.specs.LookAhead.{weights_after}

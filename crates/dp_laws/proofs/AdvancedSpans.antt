@@ -1,6 +1,6 @@
 -- The weights of the joint classes of an advanced front, and what it has earned, from those of the front before.
-use Rattle.std.proofs.Common.{◌≡◌, inl, inr, ℕ, zero, suc, ◌+◌, ◌-◌, ◌<◌, ◌≤◌, Bool, true, false, cond, eqb, pos,
-    List, [], ◌∷◌, refl, sym, ap, ◌∙◌, arith}
+use Rattle.std.proofs.Common.{◌≡◌, inl, inr, ℕ, zero, suc, ◌+◌, ◌-◌, ◌<◌, ◌≤◌, Bool, true, false, cond, eqb, pos}
+use Rattle.std.proofs.Common.{List, [], ◌∷◌, refl, sym, ap, ◌∙◌, arith}
 use Rattle.std.proofs.lemmas.Bool.{cases_eq}
 use Rattle.dp_spec.specs.declared.span.Span.{Span}
 use Rattle.dp_spec.specs.Arithmetic.{Arithmetic, point, span_add}
@@ -8,16 +8,16 @@ use Rattle.dp_spec.specs.Front.{Front, class_counts, fixed_joint_action, joint_c
 use Rattle.dp_spec.specs.JointHistory.{IsJointHistory}
 use Rattle.dp_spec.specs.JointNumbers.{product}
 use Rattle.dp_spec.specs.Model.{Model, joint_observations}
-use Rattle.dp_spec.specs.Quantities.{class_weight_in, earned_reward_in, history_weight_in, span_sum,
-    weighted_reward_in, weights_after_in}
+use Rattle.dp_spec.specs.Quantities.{class_weight_in, earned_reward_in, history_weight_in, span_sum}
+use Rattle.dp_spec.specs.Quantities.{weighted_reward_in, weights_after_in}
 use Rattle.dp_spec.specs.Steps.{advanced_front}
 use Rattle.dp_spec.specs.WellFormed.{IsFront}
-use Rattle.dp_laws.proofs.AdvancedFronts.{action_at, action_before, as_many_agents, class_in_range, class_is_pair,
-    in_product}
+use Rattle.dp_laws.proofs.AdvancedFronts.{action_at, action_before, as_many_agents, class_in_range, class_is_pair}
+use Rattle.dp_laws.proofs.AdvancedFronts.{in_product}
 use Rattle.dp_laws.proofs.JointPairs.{pair_injective}
 use Rattle.dp_spec.specs.ClassSteps.{StepsByClass, chosen_joint_action, pair_number}
-use Rattle.dp_laws.proofs.SpanSums.{span_history_sum_ext, span_history_sum_group, span_sum_ext, span_sum_only,
-    where_other, where_same}
+use Rattle.dp_laws.proofs.SpanSums.{span_history_sum_ext, span_history_sum_group, span_sum_ext, span_sum_only}
+use Rattle.dp_laws.proofs.SpanSums.{where_other, where_same}
 
 -- a test of pairs as two tests
 both_where : (u v p p' q q' : ℕ) (x y : Span) → (u ≡ v → (p ≡ p') × (q ≡ q')) → (p ≡ p' → q ≡ q' → u ≡ v)

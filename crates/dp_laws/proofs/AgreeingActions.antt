@@ -1,6 +1,6 @@
 -- the joint actions that agree with a well-formed front's choices: there is one, and choosing leaves no new one
-use Rattle.std.proofs.Common.{◌≡◌, inl, inr, ℕ, zero, suc, ◌<◌, true, List, [], ◌∷◌, get_or, set, Option, Some, None,
-    refl, sym, ap, ◌∙◌, arith}
+use Rattle.std.proofs.Common.{◌≡◌, inl, inr, ℕ, zero, suc, ◌<◌, true, List, [], ◌∷◌, get_or, set, Option, Some, None}
+use Rattle.std.proofs.Common.{refl, sym, ap, ◌∙◌, arith}
 use Rattle.std.specs.Prelude.{unwrap_or}
 use Rattle.std.specs.Cmp.Derive.{both_true}
 use Rattle.std.proofs.lemmas.Bool.Decides.{nat_tests}
@@ -13,8 +13,8 @@ use Rattle.dp_spec.specs.Steps.{IsUnassigned, with_choice}
 use Rattle.dp_base.specs.Sums.{numbers_below}
 use Rattle.dp_spec.specs.WellFormed.{AreAgentFronts, IsFront}
 use Rattle.dp_spec.specs.WellFormed.AreAgentFronts.{and_agent, no_agents}
-use Rattle.dp_spec.proofs.JointNumberLaws.{AreBelow, joint_number_below, parts_below, parts_of-joint_number,
-    positive_left, positive_right}
+use Rattle.dp_spec.proofs.JointNumberLaws.{AreBelow, joint_number_below, parts_below, parts_of-joint_number}
+use Rattle.dp_spec.proofs.JointNumberLaws.{positive_left, positive_right}
 use Rattle.dp_base.proofs.Members.{IsIn, IsIn-below, IsIn-filter}
 use Rattle.std.proofs.lemmas.Bool.{and_parts, cases_eq}
 use Rattle.dp_spec.specs.ClassSteps.{actions_for, chosen_joint_action}

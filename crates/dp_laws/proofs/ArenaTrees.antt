@@ -1,10 +1,10 @@
 -- A step turns the one tree of an arena into the one tree of the grown arena.
-use Rattle.std.proofs.Common.{◌≡◌, ◌≢◌, ℕ, zero, suc, ◌+◌, ◌-◌, ◌<◌, ◌≤◌, ◌⊎◌, ℤ, pos, List, [], ◌∷◌, length, get_or,
-    refl, sym, ap, subst, ◌∙◌, arith, inl, inr}
+use Rattle.std.proofs.Common.{◌≡◌, ◌≢◌, ℕ, zero, suc, ◌+◌, ◌-◌, ◌<◌, ◌≤◌, ◌⊎◌, ℤ, pos, List, [], ◌∷◌, length, get_or}
+use Rattle.std.proofs.Common.{refl, sym, ap, subst, ◌∙◌, arith, inl, inr}
 use Rattle.std.proofs.lemmas.Bool.{cases_eq, cases_lt}
 use Rattle.std.proofs.lemmas.Bool.Decides.{nat_tests}
-use Rattle.dp_spec.specs.BoundTree.{BoundTree, BoundTrees, leaf, branch, merge, no_bound_trees, more_bound_trees,
-    inner_count, inner_counts}
+use Rattle.dp_spec.specs.BoundTree.{BoundTree, BoundTrees, leaf, branch, merge, no_bound_trees, more_bound_trees}
+use Rattle.dp_spec.specs.BoundTree.{inner_count, inner_counts}
 use Rattle.dp_spec.specs.declared.step.Step.{Step}
 use Rattle.dp_spec.specs.declared.step.Step.TheVariants.{Branch, Merge}
 use Rattle.dp_spec.specs.declared.node.NodeKind.TheVariants.{Leaf, Inner}

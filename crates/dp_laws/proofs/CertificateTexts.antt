@@ -1,26 +1,29 @@
 -- One spelling of certificates: a text is that of one certificate.
-use Rattle.std.proofs.Common.{◌≡◌, inl, inr, ℕ, ◌-◌, ◌^◌, ◌<◌, Bool, true, false, List, [], ◌∷◌, ◌++◌, get_or, drop,
-    refl, sym, ap, subst, ◌∙◌, append_assoc, arith}
+use Rattle.std.proofs.Common.{◌≡◌, inl, inr, ℕ, ◌-◌, ◌^◌, ◌<◌, Bool, true, false, List, [], ◌∷◌, ◌++◌, get_or, drop}
+use Rattle.std.proofs.Common.{refl, sym, ap, subst, ◌∙◌, append_assoc, arith}
 use Rattle.std.specs.Prelude.{ℤ, pos, unsigned_abs, map, codes}
 use Rattle.dp_spec.specs.Model.{Model, IsModel}
 use Rattle.dp_spec.specs.SharedPolicy.{unfolded}
 use Rattle.dp_spec.specs.SharedRows.{shared_policy_rows}
 use Rattle.dp_spec.specs.PlainForm.{plain_form}
 use Rattle.std.specs.Fmt.{decimal}
-use Rattle.dp_spec.specs.BoundTree.{BoundTree, BoundTrees, child_count, leaf, branch, merge, no_bound_trees,
-    more_bound_trees}
+use Rattle.dp_spec.specs.BoundTree.{BoundTree, BoundTrees, child_count, leaf, branch, merge, no_bound_trees}
+use Rattle.dp_spec.specs.BoundTree.{more_bound_trees}
 use Rattle.dp_spec.specs.Certificate.{Certificate, HasPolicyOfVersion}
 use Rattle.dp_spec.specs.TextLines.{Item, fixed, plain, Line, fixed_line, line_text, Allows, AllAllowed}
 use Rattle.dp_spec.specs.PolicyText.{title_form, end_form, policy_rows, agent_lines}
-use Rattle.dp_spec.specs.CertificateText.{certificate_rows, mode_form, signed_form, leaf_form, branch_form,
-    merge_form, node_lines, children_lines, certificate_lines, certificate_text, HasTextNumbers, IsCertificateText}
-use Rattle.dp_laws.proofs.LineTexts.{HasItems, AreLines, bytes_of, decimal_injective_wide, decimal_item,
-    joined_injective, first_of_list, rest_of_list, line_text_injective, text_of_lines_injective}
+use Rattle.dp_spec.specs.CertificateText.{certificate_rows, mode_form, signed_form, leaf_form, branch_form}
+use Rattle.dp_spec.specs.CertificateText.{merge_form, node_lines, children_lines, certificate_lines, certificate_text}
+use Rattle.dp_spec.specs.CertificateText.{HasTextNumbers, IsCertificateText}
+use Rattle.dp_laws.proofs.LineTexts.{HasItems, AreLines, bytes_of, decimal_injective_wide, decimal_item}
+use Rattle.dp_laws.proofs.LineTexts.{joined_injective, first_of_list, rest_of_list, line_text_injective}
+use Rattle.dp_laws.proofs.LineTexts.{text_of_lines_injective}
 use Rattle.dp_laws.proofs.PlainForms.{plain_is_form}
 use Rattle.dp_laws.proofs.SharedTexts.{shared_are_lines, shared_lines_injective}
 use Rattle.dp_laws.proofs.SharedTrees.{unfolded_is_policy}
-use Rattle.dp_laws.proofs.WholeTexts.{AreLines-append, AllAllowed-parts, agents_are_lines, actions_small,
-    horizon_line_injective, all_agent_lines_injective, allowed_of, AllAllowed-append}
+use Rattle.dp_laws.proofs.WholeTexts.{AreLines-append, AllAllowed-parts, agents_are_lines, actions_small}
+use Rattle.dp_laws.proofs.WholeTexts.{horizon_line_injective, all_agent_lines_injective, allowed_of}
+use Rattle.dp_laws.proofs.WholeTexts.{AllAllowed-append}
 
 -- ---- nodes
 

@@ -11,8 +11,8 @@ use Rattle.dp_spec.specs.Bound.{agreeing_actions, all_agree, bound_of}
 use Rattle.dp_spec.specs.Front.{Front, class_counts}
 use Rattle.dp_spec.specs.JointNumbers.{parts_of, product}
 use Rattle.dp_spec.specs.Model.{IsModel, Model, joint_actions, joint_observations}
-use Rattle.dp_spec.specs.Quantities.{action_look_ahead_in, bound_in, class_weight_in, earned_reward_in,
-    history_weight_in, span_history_sum}
+use Rattle.dp_spec.specs.Quantities.{action_look_ahead_in, bound_in, class_weight_in, earned_reward_in}
+use Rattle.dp_spec.specs.Quantities.{history_weight_in, span_history_sum}
 use Rattle.dp_spec.specs.Steps.{IsUnassigned, chosen_front}
 use Rattle.dp_base.specs.Sums.{greatest, int_sum, numbers_below}
 use Rattle.dp_spec.specs.WellFormed.{IsFront}

@@ -1,10 +1,10 @@
 -- choosing changes no weight and nothing that is earned
-use Rattle.std.proofs.Common.{◌≡◌, ◌↔◌, ℕ, zero, suc, ◌<◌, cond, eqb, List, [], ◌∷◌, length, get_or, Some, refl, sym,
-    ap, subst}
+use Rattle.std.proofs.Common.{◌≡◌, ◌↔◌, ℕ, zero, suc, ◌<◌, cond, eqb, List, [], ◌∷◌, length, get_or, Some, refl, sym}
+use Rattle.std.proofs.Common.{ap, subst}
 use Rattle.std.proofs.Math.ListN.{length-set}
 use Rattle.dp_laws.specs.ChoosingLaws.{WeighAlike}
-use Rattle.dp_spec.specs.Front.{AgentFront, Front, class_counts, class_weight, fixed_actions, fixed_joint_action,
-    joint_class, own_classes, own_histories}
+use Rattle.dp_spec.specs.Front.{AgentFront, Front, class_counts, class_weight, fixed_actions, fixed_joint_action}
+use Rattle.dp_spec.specs.Front.{joint_class, own_classes, own_histories}
 use Rattle.dp_spec.specs.JointHistory.{earned_reward, history_weight, nat_history_sum}
 use Rattle.dp_spec.specs.JointNumbers.{joint_number, product}
 use Rattle.dp_spec.specs.Merge.{AreEquivalent, class_of_agent, class_of_others, class_total, place_weight, without}

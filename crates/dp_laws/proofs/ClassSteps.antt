@@ -6,8 +6,8 @@ use Rattle.dp_spec.specs.Front.{Front, class_weight, fixed_joint_action, joint_c
 use Rattle.dp_spec.specs.JointHistory.{IsJointHistory, history_weight, nat_history_sum}
 use Rattle.dp_spec.specs.LookAhead.{weighted_reward, weights_after}
 use Rattle.dp_spec.specs.Model.{IsModel, Model, joint_observations, step_scale}
-use Rattle.dp_spec.specs.Quantities.{class_weight_in, history_weight_in, span_history_sum, weighted_reward_in,
-    weights_after_in}
+use Rattle.dp_spec.specs.Quantities.{class_weight_in, history_weight_in, span_history_sum, weighted_reward_in}
+use Rattle.dp_spec.specs.Quantities.{weights_after_in}
 use Rattle.dp_spec.specs.WellFormed.{IsFront, KeepsHistoriesApart}
 use Rattle.dp_laws.proofs.LinearSteps.{reward_of_histories, weights_after_histories}
 use Rattle.dp_laws.proofs.QuantityLaws.{exact_quantities}

@@ -1,12 +1,12 @@
 -- What the classes of one agent earn: of two classes in proportion both earn more with one of two trees.
-use Rattle.std.proofs.Common.{◌≡◌, ◌⊎◌, inl, inr, ℕ, ◌*◌, ◌<◌, Bool, true, false, cond, eqb, ℤ, pos, ◌+ℤ◌, ◌*ℤ◌, ◌≤ℤ◌,
-    List, refl, sym, ap, ◌∙◌, arith}
+use Rattle.std.proofs.Common.{◌≡◌, ◌⊎◌, inl, inr, ℕ, ◌*◌, ◌<◌, Bool, true, false, cond, eqb, ℤ, pos, ◌+ℤ◌, ◌*ℤ◌, ◌≤ℤ◌}
+use Rattle.std.proofs.Common.{List, refl, sym, ap, ◌∙◌, arith}
 use Rattle.std.proofs.Math.IntN.{zero-*ℤ}
 use Rattle.dp_base.proofs.Order.{add_le_left, add_le_right, le_of_mul_le_left, le_total}
 use Rattle.dp_base.proofs.Ring.{v, nat, ◌⊗◌, by_ring, zle_of, zmul_le}
 use Rattle.dp_base.proofs.Sums.{int_sum_ext, int_sum_zero, mul_two, ext_two}
-use Rattle.dp_laws.proofs.HistorySums.{int_history_sum_ext, int_history_sum_group, int_history_sum_swap,
-    int_history_sum_weigh, int_history_sum_zero, nat_history_sum_none}
+use Rattle.dp_laws.proofs.HistorySums.{int_history_sum_ext, int_history_sum_group, int_history_sum_swap}
+use Rattle.dp_laws.proofs.HistorySums.{int_history_sum_weigh, int_history_sum_zero, nat_history_sum_none}
 use Rattle.dp_spec.specs.JointHistory.{IsJointHistory, int_history_sum, nat_history_sum}
 use Rattle.dp_base.specs.Sums.{int_sum, nat_sum}
 use Rattle.dp_base.proofs.NaturalSumLaws.{nat_sum_none}

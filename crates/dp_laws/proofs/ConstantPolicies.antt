@@ -1,7 +1,7 @@
 -- constant policies are joint policies of the model, and the root's bound at horizon 1 is the greatest of their
 -- values
-use Rattle.std.proofs.Common.{◌≡◌, ℕ, zero, suc, ◌<◌, true, ℤ, pos, ◌+ℤ◌, List, [], ◌∷◌, map, length, get_or, Option,
-    None, refl, sym, ap, ◌∙◌, arith}
+use Rattle.std.proofs.Common.{◌≡◌, ℕ, zero, suc, ◌<◌, true, ℤ, pos, ◌+ℤ◌, List, [], ◌∷◌, map, length, get_or, Option}
+use Rattle.std.proofs.Common.{None, refl, sym, ap, ◌∙◌, arith}
 use Rattle.std.proofs.lemmas.Int.{ints}
 use Rattle.dp_base.proofs.Sums.{int_sum_zero}
 use Rattle.dp_laws.proofs.EarnedValue.{policy_value_is_recursive}

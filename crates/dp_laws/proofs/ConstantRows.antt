@@ -1,6 +1,6 @@
 -- The rows of a constant joint policy are its shared form.
-use Rattle.std.proofs.Common.{◌≡◌, ℕ, zero, suc, ◌+◌, ◌-◌, ◌<◌, List, [], ◌∷◌, length, get_or, map, refl, sym, ap,
-    ◌∙◌, subst, arith}
+use Rattle.std.proofs.Common.{◌≡◌, ℕ, zero, suc, ◌+◌, ◌-◌, ◌<◌, List, [], ◌∷◌, length, get_or, map, refl, sym, ap}
+use Rattle.std.proofs.Common.{◌∙◌, subst, arith}
 use Rattle.std.specs.Prelude.{max}
 use Rattle.std.specs.List.{range_with_len}
 use Rattle.std.proofs.lemmas.List.FromFn.{get_or-map-range_with_len, length-map-range_with_len}
@@ -14,8 +14,8 @@ use Rattle.dp_spec.specs.Model.{IsModel, Model, joint_actions, joint_observation
 use Rattle.dp_spec.specs.PlainForm.{observations_after}
 use Rattle.dp_spec.specs.PolicyTree.{PolicyTree, node}
 use Rattle.dp_spec.specs.SharedForm.{AreInOrder, AreReduced, AreReducedRows, IsSharedForm, all_nexts, read_after}
-use Rattle.dp_spec.specs.SharedPolicy.{AreAgentRows, AreRowsOfAgents, IsSharedOf, PolicyRow, no_row, row_at,
-    row_count, row_counts, tree_of_row, trees_of, unfolded, unfolded_tree}
+use Rattle.dp_spec.specs.SharedPolicy.{AreAgentRows, AreRowsOfAgents, IsSharedOf, PolicyRow, no_row, row_at}
+use Rattle.dp_spec.specs.SharedPolicy.{row_count, row_counts, tree_of_row, trees_of, unfolded, unfolded_tree}
 use Rattle.dp_spec.specs.SharedPolicy.AreRowsOfAgents.{and_agent, no_agents}
 use Rattle.dp_spec.proofs.JointNumberLaws.{AreBelow, parts_below, positive_left, positive_right}
 use Rattle.dp_spec.proofs.ModelLaws.{some_joint_observation}

@@ -8,8 +8,8 @@ use Rattle.dp_laws.proofs.HistorySums.{int_history_sum_ext, int_history_sum_zero
 use Rattle.dp_spec.specs.JointHistory.{IsJointHistory, earned_reward, trees_after_history}
 use Rattle.dp_spec.specs.LookAhead.{look_ahead, weighted_reward, weights_after}
 use Rattle.dp_spec.specs.MdpTable.{mdp_table}
-use Rattle.dp_spec.specs.Model.{Model, joint_actions, joint_observations, obs_at, reward_at, start_at, step_scale,
-    trans_at}
+use Rattle.dp_spec.specs.Model.{Model, joint_actions, joint_observations, obs_at, reward_at, start_at, step_scale}
+use Rattle.dp_spec.specs.Model.{trans_at}
 use Rattle.dp_spec.specs.PolicyTree.{PolicyTree}
 use Rattle.dp_base.specs.Sums.{int_sum, numbers_below}
 use Rattle.dp_spec.specs.Value.{backward_value, joint_root_action, policy_value, trees_after}

@@ -1,24 +1,25 @@
 -- In a sound arithmetic what is computed for each quantity encloses its exact definition.
-use Rattle.std.proofs.Common.{◌≡◌, ℕ, zero, suc, ◌+◌, ◌-◌, ◌*◌, ◌^◌, ◌<◌, ◌≤◌, Bool, true, false, cond, eqb, ℤ, pos,
-    ◌*ℤ◌, List, [], ◌∷◌, refl, ap, ◌∙◌, subst, arith}
+use Rattle.std.proofs.Common.{◌≡◌, ℕ, zero, suc, ◌+◌, ◌-◌, ◌*◌, ◌^◌, ◌<◌, ◌≤◌, Bool, true, false, cond, eqb, ℤ, pos}
+use Rattle.std.proofs.Common.{◌*ℤ◌, List, [], ◌∷◌, refl, ap, ◌∙◌, subst, arith}
 use Rattle.dp_spec.specs.declared.span.Span.{Span}
-use Rattle.dp_spec.proofs.QuantityScales.{reward_factor_is, step_scale_is, scale_after_carry, scale_after_reward,
-    scale_after_step, scale_after_tail, scale_at_stage, scale_of_first, scale_of_next}
+use Rattle.dp_spec.proofs.QuantityScales.{reward_factor_is, step_scale_is, scale_after_carry, scale_after_reward}
+use Rattle.dp_spec.proofs.QuantityScales.{scale_after_step, scale_after_tail, scale_at_stage, scale_of_first}
+use Rattle.dp_spec.proofs.QuantityScales.{scale_of_next}
 use Rattle.dp_laws.proofs.TableBound.{look_ahead_le_table}
 use Rattle.dp_spec.specs.Arithmetic.{Arithmetic, point}
 use Rattle.dp_spec.specs.Bound.{agreeing_actions, bound_of}
 use Rattle.dp_spec.specs.Enclosure.{Enclosure, IsSound}
 use Rattle.dp_spec.specs.Front.{Front, class_counts, class_weight, fixed_joint_action, joint_class}
-use Rattle.dp_spec.specs.JointHistory.{IsJointHistory, earned_reward, history_weight, int_history_sum,
-    nat_history_sum}
+use Rattle.dp_spec.specs.JointHistory.{IsJointHistory, earned_reward, history_weight, int_history_sum}
+use Rattle.dp_spec.specs.JointHistory.{nat_history_sum}
 use Rattle.dp_spec.specs.JointNumbers.{product}
 use Rattle.dp_spec.specs.LookAhead.{action_look_ahead, look_ahead, weighted_reward, weights_after}
 use Rattle.dp_spec.specs.MdpTable.{mdp_table}
-use Rattle.dp_spec.specs.Model.{IsModel, Model, joint_actions, joint_observations, obs_at, reward_at, start_at,
-    step_scale, trans_at, value_scale}
-use Rattle.dp_spec.specs.Quantities.{action_look_ahead_in, bound_in, class_weight_in, earned_reward_in,
-    history_weight_in, look_ahead_in, mdp_table_in, span_history_sum, span_sum, weighted_reward_in, weighted_table_in,
-    weights_after_in}
+use Rattle.dp_spec.specs.Model.{IsModel, Model, joint_actions, joint_observations, obs_at, reward_at, start_at}
+use Rattle.dp_spec.specs.Model.{step_scale, trans_at, value_scale}
+use Rattle.dp_spec.specs.Quantities.{action_look_ahead_in, bound_in, class_weight_in, earned_reward_in}
+use Rattle.dp_spec.specs.Quantities.{history_weight_in, look_ahead_in, mdp_table_in, span_history_sum, span_sum}
+use Rattle.dp_spec.specs.Quantities.{weighted_reward_in, weighted_table_in, weights_after_in}
 use Rattle.dp_base.specs.Sums.{greatest, int_sum, nat_sum, numbers_below}
 
 module _ (m : Model) (A : Arithmetic) (R : Enclosure) (ok : IsSound m.scales A R) where

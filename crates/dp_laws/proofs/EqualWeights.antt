@@ -8,8 +8,8 @@ use Rattle.dp_spec.specs.Arithmetic.{Arithmetic, span_add}
 use Rattle.dp_spec.specs.Calls.{IsPoint, size}
 use Rattle.dp_spec.specs.Model.{Model, joint_actions, joint_observations, obs_at, reward_at, trans_at}
 use Rattle.dp_spec.specs.PolicyTree.{PolicyTree}
-use Rattle.dp_spec.specs.Quantities.{look_ahead_in, mdp_table_in, recursive_worth_in, span_sum, weighted_reward_in,
-    weighted_table_in, weights_after_in}
+use Rattle.dp_spec.specs.Quantities.{look_ahead_in, mdp_table_in, recursive_worth_in, span_sum, weighted_reward_in}
+use Rattle.dp_spec.specs.Quantities.{weighted_table_in, weights_after_in}
 use Rattle.dp_spec.specs.Sizes.{AreWeights, weight_limit}
 use Rattle.dp_base.specs.Sums.{greatest, int_sum, numbers_below}
 use Rattle.dp_spec.specs.Value.{joint_root_action, trees_after}

@@ -1,17 +1,17 @@
 -- In exact mode the size records of rewards, worth, the table, look-ahead and fronts hold, by the mode's condition.
-use Rattle.std.proofs.Common.{◌≡◌, ℕ, suc, ◌+◌, ◌-◌, ◌*◌, ◌^◌, ◌<◌, ◌≤◌, true, unsigned_abs, List, refl, sym, ap, ◌∙◌,
-    arith}
-use Rattle.std.proofs.Math.Nat.{le-mul_of_pos_right, mul-le-mul_left, mul-le-mul_right, mul-pos, one-le-pow, pow-suc,
-    pow-zero}
+use Rattle.std.proofs.Common.{◌≡◌, ℕ, suc, ◌+◌, ◌-◌, ◌*◌, ◌^◌, ◌<◌, ◌≤◌, true, unsigned_abs, List, refl, sym, ap, ◌∙◌}
+use Rattle.std.proofs.Common.{arith}
+use Rattle.std.proofs.Math.Nat.{le-mul_of_pos_right, mul-le-mul_left, mul-le-mul_right, mul-pos, one-le-pow, pow-suc}
+use Rattle.std.proofs.Math.Nat.{pow-zero}
 use Rattle.std.proofs.lemmas.Nat.{pow-add}
 use Rattle.dp_spec.specs.declared.span.Span.{Span}
-use Rattle.dp_laws.proofs.ExactHistorySizes.{advanced_most, class_rewards_most, class_looks_most, earned_most,
-    front_total, histories_total}
-use Rattle.dp_laws.proofs.ExactWeightUpdates.{exact_can_update_weights, chance_point, chances_step, power_grows,
-    weight_room, whole_room}
+use Rattle.dp_laws.proofs.ExactHistorySizes.{advanced_most, class_rewards_most, class_looks_most, earned_most}
+use Rattle.dp_laws.proofs.ExactHistorySizes.{front_total, histories_total}
+use Rattle.dp_laws.proofs.ExactWeightUpdates.{exact_can_update_weights, chance_point, chances_step, power_grows}
+use Rattle.dp_laws.proofs.ExactWeightUpdates.{weight_room, whole_room}
 use Rattle.dp_laws.proofs.ExactSizes.{chance_size, gained_total, reward_total, tail_size}
-use Rattle.dp_laws.proofs.ExactValueSizes.{looks_most, one_size, table_most, table_parts_most, value_most,
-    weighted_table_most, worth_most}
+use Rattle.dp_laws.proofs.ExactValueSizes.{looks_most, one_size, table_most, table_parts_most, value_most}
+use Rattle.dp_laws.proofs.ExactValueSizes.{weighted_table_most, worth_most}
 use Rattle.dp_laws.proofs.ActingHistories.{class_weights, front_acting}
 use Rattle.dp_spec.proofs.ModeCondition.{reward_most, reward_most_some, step_scale_some}
 use Rattle.dp_laws.proofs.OrderedSpans.{total_size}
@@ -22,8 +22,8 @@ use Rattle.dp_spec.specs.Front.{Front, fixed_joint_action}
 use Rattle.dp_spec.specs.JointHistory.{nat_history_sum}
 use Rattle.dp_spec.specs.Mode.{is_exact_mode}
 use Rattle.dp_spec.specs.JointHistory.{nat_history_sum}
-use Rattle.dp_spec.specs.Model.{IsModel, Model, joint_actions, joint_observations, obs_at, reward_at, step_scale,
-    trans_at}
+use Rattle.dp_spec.specs.Model.{IsModel, Model, joint_actions, joint_observations, obs_at, reward_at, step_scale}
+use Rattle.dp_spec.specs.Model.{trans_at}
 use Rattle.dp_spec.specs.PolicyTree.{IsPolicyOf, PolicyTree}
 use Rattle.dp_spec.specs.Quantities.{class_weight_in, history_weight_in, mdp_table_in}
 use Rattle.dp_spec.specs.Sizes.{AreWeights, CanReward, IsStep, reward_size}

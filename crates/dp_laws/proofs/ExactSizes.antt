@@ -1,6 +1,6 @@
 -- In exact arithmetic magnitudes are multiplied, so what weights come to is bounded by their sum.
-use Rattle.std.proofs.Common.{◌≡◌, inl, inr, ℕ, suc, ◌*◌, ◌^◌, ◌<◌, ◌≤◌, max, ℤ, pos, ◌*ℤ◌, unsigned_abs, ap, ◌∙◌,
-    arith}
+use Rattle.std.proofs.Common.{◌≡◌, inl, inr, ℕ, suc, ◌*◌, ◌^◌, ◌<◌, ◌≤◌, max, ℤ, pos, ◌*ℤ◌, unsigned_abs, ap, ◌∙◌}
+use Rattle.std.proofs.Common.{arith}
 use Rattle.std.proofs.lemmas.Int.{unsigned_abs-mul}
 use Rattle.std.proofs.Math.Nat.{pow-suc, mul-le-mul_left, mul-le-mul_right}
 use Rattle.dp_spec.specs.declared.span.Span.{Span}
@@ -12,13 +12,13 @@ use Rattle.dp_laws.proofs.SizeSums.{updated_size_le}
 use Rattle.dp_spec.specs.Arithmetic.{exact, reward_factor}
 use Rattle.dp_spec.specs.Calls.{size}
 use Rattle.dp_spec.specs.LookAhead.{weights_after}
-use Rattle.dp_spec.specs.Model.{IsModel, Model, joint_actions, joint_observations, obs_at, reward_at, step_scale,
-    trans_at}
+use Rattle.dp_spec.specs.Model.{IsModel, Model, joint_actions, joint_observations, obs_at, reward_at, step_scale}
+use Rattle.dp_spec.specs.Model.{trans_at}
 use Rattle.dp_spec.specs.Quantities.{weights_after_in}
 use Rattle.dp_spec.specs.Sizes.{reward_size}
 use Rattle.dp_base.specs.Sums.{nat_sum}
-use Rattle.dp_base.proofs.NaturalSumLaws.{nat_sum_at, nat_sum_ext, nat_sum_le, nat_sum_scale, nat_sum_swap,
-    nat_sum_times}
+use Rattle.dp_base.proofs.NaturalSumLaws.{nat_sum_at, nat_sum_ext, nat_sum_le, nat_sum_scale, nat_sum_swap}
+use Rattle.dp_base.proofs.NaturalSumLaws.{nat_sum_times}
 use Rattle.std.proofs.lemmas.Bool.{cases_lt}
 
 -- ---- the operations

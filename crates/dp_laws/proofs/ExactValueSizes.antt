@@ -12,8 +12,8 @@ use Rattle.dp_spec.specs.Arithmetic.{exact}
 use Rattle.dp_spec.specs.Calls.{size}
 use Rattle.dp_spec.specs.Model.{IsModel, Model, joint_actions, joint_observations, step_scale, trans_at}
 use Rattle.dp_spec.specs.PolicyTree.{IsPolicyOf, PolicyTree}
-use Rattle.dp_spec.specs.Quantities.{look_ahead_in, mdp_table_in, weighted_reward_in, weighted_table_in,
-    weights_after_in}
+use Rattle.dp_spec.specs.Quantities.{look_ahead_in, mdp_table_in, weighted_reward_in, weighted_table_in}
+use Rattle.dp_spec.specs.Quantities.{weights_after_in}
 use Rattle.dp_spec.specs.Sizes.{reward_size}
 use Rattle.dp_spec.specs.SizesOfEarnings.{worth_size}
 use Rattle.dp_spec.specs.SizesOfLookAhead.{next_look_size, weighted_table_size}

@@ -12,8 +12,8 @@ use Rattle.dp_spec.proofs.QuantityScales.{scale_of_first, scale_of_next, step_sc
 use Rattle.dp_spec.specs.Arithmetic.{exact}
 use Rattle.dp_spec.specs.Calls.{IsPoint, exact_calls, size}
 use Rattle.dp_spec.specs.Mode.{is_exact_mode}
-use Rattle.dp_spec.specs.Model.{IsModel, Model, joint_actions, joint_observations, obs_at, start_at, step_scale,
-    trans_at}
+use Rattle.dp_spec.specs.Model.{IsModel, Model, joint_actions, joint_observations, obs_at, start_at, step_scale}
+use Rattle.dp_spec.specs.Model.{trans_at}
 use Rattle.dp_spec.specs.Quantities.{weights_after_in}
 use Rattle.dp_spec.specs.Sizes.{AreWeights, CanUpdateWeights, IsStep}
 use Rattle.dp_base.specs.Sums.{nat_sum}

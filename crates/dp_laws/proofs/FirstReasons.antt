@@ -1,28 +1,29 @@
 -- The first reason why a certificate is not valid: there is none exactly where it is valid, and what it names is
 -- what the definitions give.
-use Rattle.std.proofs.Common.{ℤ, ◌≡◌, ◌⊎◌, inl, inr, ℕ, zero, suc, ◌+◌, ◌<◌, Bool, true, false, not, ◌&&◌, eqb, ltb,
-    IsTrue, pos, List, [], ◌∷◌, ◌++◌, length, get_or, Option, Some, None, refl, sym, ap, ◌∙◌, subst, arith}
+use Rattle.std.proofs.Common.{ℤ, ◌≡◌, ◌⊎◌, inl, inr, ℕ, zero, suc, ◌+◌, ◌<◌, Bool, true, false, not, ◌&&◌, eqb, ltb}
+use Rattle.std.proofs.Common.{IsTrue, pos, List, [], ◌∷◌, ◌++◌, length, get_or, Option, Some, None, refl, sym, ap}
+use Rattle.std.proofs.Common.{◌∙◌, subst, arith}
 use Rattle.std.specs.Prelude.{◌↔◌, is_none, unwrap_or}
 use Rattle.std.specs.Bool.{Decides, beq}
 use Rattle.std.specs.Cmp.{booleans_Decides}
 use Rattle.std.specs.Option.{option_or}
 use Rattle.std.specs.Ordering.{int_eq}
-use Rattle.std.proofs.lemmas.Bool.Decides.{Decides-and, Decides-eqb, Decides-int_eq, Decides-like, Decides-ltb,
-    not_from_Decides}
+use Rattle.std.proofs.lemmas.Bool.Decides.{Decides-and, Decides-eqb, Decides-int_eq, Decides-like, Decides-ltb}
+use Rattle.std.proofs.lemmas.Bool.Decides.{not_from_Decides}
 use Rattle.std.proofs.lemmas.List.Elements.{All-cons, All-head, All-nil, All-tail}
 use Rattle.dp_spec.specs.Arithmetic.{Arithmetic}
-use Rattle.dp_spec.specs.BoundTree.{BoundTree, BoundTrees, branch, child_count, greatest_leaf, inner_count, leaf,
-    merge}
+use Rattle.dp_spec.specs.BoundTree.{BoundTree, BoundTrees, branch, child_count, greatest_leaf, inner_count, leaf}
+use Rattle.dp_spec.specs.BoundTree.{merge}
 use Rattle.dp_spec.specs.Certificate.{Certificate, HasPolicyOfVersion, IsValid, arithmetic_for}
-use Rattle.dp_spec.specs.FirstReason.{HasOtherBound, HasOtherChildren, HasRightHead, HasRightNodes, HasUnequalClasses,
-    IsFirstReason, IsFirstWrong}
+use Rattle.dp_spec.specs.FirstReason.{HasOtherBound, HasOtherChildren, HasRightHead, HasRightNodes, HasUnequalClasses}
+use Rattle.dp_spec.specs.FirstReason.{IsFirstReason, IsFirstWrong}
 use Rattle.dp_spec.specs.Front.{AgentFront}
 use Rattle.dp_spec.specs.Mode.{IsWithinVersion, is_exact_mode, unit_of}
 use Rattle.dp_spec.specs.Model.{Model}
 use Rattle.dp_spec.specs.Qualities.{Node, certificate_nodes}
-use Rattle.dp_spec.specs.Reasons.{Reason, bound_is, children_are, first_of, first_reason, inner_is, is_unassigned,
-    lower_is, lower_of, may_branch, may_merge, may_refine, mode_is, no_place, node_reasons, tree_reason, unequal_at,
-    unequal_reason, unit_is, unless, upper_is}
+use Rattle.dp_spec.specs.Reasons.{Reason, bound_is, children_are, first_of, first_reason, inner_is, is_unassigned}
+use Rattle.dp_spec.specs.Reasons.{lower_is, lower_of, may_branch, may_merge, may_refine, mode_is, no_place}
+use Rattle.dp_spec.specs.Reasons.{node_reasons, tree_reason, unequal_at, unequal_reason, unit_is, unless, upper_is}
 use Rattle.dp_spec.specs.RightNodes.{AreRightNodes, IsRightNode, IsRightTree, MayStand}
 use Rattle.dp_spec.specs.Steps.{IsUnassigned}
 use Rattle.dp_spec.specs.UnequalPlaces.{first_unequal}

@@ -1,6 +1,6 @@
 -- A bound tree that fits a front bounds every joint policy that keeps it.
-use Rattle.std.proofs.Common.{◌≡◌, inl, inr, ℕ, suc, ◌+◌, ◌-◌, ◌<◌, ◌≤◌, Bool, ℤ, pos, ◌*ℤ◌, ◌≤ℤ◌, List, get_or, refl,
-    sym, subst, arith}
+use Rattle.std.proofs.Common.{◌≡◌, inl, inr, ℕ, suc, ◌+◌, ◌-◌, ◌<◌, ◌≤◌, Bool, ℤ, pos, ◌*ℤ◌, ◌≤ℤ◌, List, get_or, refl}
+use Rattle.std.proofs.Common.{sym, subst, arith}
 use Rattle.std.specs.Int.{int_min}
 use Rattle.dp_laws.proofs.EnclosedQuantities.{bound_enclosed}
 use Rattle.dp_laws.proofs.KeptBound.{keeper_under_bound}
@@ -14,8 +14,8 @@ use Rattle.dp_laws.proofs.RootFront.{policy_keeps_root, root_is_front}
 use Rattle.dp_laws.proofs.WellFormedSteps.{after_choice_is_front, merged_is_front}
 use Rattle.dp_spec.specs.Arithmetic.{Arithmetic, arithmetic}
 use Rattle.dp_spec.specs.Bound.{bound_of}
-use Rattle.dp_spec.specs.BoundTree.{AllLeavesAtMost, BoundTree, BoundTrees, LeavesAtMost, branch, leaf, merge,
-    more_bound_trees, no_bound_trees}
+use Rattle.dp_spec.specs.BoundTree.{AllLeavesAtMost, BoundTree, BoundTrees, LeavesAtMost, branch, leaf, merge}
+use Rattle.dp_spec.specs.BoundTree.{more_bound_trees, no_bound_trees}
 use Rattle.dp_spec.specs.Certificate.{FitsRoot}
 use Rattle.dp_spec.specs.Claims.{BoundsEveryPolicy}
 use Rattle.dp_spec.specs.Enclosure.{Enclosure, IsSound, enclosure}

@@ -1,6 +1,6 @@
 -- A joint policy that follows a front with steps left is worth at most its bound.
-use Rattle.std.proofs.Common.{◌≡◌, ℕ, suc, ◌+◌, ◌<◌, Bool, true, false, cond, eqb, ℤ, pos, ◌+ℤ◌, ◌*ℤ◌, ◌≤ℤ◌, List,
-    map, refl, sym, ap, ◌∙◌}
+use Rattle.std.proofs.Common.{◌≡◌, ℕ, suc, ◌+◌, ◌<◌, Bool, true, false, cond, eqb, ℤ, pos, ◌+ℤ◌, ◌*ℤ◌, ◌≤ℤ◌, List}
+use Rattle.std.proofs.Common.{map, refl, sym, ap, ◌∙◌}
 use Rattle.std.proofs.Math.IntN.{zero-*ℤ}
 use Rattle.dp_base.proofs.Order.{add_le_right}
 use Rattle.dp_base.proofs.Ring.{zle_trans, zle_of}
@@ -8,15 +8,15 @@ use Rattle.dp_base.proofs.Sums.{int_sum_ext, int_sum_le, int_sum_zero}
 use Rattle.dp_laws.proofs.OneStep.{value_le_action_look_ahead, root_joint_action_below}
 use Rattle.dp_laws.proofs.ForwardValue.{forward_is_backward}
 use Rattle.dp_laws.proofs.OwnHistories.{own_histories_within, followed_from_start}
-use Rattle.dp_laws.proofs.FollowedFronts.{trees_of, trees_after_history_are, trees_at_stage, classes_below,
-    class_trees_fit, class_trees_agree, class_actions_below}
+use Rattle.dp_laws.proofs.FollowedFronts.{trees_of, trees_after_history_are, trees_at_stage, classes_below}
+use Rattle.dp_laws.proofs.FollowedFronts.{class_trees_fit, class_trees_agree, class_actions_below}
 use Rattle.dp_laws.proofs.Keeping.{keeps_of_follows}
 use Rattle.dp_laws.proofs.KeptActions.{kept_joint_action}
 use Rattle.dp_spec.specs.Bound.{agreeing_actions, bound_of}
-use Rattle.dp_spec.specs.Front.{Front, class_counts, class_weight, fixed_joint_action, joint_class, own_classes,
-    own_histories}
-use Rattle.dp_spec.specs.JointHistory.{IsJointHistory, earned_reward, history_weight, int_history_sum,
-    trees_after_history}
+use Rattle.dp_spec.specs.Front.{Front, class_counts, class_weight, fixed_joint_action, joint_class, own_classes}
+use Rattle.dp_spec.specs.Front.{own_histories}
+use Rattle.dp_spec.specs.JointHistory.{IsJointHistory, earned_reward, history_weight, int_history_sum}
+use Rattle.dp_spec.specs.JointHistory.{trees_after_history}
 use Rattle.dp_spec.specs.JointNumbers.{parts_of, product}
 use Rattle.dp_laws.specs.Following.{FollowsAgentFronts}
 use Rattle.dp_spec.specs.LookAhead.{action_look_ahead}
@@ -27,8 +27,8 @@ use Rattle.dp_spec.specs.Value.{backward_value, joint_root_action, policy_value}
 use Rattle.dp_spec.proofs.JointNumberLaws.{joint_number_below, parts_below, parts_of-joint_number}
 use Rattle.dp_base.proofs.GreatestValues.{le_greatest}
 use Rattle.dp_base.proofs.Members.{IsIn-below, IsIn-filter}
-use Rattle.dp_laws.proofs.HistorySums.{int_history_sum_ext, int_history_sum_group, int_history_sum_swap,
-    int_history_sum_weigh}
+use Rattle.dp_laws.proofs.HistorySums.{int_history_sum_ext, int_history_sum_group, int_history_sum_swap}
+use Rattle.dp_laws.proofs.HistorySums.{int_history_sum_weigh}
 use Rattle.std.proofs.lemmas.Bool.{eqb-true}
 
 -- weights against a value, where the test holds

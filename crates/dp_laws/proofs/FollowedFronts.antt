@@ -1,6 +1,6 @@
 -- Joint policies that follow a front with given trees at its classes, over all agents.
-use Rattle.std.proofs.Common.{◌≡◌, ℕ, zero, suc, true, List, [], ◌∷◌, map, get_or, Option, Some, None, refl, sym, ap,
-    ◌∙◌, arith}
+use Rattle.std.proofs.Common.{◌≡◌, ℕ, zero, suc, true, List, [], ◌∷◌, map, get_or, Option, Some, None, refl, sym, ap}
+use Rattle.std.proofs.Common.{◌∙◌, arith}
 use Rattle.std.proofs.lemmas.Bool.Decides.{nat_tests}
 use Rattle.dp_laws.proofs.OwnHistories.{Within, trees_at, subtrees_at_next}
 use Rattle.dp_spec.specs.Bound.{all_agree, agrees}

@@ -1,6 +1,7 @@
 -- Which fronts have room, and that the steps of a front at nodes that are not wide keep it.
-use Rattle.std.proofs.Common.{◌≡◌, ◌↔◌, inl, inr, ℕ, zero, suc, ◌+◌, ◌*◌, ◌/◌, ◌%◌, ◌^◌, ◌<◌, ◌≤◌, Bool, true, false,
-    ◌&&◌, ◌||◌, not, eqb, List, [], ◌∷◌, map, length, get_or, Option, Some, None, refl, sym, ap, ◌∙◌, arith}
+use Rattle.std.proofs.Common.{◌≡◌, ◌↔◌, inl, inr, ℕ, zero, suc, ◌+◌, ◌*◌, ◌/◌, ◌%◌, ◌^◌, ◌<◌, ◌≤◌, Bool, true, false}
+use Rattle.std.proofs.Common.{◌&&◌, ◌||◌, not, eqb, List, [], ◌∷◌, map, length, get_or, Option, Some, None, refl, sym}
+use Rattle.std.proofs.Common.{ap, ◌∙◌, arith}
 use Rattle.std.specs.Prelude.{nat_le, nat_lt}
 use Rattle.std.proofs.lemmas.Bool.{and_parts, cases_lt}
 use Rattle.std.proofs.lemmas.Bool.Decides.{nat_tests}
@@ -17,8 +18,8 @@ use Rattle.dp_spec.specs.Front.{AgentFront, Front, class_counts}
 use Rattle.dp_spec.specs.JointNumbers.{product}
 use Rattle.dp_spec.specs.Merge.{merged_agents, merged_front}
 use Rattle.dp_spec.specs.Model.{IsModel, Model, joint_actions, joint_observations}
-use Rattle.dp_spec.specs.Steps.{IsUnassigned, advanced_agent, advanced_agents, advanced_front, advanced_if,
-    chosen_front, front_after_choice, is_complete, root_agent, root_front, with_choice}
+use Rattle.dp_spec.specs.Steps.{IsUnassigned, advanced_agent, advanced_agents, advanced_front, advanced_if}
+use Rattle.dp_spec.specs.Steps.{chosen_front, front_after_choice, is_complete, root_agent, root_front, with_choice}
 use Rattle.dp_spec.specs.WellFormed.{AreAgentFronts, AreApart, IsAgentFront, IsFront, KeepsHistoriesApart}
 use Rattle.dp_spec.specs.WellFormed.AreAgentFronts.{and_agent, no_agents}
 use Rattle.dp_spec.specs.Wide.{has_room, is_room, is_wide, next_class_counts, unassigned_count, widens}

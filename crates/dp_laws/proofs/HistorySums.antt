@@ -1,10 +1,10 @@
 -- Laws of sums over joint histories.
-use Rattle.std.proofs.Common.{◌≡◌, ℕ, zero, suc, ◌+◌, ◌*◌, ◌^◌, ◌<◌, ◌≤◌, cond, eqb, ℤ, pos, ◌+ℤ◌, ◌*ℤ◌, List, [],
-    ◌∷◌, refl, sym, ◌∙◌, arith}
+use Rattle.std.proofs.Common.{◌≡◌, ℕ, zero, suc, ◌+◌, ◌*◌, ◌^◌, ◌<◌, ◌≤◌, cond, eqb, ℤ, pos, ◌+ℤ◌, ◌*ℤ◌, List, []}
+use Rattle.std.proofs.Common.{◌∷◌, refl, sym, ◌∙◌, arith}
 use Rattle.std.proofs.Math.Nat.{pow-suc, pow-zero}
 use Rattle.dp_base.proofs.Sums.{int_sum_add, int_sum_ext, int_sum_one, int_sum_swap, int_sum_weigh, int_sum_zero}
-use Rattle.dp_base.proofs.NaturalSumLaws.{nat_sum_add, nat_sum_const, nat_sum_ext, nat_sum_le, nat_sum_none,
-    nat_sum_of_none, nat_sum_swap, nat_sum_times}
+use Rattle.dp_base.proofs.NaturalSumLaws.{nat_sum_add, nat_sum_const, nat_sum_ext, nat_sum_le, nat_sum_none}
+use Rattle.dp_base.proofs.NaturalSumLaws.{nat_sum_of_none, nat_sum_swap, nat_sum_times}
 use Rattle.dp_spec.specs.JointHistory.{IsJointHistory, int_history_sum, nat_history_sum}
 use Rattle.dp_base.specs.Sums.{int_sum, nat_sum}
 

@@ -1,14 +1,14 @@
 -- joint classes one step on: pairs of a joint class and a joint observation
-use Rattle.std.proofs.Common.{◌≡◌, ℕ, ◌+◌, ◌*◌, ◌/◌, ◌%◌, ◌<◌, ℤ, pos, ◌+ℤ◌, List, [], ◌∷◌, length, refl, sym, ap,
-    ◌∙◌, arith}
+use Rattle.std.proofs.Common.{◌≡◌, ℕ, ◌+◌, ◌*◌, ◌/◌, ◌%◌, ◌<◌, ℤ, pos, ◌+ℤ◌, List, [], ◌∷◌, length, refl, sym, ap}
+use Rattle.std.proofs.Common.{◌∙◌, arith}
 use Rattle.std.proofs.lemmas.Int.{ints}
 use Rattle.std.proofs.lemmas.Nat.{div-mul-add, mod-mul-add}
 use Rattle.dp_base.proofs.Sums.{int_sum_ext, int_sum_prod, int_sum_swap}
 use Rattle.dp_spec.specs.Front.{next_own_histories}
 use Rattle.dp_spec.specs.JointNumbers.{joint_number, parts_of, product}
 use Rattle.dp_base.specs.Sums.{int_sum}
-use Rattle.dp_spec.proofs.JointNumberLaws.{AreBelow, joint_number-parts_of, parts_below, parts_of-joint_number,
-    row_below, same_parts}
+use Rattle.dp_spec.proofs.JointNumberLaws.{AreBelow, joint_number-parts_of, parts_below, parts_of-joint_number}
+use Rattle.dp_spec.proofs.JointNumberLaws.{row_below, same_parts}
 use Rattle.dp_spec.specs.ClassSteps.{pair_counts, pair_number}
 
 pub next_below : (cs ns xs ps : List ℕ) → length ns ≡ length cs → AreBelow cs xs → AreBelow ns ps

@@ -1,13 +1,13 @@
 -- joint numbers by the part at one place and the joint number of the others
-use Rattle.std.proofs.Common.{◌≡◌, ℕ, zero, suc, ◌+◌, ◌*◌, ◌/◌, ◌%◌, ◌<◌, ◌≤◌, ℤ, List, [], ◌∷◌, length, get_or, refl,
-    sym, ap, ◌∙◌, arith}
+use Rattle.std.proofs.Common.{◌≡◌, ℕ, zero, suc, ◌+◌, ◌*◌, ◌/◌, ◌%◌, ◌<◌, ◌≤◌, ℤ, List, [], ◌∷◌, length, get_or, refl}
+use Rattle.std.proofs.Common.{sym, ap, ◌∙◌, arith}
 use Rattle.std.proofs.lemmas.Nat.{div-mul-add, mod-mul-add}
 use Rattle.dp_base.proofs.Sums.{int_sum_ext, int_sum_prod, int_sum_swap}
 use Rattle.dp_spec.specs.JointNumbers.{joint_number, parts_of, product}
 use Rattle.dp_spec.specs.Merge.{inserted, without, placed_number}
 use Rattle.dp_base.specs.Sums.{int_sum}
-use Rattle.dp_spec.proofs.JointNumberLaws.{AreBelow, joint_number-parts_of, length-below, parts_below,
-    parts_of-joint_number}
+use Rattle.dp_spec.proofs.JointNumberLaws.{AreBelow, joint_number-parts_of, length-below, parts_below}
+use Rattle.dp_spec.proofs.JointNumberLaws.{parts_of-joint_number}
 
 -- ---- lists
 pub get_or-inserted : (i c : ℕ) (ps : List ℕ) → i ≤ length ps → get_or (inserted i c ps) i 0 ≡ c

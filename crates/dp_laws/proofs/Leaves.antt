@@ -5,8 +5,8 @@ use Rattle.dp_laws.proofs.WellFormedSteps.{after_choice_is_front, merged_is_fron
 use Rattle.dp_base.proofs.Order.{le_max_left, le_max_right, max_le}
 use Rattle.dp_base.proofs.Ring.{zle_trans, zle_of}
 use Rattle.dp_spec.specs.Arithmetic.{Arithmetic}
-use Rattle.dp_spec.specs.BoundTree.{AllLeavesAtMost, BoundTree, BoundTrees, LeavesAtMost, branch, greatest_leaf,
-    greatest_leaf_of, leaf, merge, more_bound_trees, no_bound_trees}
+use Rattle.dp_spec.specs.BoundTree.{AllLeavesAtMost, BoundTree, BoundTrees, LeavesAtMost, branch, greatest_leaf}
+use Rattle.dp_spec.specs.BoundTree.{greatest_leaf_of, leaf, merge, more_bound_trees, no_bound_trees}
 use Rattle.dp_spec.specs.Fitting.{FitEachAction, FitsFront}
 use Rattle.dp_spec.specs.Front.{AgentFront, Front}
 use Rattle.dp_spec.specs.JointNumbers.{product}

@@ -1,7 +1,7 @@
 -- One spelling of lines: no two lists of numbers that a form allows give the same line, and no two lists of lines the
 -- same text.
-use Rattle.std.proofs.Common.{◌≡◌, ℕ, suc, ◌^◌, ◌<◌, false, eqb, List, [], ◌∷◌, ◌++◌, get_or, drop, refl, sym, ap,
-    subst, ◌∙◌, arith}
+use Rattle.std.proofs.Common.{◌≡◌, ℕ, suc, ◌^◌, ◌<◌, false, eqb, List, [], ◌∷◌, ◌++◌, get_or, drop, refl, sym, ap}
+use Rattle.std.proofs.Common.{subst, ◌∙◌, arith}
 use Rattle.std.specs.Prelude.{ℤ, pos, negsuc, map, FitsSigned}
 use Rattle.std.specs.Int.{w128}
 use Rattle.std.specs.List.{slice_split, join_with_byte, AllByRecursion}

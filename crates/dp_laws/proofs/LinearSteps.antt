@@ -1,6 +1,6 @@
 -- rewards and the weights after a step are linear in the weights, and look-ahead is at most additive
-use Rattle.std.proofs.Common.{◌≡◌, ℕ, zero, suc, ◌+◌, ◌-◌, ◌*◌, ◌^◌, Bool, true, false, cond, ℤ, pos, ◌+ℤ◌, ◌*ℤ◌,
-    ◌≤ℤ◌, List, [], refl, sym, ap, ◌∙◌, arith}
+use Rattle.std.proofs.Common.{◌≡◌, ℕ, zero, suc, ◌+◌, ◌-◌, ◌*◌, ◌^◌, Bool, true, false, cond, ℤ, pos, ◌+ℤ◌, ◌*ℤ◌}
+use Rattle.std.proofs.Common.{◌≤ℤ◌, List, [], refl, sym, ap, ◌∙◌, arith}
 use Rattle.dp_base.proofs.Ring.{v, nat, ◌⊕◌, ◌⊗◌, by_ring, zadd_le, zadd_swap, zle_of, zle_trans}
 use Rattle.dp_laws.proofs.FollowedBound.{value_where}
 use Rattle.dp_base.proofs.Sums.{int_sum_add, int_sum_ext, int_sum_le, mul_two}
@@ -11,8 +11,8 @@ use Rattle.dp_spec.specs.Model.{Model, joint_actions, joint_observations, obs_at
 use Rattle.dp_base.specs.Sums.{int_sum, numbers_below}
 use Rattle.dp_base.proofs.GreatestValues.{greatest_of_sums}
 use Rattle.dp_base.proofs.NaturalSumLaws.{nat_sum_add, nat_sum_cond, nat_sum_ext}
-use Rattle.dp_laws.proofs.HistorySums.{int_history_sum_ext, int_history_sum_swap, int_history_sum_weigh,
-    nat_history_sum_ext, nat_history_sum_swap, nat_history_sum_times}
+use Rattle.dp_laws.proofs.HistorySums.{int_history_sum_ext, int_history_sum_swap, int_history_sum_weigh}
+use Rattle.dp_laws.proofs.HistorySums.{nat_history_sum_ext, nat_history_sum_swap, nat_history_sum_times}
 
 -- ---- the reward of a step by states
 abbrev pub state_reward : Model → ℕ → ℕ → ℕ → ℤ

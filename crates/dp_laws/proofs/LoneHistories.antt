@@ -1,22 +1,22 @@
 -- Each joint class of a well-formed front holds a joint history; where no two own histories share a class it holds
 -- one alone, and steps as that does.
-use Rattle.std.proofs.Common.{◌≡◌, ℕ, zero, suc, ◌+◌, ◌*◌, ◌/◌, ◌%◌, ◌^◌, ◌<◌, cond, eqb, pos, List, [], ◌∷◌, map,
-    length, get_or, refl, sym, ap, ◌∙◌, arith}
+use Rattle.std.proofs.Common.{◌≡◌, ℕ, zero, suc, ◌+◌, ◌*◌, ◌/◌, ◌%◌, ◌^◌, ◌<◌, cond, eqb, pos, List, [], ◌∷◌, map}
+use Rattle.std.proofs.Common.{length, get_or, refl, sym, ap, ◌∙◌, arith}
 use Rattle.std.proofs.Math.Nat.{pow-suc, pow-zero}
 use Rattle.std.proofs.lemmas.Nat.{mod_below}
 use Rattle.dp_spec.specs.declared.span.Span.{Span}
 use Rattle.dp_spec.specs.Arithmetic.{Arithmetic, point}
-use Rattle.dp_spec.specs.Front.{AgentFront, Front, class_counts, fixed_joint_action, joint_class, next_own_histories,
-    own_classes, own_histories}
+use Rattle.dp_spec.specs.Front.{AgentFront, Front, class_counts, fixed_joint_action, joint_class, next_own_histories}
+use Rattle.dp_spec.specs.Front.{own_classes, own_histories}
 use Rattle.dp_spec.specs.JointHistory.{IsJointHistory}
 use Rattle.dp_spec.specs.JointNumbers.{joint_number, parts_of, product}
 use Rattle.dp_spec.specs.Model.{Model, joint_observations}
-use Rattle.dp_spec.specs.Quantities.{class_weight_in, history_weight_in, span_history_sum, weighted_reward_in,
-    weights_after_in}
+use Rattle.dp_spec.specs.Quantities.{class_weight_in, history_weight_in, span_history_sum, weighted_reward_in}
+use Rattle.dp_spec.specs.Quantities.{weights_after_in}
 use Rattle.dp_spec.specs.WellFormed.{AreAgentFronts, AreApart, IsFront, KeepsHistoriesApart}
 use Rattle.dp_spec.specs.WellFormed.AreAgentFronts.{and_agent, no_agents}
-use Rattle.dp_spec.proofs.JointNumberLaws.{AreBelow, joint_number-parts_of, joint_number_below, part_below,
-    parts_below, parts_of-joint_number, positive_right}
+use Rattle.dp_spec.proofs.JointNumberLaws.{AreBelow, joint_number-parts_of, joint_number_below, part_below}
+use Rattle.dp_spec.proofs.JointNumberLaws.{parts_below, parts_of-joint_number, positive_right}
 use Rattle.dp_laws.proofs.OwnHistories.{Within, own_histories_within}
 use Rattle.dp_laws.proofs.AdvancedFronts.{classes_below}
 use Rattle.dp_spec.specs.ClassSteps.{StepsByClass}

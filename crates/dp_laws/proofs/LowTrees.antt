@@ -11,8 +11,8 @@ use Rattle.dp_laws.proofs.FullBounds.{full_bound_is_value}
 use Rattle.dp_laws.proofs.NodeFronts.{nodes_have_room}
 use Rattle.dp_laws.specs.GrowthLaws.{root_nodes}
 use Rattle.dp_spec.specs.Arithmetic.{Arithmetic, exact}
-use Rattle.dp_spec.specs.BoundTree.{AllLeavesAtMost, BoundTree, BoundTrees, LeavesAtMost, branch, leaf, merge,
-    more_bound_trees, no_bound_trees}
+use Rattle.dp_spec.specs.BoundTree.{AllLeavesAtMost, BoundTree, BoundTrees, LeavesAtMost, branch, leaf, merge}
+use Rattle.dp_spec.specs.BoundTree.{more_bound_trees, no_bound_trees}
 use Rattle.dp_spec.specs.Certificate.{FitsRoot}
 use Rattle.dp_spec.specs.Fitting.{FitEachAction, FitsFront, front_bound}
 use Rattle.dp_spec.specs.Front.{Front}

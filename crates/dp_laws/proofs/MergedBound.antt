@@ -1,11 +1,12 @@
 -- a bound does not grow by merging
-use Rattle.std.proofs.Common.{◌≡◌, ◌≢◌, inl, inr, ℕ, zero, suc, ◌+◌, ◌<◌, ◌≤◌, cond, eqb, ℤ, pos, ◌+ℤ◌, ◌≤ℤ◌, List,
-    length, get_or, sym, ap, ◌∙◌, subst, arith}
+use Rattle.std.proofs.Common.{◌≡◌, ◌≢◌, inl, inr, ℕ, zero, suc, ◌+◌, ◌<◌, ◌≤◌, cond, eqb, ℤ, pos, ◌+ℤ◌, ◌≤ℤ◌, List}
+use Rattle.std.proofs.Common.{length, get_or, sym, ap, ◌∙◌, subst, arith}
 use Rattle.std.proofs.lemmas.Int.{ints}
 use Rattle.dp_laws.proofs.JointPlaces.{int_sum_placed}
 use Rattle.dp_laws.proofs.LinearSteps.{action_look_ahead_together}
-use Rattle.dp_laws.proofs.MergedFronts.{agreeing_either, agreeing_kept, as_many_merged, counts_of_others,
-    joined_weight, kept_below, kept_high, kept_low, kept_weight, one_class_less, placed_weight, unassigned_agent}
+use Rattle.dp_laws.proofs.MergedFronts.{agreeing_either, agreeing_kept, as_many_merged, counts_of_others}
+use Rattle.dp_laws.proofs.MergedFronts.{joined_weight, kept_below, kept_high, kept_low, kept_weight, one_class_less}
+use Rattle.dp_laws.proofs.MergedFronts.{placed_weight, unassigned_agent}
 use Rattle.dp_laws.proofs.MergedTrees.{fixed_joint_action_merged}
 use Rattle.dp_base.proofs.Ring.{zadd_le, zle_of, zle_trans}
 use Rattle.dp_base.proofs.Sums.{int_sum_add, int_sum_ext, int_sum_le, int_sum_out, ite_same}

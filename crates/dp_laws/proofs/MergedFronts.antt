@@ -1,6 +1,6 @@
 -- how a merged front weighs, and which joint actions agree with it
-use Rattle.std.proofs.Common.{◌≡◌, ◌≢◌, inl, inr, ℕ, zero, suc, ◌+◌, ◌<◌, ◌≤◌, Bool, true, false, cond, ◌&&◌, eqb,
-    List, [], ◌∷◌, length, get_or, filter, Option, None, refl, sym, ap, ◌∙◌, subst, arith}
+use Rattle.std.proofs.Common.{◌≡◌, ◌≢◌, inl, inr, ℕ, zero, suc, ◌+◌, ◌<◌, ◌≤◌, Bool, true, false, cond, ◌&&◌, eqb}
+use Rattle.std.proofs.Common.{List, [], ◌∷◌, length, get_or, filter, Option, None, refl, sym, ap, ◌∙◌, subst, arith}
 use Rattle.std.proofs.lemmas.Bool.Decides.{nat_tests}
 use Rattle.dp_laws.proofs.AdvancedFronts.{both_tests, classes_below}
 use Rattle.dp_laws.proofs.JointPlaces.{below_others, joint_is_placed, parts-placed, placed_injective}
@@ -8,12 +8,12 @@ use Rattle.dp_laws.proofs.MergedAgents.{get_or-renumbered, get_or-without_above,
 use Rattle.dp_laws.proofs.MergedTrees.{fixed_joint_action_merged}
 use Rattle.dp_laws.proofs.OwnHistories.{own_histories_within}
 use Rattle.dp_spec.specs.Bound.{agreeing_actions, agrees, all_agree}
-use Rattle.dp_spec.specs.Front.{AgentFront, Front, class_counts, class_weight, fixed_joint_action, joint_class,
-    own_classes, own_histories}
+use Rattle.dp_spec.specs.Front.{AgentFront, Front, class_counts, class_weight, fixed_joint_action, joint_class}
+use Rattle.dp_spec.specs.Front.{own_classes, own_histories}
 use Rattle.dp_spec.specs.JointHistory.{IsJointHistory, history_weight, nat_history_sum}
 use Rattle.dp_spec.specs.JointNumbers.{joint_number, parts_of, product}
-use Rattle.dp_spec.specs.Merge.{class_of_agent, class_of_others, inserted, merged_agents, merged_front, place_weight,
-    renumbered, without, placed_number, kept_class}
+use Rattle.dp_spec.specs.Merge.{class_of_agent, class_of_others, inserted, merged_agents, merged_front, place_weight}
+use Rattle.dp_spec.specs.Merge.{renumbered, without, placed_number, kept_class}
 use Rattle.dp_spec.specs.Model.{Model, joint_actions, joint_observations}
 use Rattle.dp_spec.specs.Steps.{IsUnassigned}
 use Rattle.dp_base.specs.Sums.{numbers_below}

@@ -1,8 +1,8 @@
 -- whoever keeps a merged front keeps the old one
-use Rattle.std.proofs.Common.{◌≡◌, ◌≢◌, ◌⊎◌, inl, inr, ℕ, zero, suc, ◌-◌, ◌<◌, List, [], ◌∷◌, get_or, Option, Some,
-    None, sym, ap, ◌∙◌, subst, arith}
-use Rattle.dp_laws.proofs.MergedAgents.{get_or-renumbered, get_or-without_above, get_or-without_below,
-    renumbered_high, renumbered_low}
+use Rattle.std.proofs.Common.{◌≡◌, ◌≢◌, ◌⊎◌, inl, inr, ℕ, zero, suc, ◌-◌, ◌<◌, List, [], ◌∷◌, get_or, Option, Some}
+use Rattle.std.proofs.Common.{None, sym, ap, ◌∙◌, subst, arith}
+use Rattle.dp_laws.proofs.MergedAgents.{get_or-renumbered, get_or-without_above, get_or-without_below}
+use Rattle.dp_laws.proofs.MergedAgents.{renumbered_high, renumbered_low}
 use Rattle.dp_spec.specs.Front.{AgentFront}
 use Rattle.dp_spec.specs.Keeping.{KeepAgentFronts, KeepsAgentFront}
 use Rattle.dp_spec.specs.Keeping.KeepAgentFronts.{and_agent}

@@ -1,12 +1,12 @@
 -- The own histories of the classes of a merged agent, in their order.
-use Rattle.std.proofs.Common.{◌≡◌, ◌≢◌, ℕ, ◌<◌, ◌||◌, eqb, map, filter, length, get_or, ap, ◌∙◌, arith, ◌⊎◌, inl, inr,
-    min, max, sym, subst}
+use Rattle.std.proofs.Common.{◌≡◌, ◌≢◌, ℕ, ◌<◌, ◌||◌, eqb, map, filter, length, get_or, ap, ◌∙◌, arith, ◌⊎◌, inl, inr}
+use Rattle.std.proofs.Common.{min, max, sym, subst}
 use Rattle.std.specs.List.{range_with_len}
 use Rattle.std.proofs.lemmas.Bool.Decides.{nat_tests}
 use Rattle.std.proofs.Math.ListN.{length-map}
 use Rattle.dp_spec.specs.Front.{AgentFront}
-use Rattle.dp_spec.specs.Merge.{class_members, kept_class, merged_agent, renumbered, IsHighestMember, IsLowestMember,
-    IsMember}
+use Rattle.dp_spec.specs.Merge.{class_members, kept_class, merged_agent, renumbered, IsHighestMember, IsLowestMember}
+use Rattle.dp_spec.specs.Merge.{IsMember}
 use Rattle.dp_laws.proofs.MergedAgents.{get_or-renumbered}
 use Rattle.dp_base.proofs.Members.{filter_same}
 use Rattle.std.proofs.lemmas.Bool.{cases_eq, cases_lt}

@@ -1,6 +1,6 @@
 -- The weights of the joint classes of a merged front, in the exact arithmetic.
-use Rattle.std.proofs.Common.{◌≡◌, ◌≢◌, ℕ, zero, suc, ◌+◌, ◌*◌, ◌/◌, ◌%◌, ◌<◌, pos, List, [], ◌∷◌, length, get_or,
-    drop, take, sym, ap, ◌∙◌, subst, arith}
+use Rattle.std.proofs.Common.{◌≡◌, ◌≢◌, ℕ, zero, suc, ◌+◌, ◌*◌, ◌/◌, ◌%◌, ◌<◌, pos, List, [], ◌∷◌, length, get_or}
+use Rattle.std.proofs.Common.{drop, take, sym, ap, ◌∙◌, subst, arith}
 use Rattle.std.proofs.lemmas.Nat.{mod_below}
 use Rattle.dp_spec.specs.Arithmetic.{exact, point, span_add}
 use Rattle.dp_spec.specs.Front.{Front, class_counts, class_weight}
@@ -12,8 +12,8 @@ use Rattle.dp_spec.specs.Steps.{IsUnassigned}
 use Rattle.dp_spec.specs.WellFormed.{IsFront}
 use Rattle.dp_spec.proofs.JointNumberLaws.{joint_number-parts_of, positive_right, row_below}
 use Rattle.dp_laws.proofs.JointPlaces.{place_later}
-use Rattle.dp_laws.proofs.MergedFronts.{as_many_merged, counts_of_others, joined_weight, kept_below, kept_weight,
-    one_class_less, placed_weight, unassigned_agent}
+use Rattle.dp_laws.proofs.MergedFronts.{as_many_merged, counts_of_others, joined_weight, kept_below, kept_weight}
+use Rattle.dp_laws.proofs.MergedFronts.{one_class_less, placed_weight, unassigned_agent}
 use Rattle.dp_laws.proofs.QuantityLaws.{exact_quantities}
 use Rattle.dp_laws.proofs.WellFormedSteps.{merged_is_front}
 

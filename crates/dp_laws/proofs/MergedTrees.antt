@@ -2,8 +2,8 @@
 use Rattle.std.proofs.Common.{◌≡◌, ◌⊎◌, ℕ, zero, suc, ◌+◌, ◌<◌, List, [], ◌∷◌, length, get_or, refl, ap, ◌∙◌}
 use Rattle.dp_laws.proofs.OwnHistories.{Within}
 use Rattle.dp_laws.proofs.FollowedFronts.{trees_of}
-use Rattle.dp_laws.proofs.MergedAgents.{joined_trees, replaced_trees, joined_trees-renumbered, grafted_tree,
-    grafted_tree_fits, merged_agent_follows, get_or-renumbered}
+use Rattle.dp_laws.proofs.MergedAgents.{joined_trees, replaced_trees, joined_trees-renumbered, grafted_tree}
+use Rattle.dp_laws.proofs.MergedAgents.{grafted_tree_fits, merged_agent_follows, get_or-renumbered}
 use Rattle.dp_spec.specs.Front.{AgentFront, Front, fixed_actions, fixed_joint_action, own_classes, own_histories}
 use Rattle.dp_spec.specs.JointNumbers.{joint_number}
 use Rattle.dp_laws.specs.Following.{FollowsAgentFronts}

@@ -1,6 +1,6 @@
 -- Merging two equivalent classes loses nothing.
-use Rattle.std.proofs.Common.{◌≡◌, ℕ, zero, suc, ◌+◌, ◌<◌, Bool, true, false, cond, eqb, ℤ, pos, ◌+ℤ◌, ◌*ℤ◌, ◌≤ℤ◌,
-    List, [], ◌∷◌, get_or, refl, sym, ap, ◌∙◌, subst, arith}
+use Rattle.std.proofs.Common.{◌≡◌, ℕ, zero, suc, ◌+◌, ◌<◌, Bool, true, false, cond, eqb, ℤ, pos, ◌+ℤ◌, ◌*ℤ◌, ◌≤ℤ◌}
+use Rattle.std.proofs.Common.{List, [], ◌∷◌, get_or, refl, sym, ap, ◌∙◌, subst, arith}
 use Rattle.dp_laws.proofs.JointPlaces.{below_others}
 use Rattle.dp_base.proofs.Sums.{int_sum_ext, int_sum_two}
 use Rattle.dp_laws.proofs.ForwardValue.{forward_is_backward}
@@ -9,17 +9,17 @@ use Rattle.dp_laws.proofs.FollowedFronts.{trees_of, trees_after_history_are, tre
 use Rattle.dp_laws.proofs.FollowedBound.{follows_fixed}
 use Rattle.dp_base.proofs.Order.{add_le_right}
 use Rattle.dp_laws.proofs.ClassValue.{better_for_both}
-use Rattle.dp_laws.proofs.MergedTrees.{fixed_joint_action_merged, joined_trees_by_agent, joined_trees_of,
-    merged_agents_follow, tree_for, trees_by_agent}
-use Rattle.dp_laws.proofs.MergedAgents.{replaced_trees, replaced_trees_first, replaced_trees_other,
-    replaced_trees_second}
+use Rattle.dp_laws.proofs.MergedTrees.{fixed_joint_action_merged, joined_trees_by_agent, joined_trees_of}
+use Rattle.dp_laws.proofs.MergedTrees.{merged_agents_follow, tree_for, trees_by_agent}
+use Rattle.dp_laws.proofs.MergedAgents.{replaced_trees, replaced_trees_first, replaced_trees_other}
+use Rattle.dp_laws.proofs.MergedAgents.{replaced_trees_second}
 use Rattle.dp_spec.specs.Front.{AgentFront, Front, class_counts, fixed_joint_action, own_classes, own_histories}
-use Rattle.dp_spec.specs.JointHistory.{IsJointHistory, earned_reward, history_weight, int_history_sum,
-    trees_after_history}
+use Rattle.dp_spec.specs.JointHistory.{IsJointHistory, earned_reward, history_weight, int_history_sum}
+use Rattle.dp_spec.specs.JointHistory.{trees_after_history}
 use Rattle.dp_spec.specs.JointNumbers.{parts_of, product}
 use Rattle.dp_laws.specs.Following.{FollowsAgentFronts}
-use Rattle.dp_spec.specs.Merge.{AreEquivalent, class_of_agent, class_of_others, class_total, inserted, merged_agents,
-    merged_front, place_weight, without}
+use Rattle.dp_spec.specs.Merge.{AreEquivalent, class_of_agent, class_of_others, class_total, inserted, merged_agents}
+use Rattle.dp_spec.specs.Merge.{merged_front, place_weight, without}
 use Rattle.dp_spec.specs.Model.{Model, joint_observations}
 use Rattle.dp_spec.specs.PolicyTree.{IsPolicyOf, PolicyTree}
 use Rattle.dp_spec.specs.Steps.{IsUnassigned}

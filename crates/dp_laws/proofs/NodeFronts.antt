@@ -1,22 +1,23 @@
 -- The fronts of the nodes of a tree that fits: what every step keeps holds of all of them.
-use Rattle.std.proofs.Common.{◌≡◌, inl, inr, ℕ, zero, suc, ◌+◌, ◌-◌, ◌*◌, ◌^◌, ◌<◌, ◌≤◌, Bool, true, false, ◌&&◌,
-    ◌||◌, eqb, IsTrue, ℤ, pos, List, [], ◌∷◌, map, length, get_or, Option, Some, None, refl, sym, ap, ◌∙◌, arith}
+use Rattle.std.proofs.Common.{◌≡◌, inl, inr, ℕ, zero, suc, ◌+◌, ◌-◌, ◌*◌, ◌^◌, ◌<◌, ◌≤◌, Bool, true, false, ◌&&◌}
+use Rattle.std.proofs.Common.{◌||◌, eqb, IsTrue, ℤ, pos, List, [], ◌∷◌, map, length, get_or, Option, Some, None, refl}
+use Rattle.std.proofs.Common.{sym, ap, ◌∙◌, arith}
 use Rattle.std.specs.Prelude.{All, nat_le, nat_lt}
 use Rattle.std.specs.Int.{int_min}
 use Rattle.std.proofs.lemmas.Bool.{cases_lt}
 use Rattle.std.proofs.lemmas.Bool.Decides.{nat_tests}
 use Rattle.std.proofs.lemmas.List.Elements.{All-append, All-from_recursion}
-use Rattle.std.proofs.Math.Nat.{mul-le-mul, mul-le-mul_left, mul-le-mul_right, one-le-pow, pow-le-pow_right, pow-suc,
-    pow-zero}
+use Rattle.std.proofs.Math.Nat.{mul-le-mul, mul-le-mul_left, mul-le-mul_right, one-le-pow, pow-le-pow_right, pow-suc}
+use Rattle.std.proofs.Math.Nat.{pow-zero}
 use Rattle.std.proofs.lemmas.Nat.{mul-pow}
 use Rattle.dp_laws.proofs.ClassCounts.{classes_within_histories}
-use Rattle.dp_laws.proofs.FrontRoom.{after_choice_apart, choice_keeps_room, merging_keeps_room, root_apart,
-    root_has_room}
+use Rattle.dp_laws.proofs.FrontRoom.{after_choice_apart, choice_keeps_room, merging_keeps_room, root_apart}
+use Rattle.dp_laws.proofs.FrontRoom.{root_has_room}
 use Rattle.dp_laws.proofs.Leaves.{actions_left}
 use Rattle.dp_laws.proofs.MergedAgents.{get_or-without_below, length-without}
 use Rattle.dp_laws.proofs.RootFront.{root_is_front}
-use Rattle.dp_laws.proofs.TreeDepth.{choice_assigns_one, complete_has_none, fronts_within, histories_of_length,
-    longer_histories, merge_joins_one, shorter_histories, unassigned_within}
+use Rattle.dp_laws.proofs.TreeDepth.{choice_assigns_one, complete_has_none, fronts_within, histories_of_length}
+use Rattle.dp_laws.proofs.TreeDepth.{longer_histories, merge_joins_one, shorter_histories, unassigned_within}
 use Rattle.dp_laws.proofs.WellFormedSteps.{after_choice_is_front, merged_is_front}
 use Rattle.dp_spec.specs.Arithmetic.{Arithmetic}
 use Rattle.dp_spec.specs.BoundTree.{BoundTree, BoundTrees, branch, leaf, merge, more_bound_trees, no_bound_trees}
@@ -28,8 +29,8 @@ use Rattle.dp_spec.specs.Merge.{merged_agents, merged_front, without}
 use Rattle.dp_spec.specs.Mode.{IsWithinLimits, own_history_count}
 use Rattle.dp_spec.specs.Model.{IsModel, Model, joint_actions, joint_observations}
 use Rattle.dp_spec.specs.Qualities.{Node, nodes_of, nodes_of_choices}
-use Rattle.dp_spec.specs.Steps.{IsUnassigned, advanced_agents, advanced_if, all_chosen, chosen_front,
-    front_after_choice, is_complete, root_agent, root_front, with_choice}
+use Rattle.dp_spec.specs.Steps.{IsUnassigned, advanced_agents, advanced_if, all_chosen, chosen_front}
+use Rattle.dp_spec.specs.Steps.{front_after_choice, is_complete, root_agent, root_front, with_choice}
 use Rattle.dp_spec.specs.WellFormed.{AreAgentFronts, IsFront, KeepsHistoriesApart}
 use Rattle.dp_spec.specs.WellFormed.AreAgentFronts.{and_agent, no_agents}
 use Rattle.dp_spec.specs.Wide.{has_room, is_room, is_wide, next_class_counts, none_count, unassigned_count, widens}

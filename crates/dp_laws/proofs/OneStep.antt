@@ -1,16 +1,16 @@
 -- One step forwards, and what table and look-ahead bound by it.
-use Rattle.std.proofs.Common.{◌≡◌, ℕ, zero, suc, ◌*◌, ◌-◌, ◌^◌, ◌<◌, ℤ, pos, ◌+ℤ◌, ◌*ℤ◌, ◌≤ℤ◌, List, refl, sym, ap,
-    ◌∙◌, arith}
+use Rattle.std.proofs.Common.{◌≡◌, ℕ, zero, suc, ◌*◌, ◌-◌, ◌^◌, ◌<◌, ℤ, pos, ◌+ℤ◌, ◌*ℤ◌, ◌≤ℤ◌, List, refl, sym, ap}
+use Rattle.std.proofs.Common.{◌∙◌, arith}
 use Rattle.std.proofs.lemmas.Int.{ints}
 use Rattle.dp_laws.proofs.Trees.{joint_root_action_below, subtrees_fit}
 use Rattle.dp_base.proofs.Order.{add_le_right}
 use Rattle.dp_base.proofs.Ring.{v, nat, ◌⊕◌, ◌⊗◌, by_ring, zmul_le, zle_trans, zle_of}
-use Rattle.dp_base.proofs.Sums.{int_sum_ext, int_sum_le, int_sum_add, mul_two, add_two, ext_two, rotate,
-    int_sum_weigh, le_two}
+use Rattle.dp_base.proofs.Sums.{int_sum_ext, int_sum_le, int_sum_add, mul_two, add_two, ext_two, rotate}
+use Rattle.dp_base.proofs.Sums.{int_sum_weigh, le_two}
 use Rattle.dp_spec.specs.LookAhead.{action_look_ahead, look_ahead, weighted_reward, weights_after}
 use Rattle.dp_spec.specs.MdpTable.{mdp_table}
-use Rattle.dp_spec.specs.Model.{IsModel, Model, joint_actions, joint_observations, obs_at, reward_at, step_scale,
-    trans_at}
+use Rattle.dp_spec.specs.Model.{IsModel, Model, joint_actions, joint_observations, obs_at, reward_at, step_scale}
+use Rattle.dp_spec.specs.Model.{trans_at}
 use Rattle.dp_spec.specs.PolicyTree.{IsPolicyOf, PolicyTree}
 use Rattle.dp_base.specs.Sums.{int_sum}
 use Rattle.dp_spec.specs.Value.{backward_value, joint_root_action, trees_after}

@@ -1,13 +1,13 @@
 -- The outward arithmetic gives a span round the true number.
-use Rattle.std.proofs.Common.{◌≡◌, inl, inr, ℕ, suc, ◌*◌, ◌^◌, ◌<◌, ℤ, pos, negsuc, ◌+ℤ◌, ◌*ℤ◌, ◌≤ℤ◌, refl, sym, ap,
-    ◌∙◌, subst, arith, neg_ℤ}
+use Rattle.std.proofs.Common.{◌≡◌, inl, inr, ℕ, suc, ◌*◌, ◌^◌, ◌<◌, ℤ, pos, negsuc, ◌+ℤ◌, ◌*ℤ◌, ◌≤ℤ◌, refl, sym, ap}
+use Rattle.std.proofs.Common.{◌∙◌, subst, arith, neg_ℤ}
 use Rattle.std.proofs.lemmas.Int.{ints}
 use Rattle.std.specs.Int.{int_min, int_max}
-use Rattle.dp_base.proofs.Ring.{v, nat, ◌⊗◌, by_ring, by_order, zmul_comm, zle_of, zle_trans, zmul_le, zadd_le,
-    zadd_mul}
+use Rattle.dp_base.proofs.Ring.{v, nat, ◌⊗◌, by_ring, by_order, zmul_comm, zle_of, zle_trans, zmul_le, zadd_le}
+use Rattle.dp_base.proofs.Ring.{zadd_mul}
 use Rattle.dp_base.proofs.Floors.{mul_down_le, le_mul_up}
-use Rattle.dp_base.proofs.Order.{le_max_left, le_max_right, le_of_mul_le_left, max_is_either, min_is_either,
-    mul_le_right}
+use Rattle.dp_base.proofs.Order.{le_max_left, le_max_right, le_of_mul_le_left, max_is_either, min_is_either}
+use Rattle.dp_base.proofs.Order.{mul_le_right}
 use Rattle.dp_spec.specs.declared.scales.Scales.{Scales}
 use Rattle.dp_spec.specs.Arithmetic.{outward, reward_factor}
 use Rattle.dp_spec.specs.Enclosure.{IsSound, containment}

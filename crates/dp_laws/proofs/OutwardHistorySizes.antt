@@ -1,17 +1,17 @@
 -- In outward mode what is added up along joint histories stays within its type, up to a horizon of 24, by the limit
 -- of stage cells.
-use Rattle.std.proofs.Common.{◌≡◌, ℕ, zero, suc, ◌+◌, ◌-◌, ◌*◌, ◌^◌, ◌<◌, ◌≤◌, false, unsigned_abs, List, [], ◌∷◌, ap,
-    arith}
-use Rattle.std.proofs.Math.Nat.{le-mul_of_pos_right, mul-le-mul, mul-le-mul_right, one-le-pow, pow-le-pow_right,
-    pow-suc, pow-zero}
+use Rattle.std.proofs.Common.{◌≡◌, ℕ, zero, suc, ◌+◌, ◌-◌, ◌*◌, ◌^◌, ◌<◌, ◌≤◌, false, unsigned_abs, List, [], ◌∷◌, ap}
+use Rattle.std.proofs.Common.{arith}
+use Rattle.std.proofs.Math.Nat.{le-mul_of_pos_right, mul-le-mul, mul-le-mul_right, one-le-pow, pow-le-pow_right}
+use Rattle.std.proofs.Math.Nat.{pow-suc, pow-zero}
 use Rattle.dp_spec.specs.declared.span.Span.{Span}
 use Rattle.dp_laws.proofs.ClassCounts.{joint_classes_within_histories}
 use Rattle.dp_laws.proofs.ActingHistories.{class_weights, front_acting, history_weights}
 use Rattle.dp_laws.proofs.OneStep.{trees_after_fit, root_joint_action_below}
 use Rattle.dp_laws.proofs.OrderedSpans.{classes_total, total_size, weight_ordered}
 use Rattle.dp_laws.proofs.OutwardLookSizes.{looks_room}
-use Rattle.dp_laws.proofs.OutwardModeSizes.{limit_room, next_weights, outward_can_update_weights, reward_room,
-    state_squares}
+use Rattle.dp_laws.proofs.OutwardModeSizes.{limit_room, next_weights, outward_can_update_weights, reward_room}
+use Rattle.dp_laws.proofs.OutwardModeSizes.{state_squares}
 use Rattle.dp_laws.proofs.OutwardSizes.{next_total, start_total}
 use Rattle.dp_laws.proofs.SizeSums.{action_look_le, agreeing_below}
 use Rattle.dp_spec.specs.Arithmetic.{outward}

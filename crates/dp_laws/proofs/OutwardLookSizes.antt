@@ -1,7 +1,7 @@
 -- In outward mode look-ahead stays within its type up to a horizon of 24: from above by the table, and from below by
 -- the true value.
-use Rattle.std.proofs.Common.{◌≡◌, ℕ, zero, suc, ◌+◌, ◌*◌, ◌^◌, ◌<◌, ◌≤◌, max, false, ℤ, pos, negsuc, ◌*ℤ◌, neg_ℤ,
-    ◌≤ℤ◌, unsigned_abs, refl, sym, ap, subst, arith}
+use Rattle.std.proofs.Common.{◌≡◌, ℕ, zero, suc, ◌+◌, ◌*◌, ◌^◌, ◌<◌, ◌≤◌, max, false, ℤ, pos, negsuc, ◌*ℤ◌, neg_ℤ}
+use Rattle.std.proofs.Common.{◌≤ℤ◌, unsigned_abs, refl, sym, ap, subst, arith}
 use Rattle.std.proofs.lemmas.Int.{ints, clamps, unsigned_abs-mul}
 use Rattle.std.proofs.Math.Nat.{le_of_mul-le-mul_right, mul-le-mul, mul-le-mul_right, mul-pos, one-le-pow}
 use Rattle.std.specs.Int.{int_min}
@@ -27,8 +27,8 @@ use Rattle.dp_spec.specs.Quantities.{look_ahead_in, mdp_table_in, weighted_table
 use Rattle.dp_spec.specs.Sizes.{AreWeights, reward_size}
 use Rattle.dp_spec.specs.SizesOfLookAhead.{CanLookAhead, next_look_size, weighted_table_size}
 use Rattle.dp_base.specs.Sums.{nat_sum}
-use Rattle.dp_base.proofs.NaturalSumLaws.{nat_sum_add, nat_sum_const, nat_sum_ext, nat_sum_le, nat_sum_most,
-    nat_sum_times}
+use Rattle.dp_base.proofs.NaturalSumLaws.{nat_sum_add, nat_sum_const, nat_sum_ext, nat_sum_le, nat_sum_most}
+use Rattle.dp_base.proofs.NaturalSumLaws.{nat_sum_times}
 
 -- a number over d that is at least x over c is not far below 0
 below_zero : (v x : ℤ) (c d B : ℕ) → (x *ℤ pos c) ≤ℤ (v *ℤ pos d) → unsigned_abs x * c ≤ B * d → 0 < d

@@ -1,21 +1,22 @@
 -- In outward mode updates of weights, rewards and the table stay within their types up to a horizon of 24, by the
 -- limits.
-use Rattle.std.proofs.Common.{◌≡◌, ℕ, zero, suc, ◌+◌, ◌-◌, ◌*◌, ◌^◌, ◌<◌, ◌≤◌, false, pos, ◌≤ℤ◌, unsigned_abs, refl,
-    arith}
+use Rattle.std.proofs.Common.{◌≡◌, ℕ, zero, suc, ◌+◌, ◌-◌, ◌*◌, ◌^◌, ◌<◌, ◌≤◌, false, pos, ◌≤ℤ◌, unsigned_abs, refl}
+use Rattle.std.proofs.Common.{arith}
 use Rattle.std.proofs.lemmas.Bool.{false≢true}
 use Rattle.std.proofs.lemmas.Int.{ints}
 use Rattle.std.proofs.Math.Nat.{mul-le-mul, pow-le-pow_right}
 use Rattle.dp_spec.specs.declared.span.Span.{Span}
 use Rattle.dp_spec.proofs.ModeCondition.{reward_within}
 use Rattle.dp_laws.proofs.OrderedSpans.{IsOrdered, from_high, high_is_size, sum_ordered, total_size, weight_ordered}
-use Rattle.dp_laws.proofs.OutwardSizes.{carry_most, chance_ordered, chance_small, gained_total, later_ordered,
-    next_parts, next_total, obs_part, reward_total, shares, start_ordered, start_total, trans_part}
+use Rattle.dp_laws.proofs.OutwardSizes.{carry_most, chance_ordered, chance_small, gained_total, later_ordered}
+use Rattle.dp_laws.proofs.OutwardSizes.{next_parts, next_total, obs_part, reward_total, shares, start_ordered}
+use Rattle.dp_laws.proofs.OutwardSizes.{start_total, trans_part}
 use Rattle.dp_base.proofs.Ring.{zle_of, zle_trans}
 use Rattle.dp_laws.proofs.SizeSums.{table_action_le}
 use Rattle.dp_spec.specs.Arithmetic.{outward}
 use Rattle.dp_spec.specs.Calls.{IsWeight, outward_calls, size}
-use Rattle.dp_spec.specs.Model.{IsModel, Model, joint_actions, joint_observations, obs_at, reward_at, start_at,
-    trans_at}
+use Rattle.dp_spec.specs.Model.{IsModel, Model, joint_actions, joint_observations, obs_at, reward_at, start_at}
+use Rattle.dp_spec.specs.Model.{trans_at}
 use Rattle.dp_spec.specs.Quantities.{mdp_table_in, weights_after_in}
 use Rattle.dp_spec.specs.Sizes.{AreWeights, CanUpdateWeights, CanReward, IsStep, reward_size}
 use Rattle.dp_spec.specs.SizesOfTable.{CanTabulate, table_later_size, table_reward_size}

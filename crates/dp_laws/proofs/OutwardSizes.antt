@@ -1,6 +1,6 @@
 -- In outward arithmetic each product grows by at most one in rounding.
-use Rattle.std.proofs.Common.{◌≡◌, ℕ, zero, suc, ◌+◌, ◌*◌, ◌^◌, ◌<◌, ◌≤◌, ℤ, pos, negsuc, ◌*ℤ◌, neg_ℤ, ◌≤ℤ◌,
-    unsigned_abs, refl, sym, ap, arith}
+use Rattle.std.proofs.Common.{◌≡◌, ℕ, zero, suc, ◌+◌, ◌*◌, ◌^◌, ◌<◌, ◌≤◌, ℤ, pos, negsuc, ◌*ℤ◌, neg_ℤ, ◌≤ℤ◌}
+use Rattle.std.proofs.Common.{unsigned_abs, refl, sym, ap, arith}
 use Rattle.std.proofs.lemmas.Int.{ints, unsigned_abs-mul}
 use Rattle.std.proofs.Math.Nat.{div-mul-le_self, le_of_mul-le-mul_right, mul-le-mul_right, mul-le-mul}
 use Rattle.dp_spec.specs.declared.span.Span.{Span}
@@ -12,14 +12,14 @@ use Rattle.dp_base.proofs.Ring.{zle_of, zle_pos, zle_trans}
 use Rattle.dp_laws.proofs.SizeSums.{updated_size_le}
 use Rattle.dp_spec.specs.Arithmetic.{outward}
 use Rattle.dp_spec.specs.Calls.{size}
-use Rattle.dp_spec.specs.Model.{IsModel, Model, joint_actions, joint_observations, obs_at, reward_at, start_at,
-    trans_at}
+use Rattle.dp_spec.specs.Model.{IsModel, Model, joint_actions, joint_observations, obs_at, reward_at, start_at}
+use Rattle.dp_spec.specs.Model.{trans_at}
 use Rattle.dp_spec.specs.Quantities.{weights_after_in}
 use Rattle.dp_base.specs.Rounding.{by_sign, ceiling_of, floor_of, mul_down, mul_up}
 use Rattle.dp_spec.specs.Sizes.{reward_size}
 use Rattle.dp_base.specs.Sums.{nat_sum}
-use Rattle.dp_base.proofs.NaturalSumLaws.{nat_sum_add, nat_sum_at, nat_sum_const, nat_sum_ext, nat_sum_le,
-    nat_sum_swap, nat_sum_times}
+use Rattle.dp_base.proofs.NaturalSumLaws.{nat_sum_add, nat_sum_at, nat_sum_const, nat_sum_ext, nat_sum_le}
+use Rattle.dp_base.proofs.NaturalSumLaws.{nat_sum_swap, nat_sum_times}
 use Rattle.dp_base.proofs.RoundingLaws.{unsigned_abs-neg}
 
 -- ---- one quotient

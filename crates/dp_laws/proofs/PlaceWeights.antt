@@ -1,7 +1,7 @@
 -- The weights of a class at the places of the other agents: those of joint classes, and together the total of the
 -- class.
-use Rattle.std.proofs.Common.{◌≡◌, ℕ, suc, ◌^◌, ◌<◌, ◌≤◌, Bool, true, false, cond, eqb, pos, List, length, get_or,
-    sym, ap, ◌∙◌, arith}
+use Rattle.std.proofs.Common.{◌≡◌, ℕ, suc, ◌^◌, ◌<◌, ◌≤◌, Bool, true, false, cond, eqb, pos, List, length, get_or}
+use Rattle.std.proofs.Common.{sym, ap, ◌∙◌, arith}
 use Rattle.std.proofs.lemmas.Bool.Decides.{nat_tests}
 use Rattle.dp_spec.specs.Arithmetic.{Arithmetic, exact, point}
 use Rattle.dp_spec.specs.Calls.{size}

@@ -1,6 +1,6 @@
 -- Plain forms: each joint policy has one, and a plain shared policy is that of what its rows mean.
-use Rattle.std.proofs.Common.{◌≡◌, inl, inr, ℕ, zero, suc, ◌+◌, ◌-◌, ◌*◌, ◌/◌, ◌%◌, ◌^◌, ◌<◌, ◌≤◌, true, false, List,
-    [], ◌∷◌, length, get_or, map, refl, sym, ap, ◌∙◌, subst, arith}
+use Rattle.std.proofs.Common.{◌≡◌, inl, inr, ℕ, zero, suc, ◌+◌, ◌-◌, ◌*◌, ◌/◌, ◌%◌, ◌^◌, ◌<◌, ◌≤◌, true, false, List}
+use Rattle.std.proofs.Common.{[], ◌∷◌, length, get_or, map, refl, sym, ap, ◌∙◌, subst, arith}
 use Rattle.std.specs.Prelude.{nat_lt}
 use Rattle.std.specs.List.{range_with_len}
 use Rattle.std.proofs.lemmas.Bool.{cases_lt}
@@ -9,19 +9,20 @@ use Rattle.std.proofs.lemmas.List.FromFn.{fill_by_all, get_or-map-range_with_len
 use Rattle.std.proofs.lemmas.Nat.{mod_below, mul-pow}
 use Rattle.std.proofs.Math.Nat.{mul-le-mul_left, one-le-pow, pow-le-pow_right, pow-suc, pow-zero}
 use Rattle.dp_laws.proofs.OwnHistories.{next_history_below}
-use Rattle.dp_laws.proofs.SharedTrees.{row_nexts, last_row_nexts, rows_tree, rows_tree_is, subtree_of_row,
-    row_tree_fits}
+use Rattle.dp_laws.proofs.SharedTrees.{row_nexts, last_row_nexts, rows_tree, rows_tree_is, subtree_of_row}
+use Rattle.dp_laws.proofs.SharedTrees.{row_tree_fits}
 use Rattle.dp_laws.proofs.TreeActions.{action_below, equal_by_actions}
 use Rattle.dp_spec.specs.JointNumbers.{product}
 use Rattle.dp_spec.specs.Keeping.{tree_at}
 use Rattle.dp_spec.specs.Model.{IsModel, Model, joint_observations}
-use Rattle.dp_spec.specs.PlainForm.{ArePlain, ArePlainRows, IsPlain, observations_after, plain_form, plain_row,
-    plain_rows, plain_rows_of}
+use Rattle.dp_spec.specs.PlainForm.{ArePlain, ArePlainRows, IsPlain, observations_after, plain_form, plain_row}
+use Rattle.dp_spec.specs.PlainForm.{plain_rows, plain_rows_of}
 use Rattle.dp_spec.specs.PlainForm.ArePlain.{and_agent as and_plain, no_agents as none_plain}
 use Rattle.dp_spec.specs.PolicyTree.{IsJointPolicy, IsPolicyOf, IsPolicyTree, PolicyTree, root_action, subtree}
 use Rattle.dp_spec.specs.PolicyTree.IsJointPolicy.{and_agent as and_policy, no_agents as no_policies}
-use Rattle.dp_spec.specs.SharedPolicy.{AgentRows, AreAgentRows, AreRowsOfAgents, AreStages, IsSharedOf, PolicyRow,
-    SharedPolicy, first_count, no_row, row_at, row_count, row_counts, unfolded, unfolded_tree}
+use Rattle.dp_spec.specs.SharedPolicy.{AgentRows, AreAgentRows, AreRowsOfAgents, AreStages, IsSharedOf, PolicyRow}
+use Rattle.dp_spec.specs.SharedPolicy.{SharedPolicy, first_count, no_row, row_at, row_count, row_counts, unfolded}
+use Rattle.dp_spec.specs.SharedPolicy.{unfolded_tree}
 use Rattle.dp_spec.specs.SharedPolicy.AreRowsOfAgents.{and_agent, no_agents}
 use Rattle.dp_spec.proofs.JointNumberLaws.{part_below, positive_left, positive_right}
 use Rattle.dp_spec.proofs.ModelLaws.{some_joint_observation}

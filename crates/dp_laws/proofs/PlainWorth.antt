@@ -1,14 +1,14 @@
 -- The worth of a plain shared policy is the forward worth of what its rows mean, in any arithmetic: its joint rows
 -- are the joint histories.
-use Rattle.std.proofs.Common.{◌≡◌, ◌≢◌, ℕ, zero, suc, ◌-◌, ◌<◌, ◌≤◌, true, false, cond, eqb, ℤ, pos, List, [], ◌∷◌,
-    length, refl, sym, ap, ◌∙◌, arith}
+use Rattle.std.proofs.Common.{◌≡◌, ◌≢◌, ℕ, zero, suc, ◌-◌, ◌<◌, ◌≤◌, true, false, cond, eqb, ℤ, pos, List, [], ◌∷◌}
+use Rattle.std.proofs.Common.{length, refl, sym, ap, ◌∙◌, arith}
 use Rattle.std.proofs.Math.Nat.{pow-suc}
 use Rattle.std.proofs.lemmas.Bool.Decides.{nat_tests}
 use Rattle.dp_spec.specs.declared.span.Span.{Span}
 use Rattle.dp_laws.proofs.JointPairs.{int_sum_pairs, pair_injective}
 use Rattle.dp_laws.proofs.KeptActions.{history_length}
-use Rattle.dp_laws.proofs.SpanSums.{span_equal, span_history_sum_ext, span_sum_ext, span_sum_only, span_none_add,
-    span_sum_none, span_sum_ends}
+use Rattle.dp_laws.proofs.SpanSums.{span_equal, span_history_sum_ext, span_sum_ext, span_sum_only, span_none_add}
+use Rattle.dp_laws.proofs.SpanSums.{span_sum_none, span_sum_ends}
 use Rattle.dp_laws.proofs.SharedTrees.{one_joint_row, row_trees, row_trees-start}
 use Rattle.dp_laws.proofs.SharedValue.{next_below, row_trees_do, trees_after_row}
 use Rattle.dp_spec.specs.Arithmetic.{Arithmetic, point, span_add}
@@ -19,11 +19,11 @@ use Rattle.dp_spec.specs.Model.{Model, joint_observations}
 use Rattle.dp_spec.specs.PlainForm.{ArePlain, IsPlain}
 use Rattle.dp_spec.specs.PlainForm.ArePlain.{and_agent, no_agents}
 use Rattle.dp_spec.specs.PolicyTree.{PolicyTree}
-use Rattle.dp_spec.specs.Quantities.{earned_reward_in, forward_worth_in, history_weight_in, span_history_sum,
-    span_sum, weighted_reward_in, weights_after_in}
+use Rattle.dp_spec.specs.Quantities.{earned_reward_in, forward_worth_in, history_weight_in, span_history_sum}
+use Rattle.dp_spec.specs.Quantities.{span_sum, weighted_reward_in, weights_after_in}
 use Rattle.dp_spec.specs.SharedPolicy.{AreRowsOfAgents, IsSharedOf, SharedPolicy, row_counts, unfolded}
-use Rattle.dp_spec.specs.SharedWorth.{joint_row_action, joint_row_count, next_joint_row, row_weight_in, rows_after,
-    rows_earn_in, shared_worth_in}
+use Rattle.dp_spec.specs.SharedWorth.{joint_row_action, joint_row_count, next_joint_row, row_weight_in, rows_after}
+use Rattle.dp_spec.specs.SharedWorth.{rows_earn_in, shared_worth_in}
 use Rattle.dp_base.specs.Sums.{int_sum}
 use Rattle.dp_spec.specs.Value.{joint_root_action, trees_after}
 use Rattle.dp_spec.proofs.JointNumberLaws.{AreBelow, parts_below}

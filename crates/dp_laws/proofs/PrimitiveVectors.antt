@@ -1,15 +1,15 @@
 -- Two classes with totals above 0 are equivalent exactly where their primitive vectors are equal.
-use Rattle.std.proofs.Common.{◌≡◌, ℕ, zero, suc, ◌+◌, ◌*◌, ◌/◌, ◌%◌, ◌<◌, ◌≤◌, List, [], ◌∷◌, map, length, get_or,
-    refl, sym, ap, ◌∙◌, subst, arith}
+use Rattle.std.proofs.Common.{◌≡◌, ℕ, zero, suc, ◌+◌, ◌*◌, ◌/◌, ◌%◌, ◌<◌, ◌≤◌, List, [], ◌∷◌, map, length, get_or}
+use Rattle.std.proofs.Common.{refl, sym, ap, ◌∙◌, subst, arith}
 use Rattle.std.specs.Prelude.{◌↔◌, All}
 use Rattle.std.specs.Int.{◌∣◌}
 use Rattle.std.specs.List.{range_with_len}
-use Rattle.std.proofs.lemmas.List.Elements.{All-cons, All-from_get_or, All-get_or, All-head, All-map, All-nil,
-    All-tail, All-weaker}
+use Rattle.std.proofs.lemmas.List.Elements.{All-cons, All-from_get_or, All-get_or, All-head, All-map, All-nil}
+use Rattle.std.proofs.lemmas.List.Elements.{All-tail, All-weaker}
 use Rattle.std.proofs.lemmas.List.FromFn.{get_or-map-range_with_len, length-map-range_with_len}
 use Rattle.std.proofs.lemmas.Nat.Gcd.{dvd-zero, dvd_antisymm, dvd_trans}
-use Rattle.std.proofs.Math.Nat.{div-mul_cancel, dvd-mul_right, mul-div_cancel', mul-pos, dvd_of_mul-dvd-mul_left,
-    eq_of_mul-eq-mul_right, mul-dvd-mul_left}
+use Rattle.std.proofs.Math.Nat.{div-mul_cancel, dvd-mul_right, mul-div_cancel', mul-pos, dvd_of_mul-dvd-mul_left}
+use Rattle.std.proofs.Math.Nat.{eq_of_mul-eq-mul_right, mul-dvd-mul_left}
 use Rattle.dp_base.proofs.DivisorLaws.{gcd_of-IsGcd}
 use Rattle.dp_base.specs.Divisors.{gcd_of}
 use Rattle.dp_base.specs.Sums.{nat_sum}

@@ -1,8 +1,8 @@
 -- every quantity in one record, in a sound arithmetic and in those of the two modes
 use Rattle.std.proofs.Common.{ℕ, ℤ, Bool, List, sym, subst, arith}
-use Rattle.dp_laws.proofs.EnclosedQuantities.{action_look_ahead_enclosed, bound_enclosed, class_weight_enclosed,
-    earned_reward_enclosed, history_weight_enclosed, look_ahead_enclosed, mdp_table_enclosed,
-    weighted_reward_enclosed, weights_after_enclosed}
+use Rattle.dp_laws.proofs.EnclosedQuantities.{action_look_ahead_enclosed, bound_enclosed, class_weight_enclosed}
+use Rattle.dp_laws.proofs.EnclosedQuantities.{earned_reward_enclosed, history_weight_enclosed, look_ahead_enclosed}
+use Rattle.dp_laws.proofs.EnclosedQuantities.{mdp_table_enclosed, weighted_reward_enclosed, weights_after_enclosed}
 use Rattle.dp_laws.proofs.ExactArithmetic.{exact_sound}
 use Rattle.dp_laws.proofs.Modes.{model_arithmetic_sound}
 use Rattle.dp_laws.proofs.OutwardArithmetic.{outward_sound}

@@ -1,14 +1,14 @@
 -- The recursion that updates weights along the trees gives the forward worth, in any arithmetic.
 use Rattle.std.proofs.Common.{◌≡◌, ℕ, zero, suc, ◌+◌, List, ◌∷◌, sym, ap, ◌∙◌, arith}
 use Rattle.dp_spec.specs.declared.span.Span.{Span}
-use Rattle.dp_laws.proofs.SpanSums.{span_add_assoc, span_add_none, span_history_sum_add, span_history_sum_zero,
-    span_none_add}
+use Rattle.dp_laws.proofs.SpanSums.{span_add_assoc, span_add_none, span_history_sum_add, span_history_sum_zero}
+use Rattle.dp_laws.proofs.SpanSums.{span_none_add}
 use Rattle.dp_spec.specs.Arithmetic.{Arithmetic, span_add}
 use Rattle.dp_spec.specs.JointHistory.{trees_after_history}
 use Rattle.dp_spec.specs.Model.{Model, joint_observations, start_at}
 use Rattle.dp_spec.specs.PolicyTree.{PolicyTree}
-use Rattle.dp_spec.specs.Quantities.{earned_reward_in, forward_worth_in, history_weight_in, recursive_worth_in,
-    span_history_sum, span_sum, weighted_reward_in}
+use Rattle.dp_spec.specs.Quantities.{earned_reward_in, forward_worth_in, history_weight_in, recursive_worth_in}
+use Rattle.dp_spec.specs.Quantities.{span_history_sum, span_sum, weighted_reward_in}
 use Rattle.dp_spec.specs.Value.{joint_root_action}
 
 -- the recursion is what is earned before time f, and the recursions from there on

@@ -1,6 +1,7 @@
 -- A shared policy whose rows differ at each stage and are reached in order is the shared form of what its rows mean.
-use Rattle.std.proofs.Common.{◌≡◌, ◌⊎◌, inl, inr, ℕ, zero, suc, ◌+◌, ◌-◌, ◌*◌, ◌^◌, ◌<◌, ◌≤◌, Bool, true, false, cond,
-    not, ◌&&◌, ◌||◌, List, [], ◌∷◌, ◌++◌, length, get_or, filter, map, refl, sym, ap, ◌∙◌, subst, append_assoc, arith}
+use Rattle.std.proofs.Common.{◌≡◌, ◌⊎◌, inl, inr, ℕ, zero, suc, ◌+◌, ◌-◌, ◌*◌, ◌^◌, ◌<◌, ◌≤◌, Bool, true, false, cond}
+use Rattle.std.proofs.Common.{not, ◌&&◌, ◌||◌, List, [], ◌∷◌, ◌++◌, length, get_or, filter, map, refl, sym, ap, ◌∙◌}
+use Rattle.std.proofs.Common.{subst, append_assoc, arith}
 use Rattle.std.specs.Prelude.{max}
 use Rattle.std.specs.List.{range_with_len}
 use Rattle.std.proofs.lemmas.Bool.{cases_lt}
@@ -10,15 +11,16 @@ use Rattle.std.proofs.Math.Nat.{pow-suc, pow-zero}
 use Rattle.dp_laws.proofs.DifferentTrees.{are_different, place_of_place, same_tree_equal, same_tree_itself}
 use Rattle.dp_laws.proofs.PlainForms.{all_observations, no_observations, same_row}
 use Rattle.dp_laws.proofs.SharedForms.{no_tree}
-use Rattle.dp_laws.proofs.SharedTrees.{row_of_history_is, first_count_is, last_row_nexts, next_row_below, row_nexts,
-    rows_tree, rows_tree_is, subtree_of_row}
+use Rattle.dp_laws.proofs.SharedTrees.{row_of_history_is, first_count_is, last_row_nexts, next_row_below, row_nexts}
+use Rattle.dp_laws.proofs.SharedTrees.{rows_tree, rows_tree_is, subtree_of_row}
 use Rattle.dp_spec.specs.Keeping.{tree_at}
 use Rattle.dp_spec.specs.Model.{Model}
 use Rattle.dp_spec.specs.PolicyTree.{PolicyTree, root_action, subtree}
-use Rattle.dp_spec.specs.SharedForm.{AreInOrder, AreReduced, AreReducedRows, IsSharedForm, all_nexts, different_trees,
-    place_of_tree, read_after, remaining_trees, same_tree, shared_form, shared_row, shared_rows, shared_rows_of}
-use Rattle.dp_spec.specs.SharedPolicy.{AgentRows, AreAgentRows, AreRowsOfAgents, IsSharedOf, PolicyRow, SharedPolicy,
-    no_row, row_at, row_count, row_of_history, unfolded, unfolded_tree}
+use Rattle.dp_spec.specs.SharedForm.{AreInOrder, AreReduced, AreReducedRows, IsSharedForm, all_nexts, different_trees}
+use Rattle.dp_spec.specs.SharedForm.{place_of_tree, read_after, remaining_trees, same_tree, shared_form, shared_row}
+use Rattle.dp_spec.specs.SharedForm.{shared_rows, shared_rows_of}
+use Rattle.dp_spec.specs.SharedPolicy.{AgentRows, AreAgentRows, AreRowsOfAgents, IsSharedOf, PolicyRow, SharedPolicy}
+use Rattle.dp_spec.specs.SharedPolicy.{no_row, row_at, row_count, row_of_history, unfolded, unfolded_tree}
 use Rattle.dp_spec.specs.SharedPolicy.AreRowsOfAgents.{and_agent, no_agents}
 use Rattle.dp_base.proofs.Members.{filter_same}
 

@@ -4,8 +4,8 @@ use Rattle.std.specs.Prelude.{◌↔◌}
 use Rattle.std.specs.Int.{int_min}
 use Rattle.std.proofs.lemmas.List.Elements.{All-append, All-cons, All-from_recursion, All-head, All-tail}
 use Rattle.dp_spec.specs.Arithmetic.{Arithmetic}
-use Rattle.dp_spec.specs.BoundTree.{BoundTree, BoundTrees, branch, child_count, leaf, merge, more_bound_trees,
-    no_bound_trees}
+use Rattle.dp_spec.specs.BoundTree.{BoundTree, BoundTrees, branch, child_count, leaf, merge, more_bound_trees}
+use Rattle.dp_spec.specs.BoundTree.{no_bound_trees}
 use Rattle.dp_spec.specs.Certificate.{FitsRoot}
 use Rattle.dp_spec.specs.Fitting.{FitEachAction, FitsFront, front_bound}
 use Rattle.dp_spec.specs.Front.{Front}

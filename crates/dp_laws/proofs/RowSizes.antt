@@ -1,7 +1,7 @@
 -- How large the weights of joint rows are, in any arithmetic.
 use Rattle.std.proofs.Common.{◌≡◌, ℕ, suc, ◌<◌, ◌≤◌, cond, eqb, List, [], ◌∷◌, pos, arith}
-use Rattle.dp_laws.proofs.OrderedSpans.{IsOrdered, one_place, sum_ordered, sum_point, total_size, weight_ordered,
-    where_ordered, where_point, where_size}
+use Rattle.dp_laws.proofs.OrderedSpans.{IsOrdered, one_place, sum_ordered, sum_point, total_size, weight_ordered}
+use Rattle.dp_laws.proofs.OrderedSpans.{where_ordered, where_point, where_size}
 use Rattle.dp_laws.proofs.SharedTrees.{row_action_below}
 use Rattle.dp_laws.proofs.SizeSums.{span_sum_size}
 use Rattle.dp_spec.specs.Arithmetic.{Arithmetic, point}
@@ -10,8 +10,8 @@ use Rattle.dp_spec.specs.Model.{Model, joint_actions, joint_observations}
 use Rattle.dp_spec.specs.Quantities.{span_sum, weights_after_in}
 use Rattle.dp_spec.specs.SharedPolicy.{AreRowsOfAgents, SharedPolicy, row_counts}
 use Rattle.dp_spec.specs.SharedPolicy.AreRowsOfAgents.{and_agent, no_agents}
-use Rattle.dp_spec.specs.SharedWorth.{actions_of_rows, joint_row_action, joint_row_count, next_joint_row,
-    row_weight_in}
+use Rattle.dp_spec.specs.SharedWorth.{actions_of_rows, joint_row_action, joint_row_count, next_joint_row}
+use Rattle.dp_spec.specs.SharedWorth.{row_weight_in}
 use Rattle.dp_spec.specs.Sizes.{AreWeights, CanUpdateWeights, weight_limit}
 use Rattle.dp_spec.specs.SizesOfRows.{rows_update_size}
 use Rattle.dp_base.specs.Sums.{nat_sum}

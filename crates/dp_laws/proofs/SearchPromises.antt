@@ -1,7 +1,7 @@
 -- What a search over the fronts of a model promises, in the words of certificates: what holds of each node of the
 -- arena holds of each node of the finished tree.
-use Rattle.std.proofs.Common.{◌≡◌, ℕ, suc, ◌+◌, ◌<◌, ◌≤◌, Bool, true, false, not, ℤ, ◌≤ℤ◌, ◌<ℤ◌, List, [], length,
-    get_or, sym, ap, subst, ◌∙◌, arith, inl, inr, All}
+use Rattle.std.proofs.Common.{◌≡◌, ℕ, suc, ◌+◌, ◌<◌, ◌≤◌, Bool, true, false, not, ℤ, ◌≤ℤ◌, ◌<ℤ◌, List, [], length}
+use Rattle.std.proofs.Common.{get_or, sym, ap, subst, ◌∙◌, arith, inl, inr, All}
 use Rattle.std.specs.Prelude.{IsTrue, nat_lt}
 use Rattle.std.specs.Int.{int_min}
 use Rattle.std.proofs.lemmas.Bool.Decides.{nat_tests}
@@ -13,8 +13,8 @@ use Rattle.dp_spec.specs.Steps.{front_after_choice, root_front}
 use Rattle.dp_spec.specs.Merge.{merged_front}
 use Rattle.dp_spec.specs.Arithmetic.{Arithmetic}
 use Rattle.dp_spec.specs.BoundTree.{BoundTree, BoundTrees, leaf, branch, merge, no_bound_trees, more_bound_trees}
-use Rattle.dp_spec.specs.Qualities.{HasNoEquivalent, IfBranch, IfInner, IfLeaf, IfNarrowLeaf, Node, Place, nodes_of,
-    nodes_of_choices, places_of}
+use Rattle.dp_spec.specs.Qualities.{HasNoEquivalent, IfBranch, IfInner, IfLeaf, IfNarrowLeaf, Node, Place, nodes_of}
+use Rattle.dp_spec.specs.Qualities.{nodes_of_choices, places_of}
 use Rattle.dp_spec.specs.declared.step.Step.{Step}
 use Rattle.dp_spec.specs.declared.step.Step.TheVariants.{Branch, Merge}
 use Rattle.dp_spec.specs.declared.node.NodeKind.TheVariants.{Inner}

@@ -1,6 +1,6 @@
 -- Shared forms: that of what the rows of a shared policy mean has no more rows, and means the same.
-use Rattle.std.proofs.Common.{◌≡◌, ◌⊎◌, inl, inr, ℕ, zero, suc, ◌+◌, ◌-◌, ◌*◌, ◌^◌, ◌<◌, ◌≤◌, List, [], length,
-    get_or, map, refl, sym, ap, ◌∙◌, subst, arith}
+use Rattle.std.proofs.Common.{◌≡◌, ◌⊎◌, inl, inr, ℕ, zero, suc, ◌+◌, ◌-◌, ◌*◌, ◌^◌, ◌<◌, ◌≤◌, List, [], length}
+use Rattle.std.proofs.Common.{get_or, map, refl, sym, ap, ◌∙◌, subst, arith}
 use Rattle.std.specs.List.{range_with_len}
 use Rattle.std.proofs.lemmas.List.{length-map}
 use Rattle.std.proofs.lemmas.List.FromFn.{get_or-map-range_with_len, length-map-range_with_len}
@@ -8,22 +8,22 @@ use Rattle.std.proofs.lemmas.List.{get_or-map}
 use Rattle.std.proofs.lemmas.Bool.{cases_lt}
 use Rattle.std.proofs.Math.Nat.{mul-le-mul, mul-le-mul_left, one-le-pow, pow-zero}
 use Rattle.dp_laws.proofs.ClassCounts.{classes-le-members}
-use Rattle.dp_laws.proofs.DifferentTrees.{IsAmong, among_different, are_different, at_among, different_among,
-    place_among, place_of_place, some_different}
+use Rattle.dp_laws.proofs.DifferentTrees.{IsAmong, among_different, are_different, at_among, different_among}
+use Rattle.dp_laws.proofs.DifferentTrees.{place_among, place_of_place, some_different}
 use Rattle.dp_laws.proofs.Keeping.{tree_at_fits}
 use Rattle.dp_laws.proofs.OwnHistories.{next_history_below}
 use Rattle.dp_laws.proofs.PlainForms.{all_observations, first_by_place, no_observations, stages_from}
-use Rattle.dp_laws.proofs.SharedTrees.{row_of_history_is, first_count_is, row_tree_fits, rows_tree, rows_tree_is,
-    subtree_of_row}
+use Rattle.dp_laws.proofs.SharedTrees.{row_of_history_is, first_count_is, row_tree_fits, rows_tree, rows_tree_is}
+use Rattle.dp_laws.proofs.SharedTrees.{subtree_of_row}
 use Rattle.dp_laws.proofs.TreeActions.{action_below, equal_leaves, equal_nodes, tree_at-next}
 use Rattle.dp_spec.specs.JointNumbers.{product}
 use Rattle.dp_spec.specs.Keeping.{tree_at}
 use Rattle.dp_spec.specs.Model.{IsModel, Model, joint_observations}
 use Rattle.dp_spec.specs.PolicyTree.{IsPolicyTree, PolicyTree, no_trees, node, root_action, subtree}
-use Rattle.dp_spec.specs.SharedForm.{IsSharedForm, different_trees, place_of_tree, remaining_trees, shared_form,
-    shared_row, shared_rows, shared_rows_of}
-use Rattle.dp_spec.specs.SharedPolicy.{AgentRows, AreAgentRows, AreRowsOfAgents, IsSharedOf, PolicyRow, SharedPolicy,
-    no_row, row_at, row_count, row_counts, row_of_history, unfolded, unfolded_tree}
+use Rattle.dp_spec.specs.SharedForm.{IsSharedForm, different_trees, place_of_tree, remaining_trees, shared_form}
+use Rattle.dp_spec.specs.SharedForm.{shared_row, shared_rows, shared_rows_of}
+use Rattle.dp_spec.specs.SharedPolicy.{AgentRows, AreAgentRows, AreRowsOfAgents, IsSharedOf, PolicyRow, SharedPolicy}
+use Rattle.dp_spec.specs.SharedPolicy.{no_row, row_at, row_count, row_counts, row_of_history, unfolded, unfolded_tree}
 use Rattle.dp_spec.specs.SharedPolicy.AreRowsOfAgents.{and_agent, no_agents}
 use Rattle.dp_spec.proofs.JointNumberLaws.{positive_left, positive_right}
 use Rattle.dp_spec.proofs.ModelLaws.{some_joint_observation}

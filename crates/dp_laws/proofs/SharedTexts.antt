@@ -1,6 +1,6 @@
 -- One spelling of shared policies: the lines of their rows determine them.
-use Rattle.std.proofs.Common.{◌≡◌, ℕ, zero, suc, ◌+◌, ◌-◌, ◌*◌, ◌^◌, ◌<◌, ◌≤◌, List, [], ◌∷◌, ◌++◌, length, get_or,
-    refl, sym, ap, subst, ◌∙◌, append_assoc, arith}
+use Rattle.std.proofs.Common.{◌≡◌, ℕ, zero, suc, ◌+◌, ◌-◌, ◌*◌, ◌^◌, ◌<◌, ◌≤◌, List, [], ◌∷◌, ◌++◌, length, get_or}
+use Rattle.std.proofs.Common.{refl, sym, ap, subst, ◌∙◌, append_assoc, arith}
 use Rattle.std.specs.Prelude.{pos, unsigned_abs, map, replicate}
 use Rattle.std.proofs.Math.Nat.{le-mul_of_pos_right}
 use Rattle.std.proofs.lemmas.Bool.Decides.{nat_tests}
@@ -8,16 +8,17 @@ use Rattle.std.proofs.lemmas.List.{get_or-replicate, length-replicate}
 use Rattle.std.specs.Prelude.{nat_lt, false, None}
 use Rattle.dp_spec.specs.JointNumbers.{product}
 use Rattle.dp_spec.specs.Model.{IsModel, Model}
-use Rattle.dp_spec.specs.SharedPolicy.{AgentRows, AreAgentRows, AreRowsOfAgents, AreStages, IsRow, IsSharedOf,
-    PolicyRow, SharedPolicy, first_count, next_count, no_row, row_count, row_counts}
+use Rattle.dp_spec.specs.SharedPolicy.{AgentRows, AreAgentRows, AreRowsOfAgents, AreStages, IsRow, IsSharedOf}
+use Rattle.dp_spec.specs.SharedPolicy.{PolicyRow, SharedPolicy, first_count, next_count, no_row, row_count}
+use Rattle.dp_spec.specs.SharedPolicy.{row_counts}
 use Rattle.dp_spec.specs.SharedPolicy.AreRowsOfAgents.{and_agent, no_agents}
-use Rattle.dp_spec.specs.SharedRows.{counts_form, first_past, products, row_cells, shared_policy_rows,
-    shared_row_form, shared_row_line, stage_counts, stage_lines}
+use Rattle.dp_spec.specs.SharedRows.{counts_form, first_past, products, row_cells, shared_policy_rows}
+use Rattle.dp_spec.specs.SharedRows.{shared_row_form, shared_row_line, stage_counts, stage_lines}
 use Rattle.dp_spec.specs.TextLines.{Line, plain, Allows}
 use Rattle.dp_spec.specs.PolicyText.{agent_lines}
 use Rattle.dp_spec.proofs.ModelLaws.{some_state}
-use Rattle.dp_laws.proofs.LineTexts.{AreLines, HasItems, bytes_of, decimal_item, first_of_list, line_text_injective,
-    rest_of_list}
+use Rattle.dp_laws.proofs.LineTexts.{AreLines, HasItems, bytes_of, decimal_item, first_of_list, line_text_injective}
+use Rattle.dp_laws.proofs.LineTexts.{rest_of_list}
 use Rattle.dp_laws.proofs.PlainForms.{same_row}
 use Rattle.dp_laws.proofs.SmallBranches.{number_within}
 use Rattle.dp_laws.proofs.PolicyTexts.{AreSmall, map-unsigned_abs-pos, replicate_items}

@@ -1,16 +1,17 @@
 -- The trees that the rows of a shared policy mean.
-use Rattle.std.proofs.Common.{◌≡◌, ℕ, zero, suc, ◌+◌, ◌*◌, ◌/◌, ◌%◌, ◌^◌, ◌<◌, List, [], ◌∷◌, length, get_or, map,
-    refl, sym, ap, ◌∙◌, subst, arith}
+use Rattle.std.proofs.Common.{◌≡◌, ℕ, zero, suc, ◌+◌, ◌*◌, ◌/◌, ◌%◌, ◌^◌, ◌<◌, List, [], ◌∷◌, length, get_or, map}
+use Rattle.std.proofs.Common.{refl, sym, ap, ◌∙◌, subst, arith}
 use Rattle.std.proofs.Math.Nat.{pow-suc}
 use Rattle.std.proofs.lemmas.Nat.{mod_below}
 use Rattle.dp_spec.specs.Keeping.{tree_at}
 use Rattle.dp_spec.specs.JointNumbers.{parts_of, product}
 use Rattle.dp_spec.specs.Model.{Model}
-use Rattle.dp_spec.specs.PolicyTree.{ArePolicyTrees, IsJointPolicy, IsPolicyOf, IsPolicyTree, PolicyTree, no_trees,
-    node, nth_tree, root_action, subtree}
+use Rattle.dp_spec.specs.PolicyTree.{ArePolicyTrees, IsJointPolicy, IsPolicyOf, IsPolicyTree, PolicyTree, no_trees}
+use Rattle.dp_spec.specs.PolicyTree.{node, nth_tree, root_action, subtree}
 use Rattle.dp_spec.specs.PolicyTree.IsJointPolicy.{and_agent as and_policy, no_agents as no_policies}
-use Rattle.dp_spec.specs.SharedPolicy.{AgentRows, AreAgentRows, AreRowsOfAgents, AreStages, IsSharedOf, SharedPolicy,
-    first_count, row_at, row_count, row_counts, row_of_history, tree_of_row, trees_of, unfolded, unfolded_tree}
+use Rattle.dp_spec.specs.SharedPolicy.{AgentRows, AreAgentRows, AreRowsOfAgents, AreStages, IsSharedOf, SharedPolicy}
+use Rattle.dp_spec.specs.SharedPolicy.{first_count, row_at, row_count, row_counts, row_of_history, tree_of_row}
+use Rattle.dp_spec.specs.SharedPolicy.{trees_of, unfolded, unfolded_tree}
 use Rattle.dp_spec.specs.SharedPolicy.AreRowsOfAgents.{and_agent, no_agents}
 use Rattle.dp_spec.specs.SharedWorth.{actions_of_rows, rows_after}
 use Rattle.dp_spec.specs.Value.{subtrees_at}

@@ -1,17 +1,17 @@
 -- The worth of a shared policy encloses the value of the joint policy that its rows mean.
-use Rattle.std.proofs.Common.{◌≡◌, inl, inr, ℕ, zero, suc, ◌+◌, ◌-◌, ◌*◌, ◌^◌, ◌<◌, ◌≤◌, Bool, true, false, cond, eqb,
-    ℤ, pos, ◌+ℤ◌, ◌*ℤ◌, List, refl, sym, ap, ◌∙◌, subst, arith}
+use Rattle.std.proofs.Common.{◌≡◌, inl, inr, ℕ, zero, suc, ◌+◌, ◌-◌, ◌*◌, ◌^◌, ◌<◌, ◌≤◌, Bool, true, false, cond, eqb}
+use Rattle.std.proofs.Common.{ℤ, pos, ◌+ℤ◌, ◌*ℤ◌, List, refl, sym, ap, ◌∙◌, subst, arith}
 use Rattle.std.proofs.Math.IntN.{+ℤ_assoc, +ℤ_idl}
 use Rattle.std.proofs.lemmas.Bool.{cases_eq}
 use Rattle.std.proofs.lemmas.Int.{ints}
-use Rattle.dp_laws.proofs.EnclosedQuantities.{earns_same, earns_sum, weighs_same, weighs_sum, weighs_where,
-    weights_after_enclosed, weighted_reward_enclosed}
+use Rattle.dp_laws.proofs.EnclosedQuantities.{earns_same, earns_sum, weighs_same, weighs_sum, weighs_where}
+use Rattle.dp_laws.proofs.EnclosedQuantities.{weights_after_enclosed, weighted_reward_enclosed}
 use Rattle.dp_laws.proofs.OneStep.{one_step, weighted_zeros}
 use Rattle.dp_spec.proofs.QuantityScales.{scale_at_stage, scale_of_first, scale_of_next}
-use Rattle.dp_laws.proofs.SharedTrees.{one_joint_row, row_trees, row_trees-start, row_trees_act, row_trees_go_on,
-    rows_after_below}
-use Rattle.dp_base.proofs.Sums.{ext_two, int_sum_add, int_sum_ext, int_sum_one, int_sum_swap, int_sum_weigh,
-    int_sum_zero, ite_other, rotate}
+use Rattle.dp_laws.proofs.SharedTrees.{one_joint_row, row_trees, row_trees-start, row_trees_act, row_trees_go_on}
+use Rattle.dp_laws.proofs.SharedTrees.{rows_after_below}
+use Rattle.dp_base.proofs.Sums.{ext_two, int_sum_add, int_sum_ext, int_sum_one, int_sum_swap, int_sum_weigh}
+use Rattle.dp_base.proofs.Sums.{int_sum_zero, ite_other, rotate}
 use Rattle.dp_spec.specs.Arithmetic.{Arithmetic}
 use Rattle.dp_spec.specs.Enclosure.{Enclosure, IsSound}
 use Rattle.dp_spec.specs.JointNumbers.{parts_of}
@@ -19,8 +19,8 @@ use Rattle.dp_spec.specs.LookAhead.{weighted_reward, weights_after}
 use Rattle.dp_spec.specs.Model.{Model, joint_observations, start_at, step_scale, value_scale}
 use Rattle.dp_spec.specs.PolicyTree.{PolicyTree}
 use Rattle.dp_spec.specs.SharedPolicy.{AreRowsOfAgents, IsSharedOf, SharedPolicy, row_counts, unfolded}
-use Rattle.dp_spec.specs.SharedWorth.{joint_row_action, joint_row_count, next_joint_row, row_weight_in, rows_earn_in,
-    shared_worth_in}
+use Rattle.dp_spec.specs.SharedWorth.{joint_row_action, joint_row_count, next_joint_row, row_weight_in, rows_earn_in}
+use Rattle.dp_spec.specs.SharedWorth.{shared_worth_in}
 use Rattle.dp_base.specs.Sums.{int_sum, nat_sum}
 use Rattle.dp_spec.specs.Value.{backward_value, joint_root_action, policy_value, trees_after}
 use Rattle.dp_spec.proofs.JointNumberLaws.{joint_number_below, parts_below, parts_of-joint_number}

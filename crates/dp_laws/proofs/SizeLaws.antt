@@ -2,8 +2,8 @@
 use Rattle.std.proofs.Common.{◌≡◌, ℕ, ◌-◌, ◌*◌, ◌^◌, ◌<◌, ◌≤◌, Bool, true, false, List, refl, arith}
 use Rattle.dp_spec.specs.declared.scales.Scales.{Scales}
 use Rattle.dp_laws.proofs.ExactWeightUpdates.{exact_can_update_weights}
-use Rattle.dp_laws.proofs.ExactModeSizes.{exact_can_evaluate, exact_can_look_ahead, exact_can_refine,
-    exact_can_reward, exact_can_tabulate}
+use Rattle.dp_laws.proofs.ExactModeSizes.{exact_can_evaluate, exact_can_look_ahead, exact_can_refine}
+use Rattle.dp_laws.proofs.ExactModeSizes.{exact_can_reward, exact_can_tabulate}
 use Rattle.dp_laws.proofs.ActingHistories.{history_weights}
 use Rattle.dp_laws.proofs.OutwardHistorySizes.{outward_can_evaluate, outward_can_refine}
 use Rattle.dp_laws.proofs.OutwardLookSizes.{outward_can_look_ahead}

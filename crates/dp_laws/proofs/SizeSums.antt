@@ -9,8 +9,9 @@ use Rattle.dp_spec.specs.Calls.{size}
 use Rattle.dp_spec.specs.Front.{Front}
 use Rattle.dp_spec.specs.JointHistory.{nat_history_sum}
 use Rattle.dp_spec.specs.Model.{Model, joint_actions, joint_observations, obs_at, reward_at, trans_at}
-use Rattle.dp_spec.specs.Quantities.{action_look_ahead_in, earned_reward_in, look_ahead_in, history_weight_in,
-    mdp_table_in, span_history_sum, span_sum, weighted_reward_in, weights_after_in, recursive_worth_in}
+use Rattle.dp_spec.specs.Quantities.{action_look_ahead_in, earned_reward_in, look_ahead_in, history_weight_in}
+use Rattle.dp_spec.specs.Quantities.{mdp_table_in, span_history_sum, span_sum, weighted_reward_in, weights_after_in}
+use Rattle.dp_spec.specs.Quantities.{recursive_worth_in}
 use Rattle.dp_spec.specs.Sizes.{reward_size}
 use Rattle.dp_spec.specs.PolicyTree.{PolicyTree}
 use Rattle.dp_spec.specs.SizesOfEarnings.{earned_size, worth_size}

@@ -5,8 +5,9 @@ use Rattle.dp_laws.proofs.Leaves.{actions_left, some_action}
 use Rattle.dp_laws.proofs.RootFront.{root_is_front}
 use Rattle.dp_laws.proofs.WellFormedSteps.{after_choice_is_front, merged_is_front}
 use Rattle.dp_spec.specs.Arithmetic.{Arithmetic}
-use Rattle.dp_spec.specs.BoundTree.{BoundTree, BoundTrees, HasSmallBranches, HaveSmallBranches, branch, child_count,
-    inner_count, inner_counts, leaf, merge, more_bound_trees, no_bound_trees, node_count, node_counts}
+use Rattle.dp_spec.specs.BoundTree.{BoundTree, BoundTrees, HasSmallBranches, HaveSmallBranches, branch, child_count}
+use Rattle.dp_spec.specs.BoundTree.{inner_count, inner_counts, leaf, merge, more_bound_trees, no_bound_trees}
+use Rattle.dp_spec.specs.BoundTree.{node_count, node_counts}
 use Rattle.dp_spec.specs.Certificate.{Certificate, FitsRoot, IsCertificateOf, IsValid, arithmetic_for}
 use Rattle.dp_laws.proofs.TreeDepth.{valid_depth}
 use Rattle.dp_spec.specs.Fitting.{FitEachAction, FitsFront}

@@ -8,8 +8,8 @@ use Rattle.dp_laws.proofs.OwnHistories.{next_history_below}
 use Rattle.dp_laws.proofs.Trees.{root_action_below}
 use Rattle.dp_spec.specs.FullPolicy.{tree_doing, tree_doing_after}
 use Rattle.dp_spec.specs.Keeping.{tree_at}
-use Rattle.dp_spec.specs.PolicyTree.{ArePolicyTrees, IsPolicyTree, PolicyTree, PolicyTrees, more_trees, no_trees,
-    node, nth_tree, root_action, subtree}
+use Rattle.dp_spec.specs.PolicyTree.{ArePolicyTrees, IsPolicyTree, PolicyTree, PolicyTrees, more_trees, no_trees}
+use Rattle.dp_spec.specs.PolicyTree.{node, nth_tree, root_action, subtree}
 use Rattle.dp_spec.proofs.JointNumberLaws.{part_below, positive_right}
 
 under_one : (n x : ℕ) → x < n ^ 0 → x ≡ 0

@@ -1,8 +1,8 @@
 -- On a path of a tree that fits a front there are at most as many inner nodes as own histories.
 -- Each choice and each merge leaves one unassigned class less, and an advance opens at most one class for each own
 -- history of the next length.
-use Rattle.std.proofs.Common.{◌≡◌, inl, inr, ℕ, zero, suc, ◌+◌, ◌-◌, ◌*◌, ◌^◌, ◌<◌, ◌≤◌, Bool, true, false, ℤ, List,
-    [], ◌∷◌, length, get_or, set, Option, Some, None, refl, ap, arith}
+use Rattle.std.proofs.Common.{◌≡◌, inl, inr, ℕ, zero, suc, ◌+◌, ◌-◌, ◌*◌, ◌^◌, ◌<◌, ◌≤◌, Bool, true, false, ℤ, List}
+use Rattle.std.proofs.Common.{[], ◌∷◌, length, get_or, set, Option, Some, None, refl, ap, arith}
 use Rattle.std.proofs.lemmas.List.{length-replicate}
 use Rattle.std.proofs.Math.ListN.{length-set}
 use Rattle.std.proofs.Math.Nat.{mul-le-mul_right, pow-suc}
@@ -10,16 +10,16 @@ use Rattle.dp_laws.proofs.ClassCounts.{classes_within_histories}
 use Rattle.dp_laws.proofs.MergedAgents.{length-without}
 use Rattle.dp_laws.proofs.RootFront.{root_is_front}
 use Rattle.dp_spec.specs.Arithmetic.{Arithmetic}
-use Rattle.dp_spec.specs.BoundTree.{BoundTree, BoundTrees, branch, depth_of, greatest_depth, leaf, merge,
-    more_bound_trees, no_bound_trees}
+use Rattle.dp_spec.specs.BoundTree.{BoundTree, BoundTrees, branch, depth_of, greatest_depth, leaf, merge}
+use Rattle.dp_spec.specs.BoundTree.{more_bound_trees, no_bound_trees}
 use Rattle.dp_spec.specs.Certificate.{Certificate, FitsRoot, IsValid, arithmetic_for}
 use Rattle.dp_spec.specs.Fitting.{FitEachAction, FitsFront}
 use Rattle.dp_spec.specs.Front.{AgentFront, Front}
 use Rattle.dp_spec.specs.Merge.{merged_agents, merged_front, without}
 use Rattle.dp_spec.specs.Mode.{own_history_count}
 use Rattle.dp_spec.specs.Model.{IsModel, Model}
-use Rattle.dp_spec.specs.Steps.{IsUnassigned, advanced_agent, advanced_agents, advanced_if, all_chosen, chosen_front,
-    front_after_choice, is_complete, root_front, with_choice}
+use Rattle.dp_spec.specs.Steps.{IsUnassigned, advanced_agent, advanced_agents, advanced_if, all_chosen, chosen_front}
+use Rattle.dp_spec.specs.Steps.{front_after_choice, is_complete, root_front, with_choice}
 use Rattle.dp_spec.specs.Wide.{is_wide, none_count, unassigned_count}
 use Rattle.std.proofs.lemmas.Bool.Decides.{nat_tests}
 use Rattle.dp_spec.specs.WellFormed.{AreAgentFronts, IsFront}

@@ -3,8 +3,8 @@ use Rattle.std.proofs.Common.{ℕ, zero, suc, ◌%◌, ◌<◌, List, map, arith
 use Rattle.std.proofs.lemmas.Nat.{mod_below}
 use Rattle.dp_spec.specs.JointNumbers.{joint_number, parts_of, product}
 use Rattle.dp_spec.specs.PolicyTree.IsJointPolicy.{and_agent, no_agents}
-use Rattle.dp_spec.specs.PolicyTree.{ArePolicyTrees, IsJointPolicy, IsPolicyTree, PolicyTree, PolicyTrees, more_trees,
-    no_trees, node, nth_tree, root_action, subtree}
+use Rattle.dp_spec.specs.PolicyTree.{ArePolicyTrees, IsJointPolicy, IsPolicyTree, PolicyTree, PolicyTrees, more_trees}
+use Rattle.dp_spec.specs.PolicyTree.{no_trees, node, nth_tree, root_action, subtree}
 use Rattle.dp_spec.specs.Value.{subtrees_at}
 use Rattle.dp_spec.proofs.JointNumberLaws.{part_below, positive_right, row_below}
 

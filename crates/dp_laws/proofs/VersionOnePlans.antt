@@ -1,7 +1,7 @@
 -- A plan of version 1 is closed or has as many branches and merges as were allowed, since none of its nodes is wide
 -- and in exact mode a full leaf states no more than the value of the policy that its front fixes.
-use Rattle.std.proofs.Common.{◌≡◌, ◌⊎◌, inl, inr, ℕ, ◌<◌, Bool, true, false, ℤ, ◌≤ℤ◌, List, get_or, refl, sym, ap,
-    ◌∙◌, subst, arith}
+use Rattle.std.proofs.Common.{◌≡◌, ◌⊎◌, inl, inr, ℕ, ◌<◌, Bool, true, false, ℤ, ◌≤ℤ◌, List, get_or, refl, sym, ap}
+use Rattle.std.proofs.Common.{◌∙◌, subst, arith}
 use Rattle.std.specs.Prelude.{◌<ℤ◌, All, IsTrue}
 use Rattle.std.proofs.lemmas.Bool.{cases_lt}
 use Rattle.std.proofs.lemmas.Int.{ints}

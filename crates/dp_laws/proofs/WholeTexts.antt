@@ -1,6 +1,6 @@
 -- One spelling of whole texts: a text is that of one policy, or of one certificate.
-use Rattle.std.proofs.Common.{◌≡◌, ℕ, zero, suc, ◌+◌, ◌*◌, ◌^◌, ◌<◌, ◌≤◌, List, [], ◌∷◌, ◌++◌, length, get_or, refl,
-    sym, ap, subst, ◌∙◌, arith}
+use Rattle.std.proofs.Common.{◌≡◌, ℕ, zero, suc, ◌+◌, ◌*◌, ◌^◌, ◌<◌, ◌≤◌, List, [], ◌∷◌, ◌++◌, length, get_or, refl}
+use Rattle.std.proofs.Common.{sym, ap, subst, ◌∙◌, arith}
 use Rattle.std.specs.Prelude.{ℤ, pos, unsigned_abs, map}
 use Rattle.std.specs.List.{range_with_len}
 use Rattle.std.proofs.Math.Nat.{le-mul_of_pos_right}
@@ -9,10 +9,10 @@ use Rattle.dp_spec.specs.Model.{Model, IsModel, joint_actions}
 use Rattle.dp_spec.specs.PolicyTree.IsJointPolicy.{and_agent, no_agents}
 use Rattle.dp_spec.specs.PolicyTree.{IsJointPolicy, IsPolicyOf, IsPolicyTree, PolicyTree}
 use Rattle.dp_spec.specs.TextLines.{Line, fixed_line, line_text, Allows, AllAllowed}
-use Rattle.dp_spec.specs.PolicyText.{horizon_form, end_form, row_line, policy_rows, agent_lines, policy_lines,
-    policy_text, IsPolicyText}
-use Rattle.dp_laws.proofs.LineTexts.{decimal_item, AreLines, bytes_of, first_of_list, rest_of_list,
-    line_text_injective, text_of_lines_injective}
+use Rattle.dp_spec.specs.PolicyText.{horizon_form, end_form, row_line, policy_rows, agent_lines, policy_lines}
+use Rattle.dp_spec.specs.PolicyText.{policy_text, IsPolicyText}
+use Rattle.dp_laws.proofs.LineTexts.{decimal_item, AreLines, bytes_of, first_of_list, rest_of_list}
+use Rattle.dp_laws.proofs.LineTexts.{line_text_injective, text_of_lines_injective}
 use Rattle.dp_laws.proofs.PolicyTexts.{AreSmall, row_is, agent_lines_injective}
 use Rattle.dp_spec.proofs.JointNumberLaws.{positive_right}
 

@@ -12,9 +12,9 @@ use Rattle.dp_spec.specs.JointHistory.{IsJointHistory, earned_reward, history_we
 use Rattle.dp_spec.specs.Front.{Front, class_weight}
 use Rattle.dp_spec.specs.Bound.{bound_of}
 use Rattle.dp_spec.specs.Arithmetic.{Arithmetic, arithmetic, exact, outward}
-use Rattle.dp_spec.specs.Quantities.{action_look_ahead_in, bound_in, class_weight_in, earned_reward_in,
-    forward_worth_in, history_weight_in, look_ahead_in, mdp_table_in, recursive_worth_in, weighted_reward_in,
-    weights_after_in}
+use Rattle.dp_spec.specs.Quantities.{action_look_ahead_in, bound_in, class_weight_in, earned_reward_in}
+use Rattle.dp_spec.specs.Quantities.{forward_worth_in, history_weight_in, look_ahead_in, mdp_table_in}
+use Rattle.dp_spec.specs.Quantities.{recursive_worth_in, weighted_reward_in, weights_after_in}
 use Rattle.dp_spec.specs.Enclosure.{Enclosure, IsSound, containment, enclosure, equality}
 use Rattle.dp_spec.specs.Zeros.{KeepsZero}
 

@@ -1,19 +1,19 @@
 -- Joint classes taken a step further: their weights and rewards from those of the front before, in any arithmetic in
 -- which a class steps as its joint histories do; and where a class stands among the numbers of joint classes.
-use Rattle.std.specs.Prelude.{◌≡◌, ◌≢◌, ℕ, suc, ◌+◌, ◌*◌, ◌^◌, ◌<◌, Bool, true, false, pos, List, length, get_or,
-    take, drop}
+use Rattle.std.specs.Prelude.{◌≡◌, ◌≢◌, ℕ, suc, ◌+◌, ◌*◌, ◌^◌, ◌<◌, Bool, true, false, pos, List, length, get_or}
+use Rattle.std.specs.Prelude.{take, drop}
 use Rattle.dp_spec.specs.Arithmetic.{Arithmetic, arithmetic, exact, point, span_add}
 use Rattle.dp_spec.specs.Calls.{size}
 use Rattle.dp_spec.specs.ClassSteps.{StepsByClass, chosen_joint_action, pair_number}
 use Rattle.dp_spec.specs.Front.{Front, class_counts, fixed_joint_action, joint_class}
 use Rattle.dp_spec.specs.JointHistory.{IsJointHistory}
 use Rattle.dp_spec.specs.JointNumbers.{product}
-use Rattle.dp_spec.specs.Merge.{class_total, kept_class, merged_agents, merged_front, place_weight, placed_number,
-    without}
+use Rattle.dp_spec.specs.Merge.{class_total, kept_class, merged_agents, merged_front, place_weight, placed_number}
+use Rattle.dp_spec.specs.Merge.{without}
 use Rattle.dp_spec.specs.Mode.{is_exact_mode}
 use Rattle.dp_spec.specs.Model.{IsModel, Model, joint_observations}
-use Rattle.dp_spec.specs.Quantities.{class_weight_in, earned_reward_in, span_sum, weighted_reward_in,
-    weights_after_in}
+use Rattle.dp_spec.specs.Quantities.{class_weight_in, earned_reward_in, span_sum, weighted_reward_in}
+use Rattle.dp_spec.specs.Quantities.{weights_after_in}
 use Rattle.dp_spec.specs.SizesOfFronts.{CanRefine}
 use Rattle.dp_spec.specs.Steps.{IsUnassigned, advanced_front}
 use Rattle.dp_base.specs.Sums.{nat_sum}

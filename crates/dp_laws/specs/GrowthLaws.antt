@@ -1,6 +1,6 @@
 -- What a search that grows a bound tree best first promises: of its tree and its lower end, and of its certificate.
-use Rattle.std.specs.Prelude.{ℕ, ◌<◌, ◌≤◌, ◌≡◌, ◌⊎◌, Bool, true, false, IsTrue, ℤ, pos, ◌≤ℤ◌, ◌<ℤ◌, All, List, [],
-    ◌∷◌, length}
+use Rattle.std.specs.Prelude.{ℕ, ◌<◌, ◌≤◌, ◌≡◌, ◌⊎◌, Bool, true, false, IsTrue, ℤ, pos, ◌≤ℤ◌, ◌<ℤ◌, All, List, []}
+use Rattle.std.specs.Prelude.{◌∷◌, length}
 use Rattle.dp_spec.specs.declared.step.Step.{Step}
 use Rattle.dp_spec.specs.declared.node.NodeKind.TheVariants.{Leaf}
 use Rattle.dp_spec.specs.declared.node.ArenaNode.{ArenaNode}
@@ -19,8 +19,8 @@ use Rattle.dp_spec.specs.SharedWorth.{low_worth, shared_worth_in}
 use Rattle.dp_spec.specs.Fitting.{front_bound}
 use Rattle.dp_spec.specs.BoundTree.{BoundTree, LeavesAtMost, greatest_leaf, inner_count}
 use Rattle.dp_spec.specs.Certificate.{Certificate, FitsRoot, HasPolicyOfVersion, arithmetic_for}
-use Rattle.dp_spec.specs.Qualities.{HasNoEquivalent, IfBranch, IfInner, IfLeaf, IfNarrowLeaf, Node, Place, nodes_of,
-    places_of}
+use Rattle.dp_spec.specs.Qualities.{HasNoEquivalent, IfBranch, IfInner, IfLeaf, IfNarrowLeaf, Node, Place, nodes_of}
+use Rattle.dp_spec.specs.Qualities.{places_of}
 use Rattle.dp_spec.specs.Promises.{HasNoMerge, IsBestConstant, IsPlanned, PlanOptions, constant_worth}
 use Rattle.dp_spec.specs.Arena.{IsTreeAt, above_at, grown, inner_nodes, kind_at}
 use Rattle.dp_spec.specs.WholeTree.{HasChildren, IsArena}

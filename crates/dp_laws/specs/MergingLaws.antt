@@ -8,8 +8,8 @@ use Rattle.dp_spec.specs.Front.{AgentFront, Front}
 use Rattle.dp_spec.specs.WellFormed.{IsFront}
 use Rattle.dp_spec.specs.Keeping.{KeepsFront}
 use Rattle.dp_spec.specs.Steps.{IsUnassigned}
-use Rattle.dp_spec.specs.Merge.{AreEquivalent, class_members, class_total, kept_class, merged_agent, merged_front,
-    IsHighestMember, IsLowestMember}
+use Rattle.dp_spec.specs.Merge.{AreEquivalent, class_members, class_total, kept_class, merged_agent, merged_front}
+use Rattle.dp_spec.specs.Merge.{IsHighestMember, IsLowestMember}
 
 -- For each joint policy that keeps a front, where a and b are two classes of agent i that are equivalent and have no
 -- action, some joint policy that keeps the merged front is worth at least as much. (Nothing is asked of the totals of

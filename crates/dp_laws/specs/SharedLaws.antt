@@ -7,8 +7,8 @@ use Rattle.dp_spec.specs.Value.{policy_value}
 use Rattle.dp_spec.specs.Arithmetic.{Arithmetic, arithmetic, exact, point}
 use Rattle.dp_spec.specs.Quantities.{forward_worth_in}
 use Rattle.dp_spec.specs.Enclosure.{enclosure}
-use Rattle.dp_spec.specs.SharedPolicy.{AgentRows, AreAgentRows, IsSharedOf, SharedPolicy, row_at, row_count,
-    row_counts, row_of_history, unfolded, unfolded_tree}
+use Rattle.dp_spec.specs.SharedPolicy.{AgentRows, AreAgentRows, IsSharedOf, SharedPolicy, row_at, row_count}
+use Rattle.dp_spec.specs.SharedPolicy.{row_counts, row_of_history, unfolded, unfolded_tree}
 use Rattle.dp_spec.specs.Keeping.{tree_at}
 use Rattle.dp_spec.specs.SharedRows.{first_past, row_cells, stage_counts}
 use Rattle.dp_spec.specs.PlainForm.{IsPlain, plain_form}

@@ -1,10 +1,5 @@
-ghost use Rattle.dp_laws.specs.LookAheadLaws.{
-  ActionLookAheadBoundsEveryPolicy,
-  LookAheadBoundsEveryPolicy,
-  MoreLookNeverRaises,
-  MoreLookNeverRaisesAction,
-  TableBoundsEveryPolicy,
-};
+ghost use Rattle.dp_laws.specs.LookAheadLaws.{ActionLookAheadBoundsEveryPolicy, LookAheadBoundsEveryPolicy};
+ghost use Rattle.dp_laws.specs.LookAheadLaws.{MoreLookNeverRaises, MoreLookNeverRaisesAction, TableBoundsEveryPolicy};
 ghost use Rattle.dp_laws.specs.LookAheadLaws.{LookAheadScales, ActionLookAheadScales};
 ghost use Rattle.dp_laws.specs.LookAheadLaws.{ExactLookAheadScales, ExactActionLookAheadScales};
 

@@ -13,8 +13,7 @@ pub fn widening_is_want_of_room()
 
 /// The root front has room. So have the fronts after a choice at a node that is not wide, and those
 /// after a merge.
-#[tactic(auto, using(crate::proofs::FrontRoom::root_has_room, crate::proofs::FrontRoom::choice_keeps_room,
-    crate::proofs::FrontRoom::merging_keeps_room))]
+#[tactic(auto, using(crate::proofs::FrontRoom::root_has_room, crate::proofs::FrontRoom::choice_keeps_room, crate::proofs::FrontRoom::merging_keeps_room))]
 pub fn steps_keep_room()
     ensures root { RootFrontHasRoom }
     ensures choice { ChoiceKeepsRoom }
@@ -23,8 +22,7 @@ pub fn steps_keep_room()
 
 /// The root front keeps own histories apart, a choice and the advance that may follow keep them
 /// apart, and then a front with room is within the limit of stage cells.
-#[tactic(auto, using(crate::proofs::FrontRoom::root_apart, crate::proofs::FrontRoom::after_choice_apart,
-    crate::proofs::FrontRoom::apart_within_cells))]
+#[tactic(auto, using(crate::proofs::FrontRoom::root_apart, crate::proofs::FrontRoom::after_choice_apart, crate::proofs::FrontRoom::apart_within_cells))]
 pub fn choices_keep_histories_apart()
     ensures root { RootFrontKeepsApart }
     ensures choice { ChoiceKeepsApart }

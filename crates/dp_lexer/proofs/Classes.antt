@@ -50,5 +50,8 @@ byte_of b = elim (cases_Bool (is_name_byte b)) [
 
 -- a byte of names and numbers is no blank
 pub name_not_blank : (b : ℕ) → is_name_byte b ≡ true → is_blank b ≡ false
-name_not_blank b named = rw (differs is_name_byte space b refl named, differs is_name_byte tab b refl named,
-    differs is_name_byte carriage_return b refl named) refl
+name_not_blank b named = rw (
+  differs is_name_byte space b refl named,
+  differs is_name_byte tab b refl named,
+  differs is_name_byte carriage_return b refl named,
+) refl

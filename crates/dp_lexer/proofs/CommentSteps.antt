@@ -1,6 +1,6 @@
 -- Comments from one byte to the next.
-use Rattle.std.proofs.Common.{◌≡◌, ℕ, zero, suc, ◌+◌, ◌-◌, ◌≤◌, ◌<◌, Bool, true, false, ◌||◌, List, [], ◌∷◌, ◌++◌,
-    length, get_or, take, drop, refl, sym, ap, ◌∙◌, arith, add-zero, inl, inr}
+use Rattle.std.proofs.Common.{◌≡◌, ℕ, zero, suc, ◌+◌, ◌-◌, ◌≤◌, ◌<◌, Bool, true, false, ◌||◌, List, [], ◌∷◌, ◌++◌}
+use Rattle.std.proofs.Common.{length, get_or, take, drop, refl, sym, ap, ◌∙◌, arith, add-zero, inl, inr}
 use Rattle.std.specs.Prelude.{◌==◌}
 use Rattle.std.specs.List.{list_any, prefix_len, suffix_len}
 use Rattle.std.proofs.lemmas.Bool.{cases_Bool}
@@ -21,7 +21,7 @@ after_feed bytes b feed =
     = ap (prefix_len is_no_line_feed) (reverse-append bytes (b ∷ [])) ∙ rw feed refl in
     let past : last_line (bytes ++ b ∷ []) ≡ []
     = ap (λ n. drop (length (bytes ++ b ∷ []) - n) (bytes ++ b ∷ [])) none
-        ∙ drop_all _ (bytes ++ b ∷ []) (omega arith) in
+    ∙ drop_all _ (bytes ++ b ∷ []) (omega arith) in
     ap (list_any (λ b. b == hash)) past
 
 -- behind another byte one is open where one was, or where the byte is a `#`
@@ -92,4 +92,4 @@ module _ (text : List ℕ) where
       let next : at + suc k ≡ at + k + 1 = omega arith in
       let before : is_in_comment text (at + k) ≡ true = stays_open at n within begins none k (omega arith) in
       at_other (at + suc k) (omega arith) (none k (omega arith))
-          ∙ rw (ap (λ i. is_open (take i text)) next ∙ before) refl
+      ∙ rw (ap (λ i. is_open (take i text)) next ∙ before) refl

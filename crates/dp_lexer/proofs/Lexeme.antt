@@ -1,6 +1,6 @@
 -- One lexeme of a text: what begins at an offset, and where it ends.
-use Rattle.std.proofs.Common.{◌≡◌, ℕ, zero, suc, ◌+◌, ◌≤◌, ◌<◌, List, [], ◌∷◌, length, get_or, take, drop, Result,
-    Err, refl, sym, ap, ◌∙◌, arith, add-zero, add-one, drop-cons}
+use Rattle.std.proofs.Common.{◌≡◌, ℕ, zero, suc, ◌+◌, ◌≤◌, ◌<◌, List, [], ◌∷◌, length, get_or, take, drop, Result}
+use Rattle.std.proofs.Common.{Err, refl, sym, ap, ◌∙◌, arith, add-zero, add-one, drop-cons}
 use Rattle.std.proofs.lemmas.List.{drop-drop, length-drop}
 use Rattle.std.proofs.lemmas.List.Sums.{prefix_len-le-length}
 use Rattle.dp_base.specs.Bytes.{is_name_byte}

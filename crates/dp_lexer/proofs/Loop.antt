@@ -1,7 +1,7 @@
 -- Where the loop of `lex` stands, and what one iteration keeps of it.
-use Rattle.std.proofs.Common.{◌≡◌, ℕ, suc, ◌+◌, ◌-◌, ◌≤◌, ◌<◌, Bool, true, false, cond, List, [], ◌∷◌, ◌++◌, length,
-    get_or, take, drop, Option, Some, None, Result, Ok, Err, refl, sym, ap, ◌∙◌, append_assoc, arith, add-zero,
-    zero-add, one-add, inl, inr}
+use Rattle.std.proofs.Common.{◌≡◌, ℕ, suc, ◌+◌, ◌-◌, ◌≤◌, ◌<◌, Bool, true, false, cond, List, [], ◌∷◌, ◌++◌, length}
+use Rattle.std.proofs.Common.{get_or, take, drop, Option, Some, None, Result, Ok, Err, refl, sym, ap, ◌∙◌}
+use Rattle.std.proofs.Common.{append_assoc, arith, add-zero, zero-add, one-add, inl, inr}
 use Rattle.std.specs.Prelude.{count_by}
 use Rattle.std.specs.List.{prefix_len}
 use Rattle.std.proofs.Math.Seq.{take-add}
@@ -121,9 +121,9 @@ module _ {text : List ℕ} {at more : ℕ} {class : Class} {kind : Option Kind}
       = sym (lexeme.kind_is ∙ ap (λ n. kind_of class (take n (drop at text))) len) in
       moves text at lexeme.inside class lexeme.class_is lexeme.good
       ∙ ap (λ n. with_token text at n (kind_of class (take n (drop at text)))
-          (tokens_at text (at + suc (more_of class rest)))) size
+      (tokens_at text (at + suc (more_of class rest)))) size
       ∙ ap (λ n. with_token text at (suc more) (kind_of class (take (suc more) (drop at text))) (tokens_at text n))
-          end_is
+      end_is
       ∙ ap (λ k. with_token text at (suc more) k (tokens_at text (at + 1 + more))) kind_is
 
   -- the lexeme ends within the text
@@ -137,7 +137,7 @@ module _ {text : List ℕ} {at more : ℕ} {class : Class} {kind : Option Kind}
       let sum : at + 1 + more ≡ at + suc more = omega arith in
       let here : feeds (take (suc more) (drop at text)) ≡ cond (is_line_feed (get_or text at 0)) 1 0
       = ap (λ l. feeds (take (suc more) l)) (cut text at lexeme.inside)
-          ∙ feeds-cons (get_or text at 0) (take more rest)
+      ∙ feeds-cons (get_or text at 0) (take more rest)
       ∙ rw (none, add-zero) refl in
       let all : feeds (take (at + 1 + more) text) ≡ feeds (take at text) + feeds (take (suc more) (drop at text))
       = ap (λ n. feeds (take n text)) sum ∙ ap feeds (take-add at (suc more) text)

@@ -1,12 +1,12 @@
 -- What the tokens of a text are allows only one list.
-use Rattle.std.proofs.Common.{◌≡◌, ℕ, zero, suc, ◌+◌, ◌-◌, ◌≤◌, ◌<◌, Bool, true, false, cond, not, ◌&&◌, ◌||◌, List,
-    [], ◌∷◌, ◌++◌, length, get_or, take, drop, Option, Some, None, Ok, refl, sym, ap, subst, ◌∙◌, inl, inr, arith,
-    add-zero}
+use Rattle.std.proofs.Common.{◌≡◌, ℕ, zero, suc, ◌+◌, ◌-◌, ◌≤◌, ◌<◌, Bool, true, false, cond, not, ◌&&◌, ◌||◌, List}
+use Rattle.std.proofs.Common.{[], ◌∷◌, ◌++◌, length, get_or, take, drop, Option, Some, None, Ok, refl, sym, ap, subst}
+use Rattle.std.proofs.Common.{◌∙◌, inl, inr, arith, add-zero}
 use Rattle.std.specs.Prelude.{◌==◌, All, filter, nat_lt}
 use Rattle.std.specs.List.{flat_map, list_all, range_with_len}
 use Rattle.std.proofs.lemmas.Bool.{cases_lt, cases_order}
-use Rattle.std.proofs.lemmas.List.{append_cancel_left, drop_all, get_or-drop, get_or-take, length-drop,
-    length-take-le}
+use Rattle.std.proofs.lemmas.List.{append_cancel_left, drop_all, get_or-drop, get_or-take, length-drop}
+use Rattle.std.proofs.lemmas.List.{length-take-le}
 use Rattle.std.proofs.lemmas.List.Sums.{AllPass-from_list_all}
 use Rattle.dp_base.specs.Bytes.{is_name_byte}
 use Rattle.dp_base.specs.DecimalShape.{is_decimal}
@@ -35,8 +35,11 @@ data Shape (kind : Kind) (bytes : List ℕ) (next : ℕ) : Type 0 where
 
 -- what the test of a word says of its parts
 word_parts : (some all decimal : Bool) → ((some && all) && not decimal) ≡ true → (all ≡ true) × (decimal ≡ false)
-word_parts true all true h = absurd (elim all as (λ v. (v && false) ≡ true → ⊥) [ true ↦ λ e. cc | false ↦
-    λ e. cc ] h)
+word_parts true all true h = absurd (elim all as (λ v. (v && false) ≡ true → ⊥) [
+  | true ↦ λ e. cc
+  | false ↦
+      λ e. cc
+] h)
 word_parts true true false h = (refl, refl)
 word_parts true false false h = absurd cc
 word_parts false all decimal h = absurd cc
@@ -105,15 +108,15 @@ module _ (text : List ℕ) (at : ℕ) where
       ] in (size, kind_is ∙ ap (λ i. cond (is_decimal (take i (drop at text))) Number Word) size ∙ sym other_is)
   same m n kind other_kind some_m some_n in_m in_n (is_run all ends kind_is) (is_mark b other allowed is other_is) =
       absurd (clash_of b (subst (λ x. is_name_byte x ≡ true) (sym (mark_here n b some_n is))
-          (named_here m some_m in_m all)) other)
+      (named_here m some_m in_m all)) other)
   same m n kind other_kind some_m some_n in_m in_n (is_mark b other allowed is kind_is) (is_run all ends other_is) =
       absurd (clash_of b (subst (λ x. is_name_byte x ≡ true) (sym (mark_here m b some_m is))
-          (named_here n some_n in_n all)) other)
+      (named_here n some_n in_n all)) other)
   same m n kind other_kind some_m some_n in_m in_n (is_mark b other allowed is kind_is)
       (is_mark c other_c allowed_c is_c other_is) = (
-    mark_size m b in_m is ∙ sym (mark_size n c in_n is_c),
-    kind_is ∙ ap mark_kind (mark_here m b some_m is ∙ sym (mark_here n c some_n is_c)) ∙ sym other_is,
-  )
+        mark_size m b in_m is ∙ sym (mark_size n c in_n is_c),
+        kind_is ∙ ap mark_kind (mark_here m b some_m is ∙ sym (mark_here n c some_n is_c)) ∙ sym other_is,
+      )
 
 -- a token is its four fields
 token_same : (token : Token) (start end line : ℕ) (kind : Kind) → token.start ≡ start → token.end ≡ end
@@ -144,7 +147,7 @@ module _ (text : List ℕ) where
   starts_here at size more token others is in_place =
       let some : token.end - token.start ≡ suc (token.end - token.start - 1) = omega (arith, is.some) in
       let first : range_with_len token.start (suc (token.end - token.start - 1)) ++ flat_map offsets_of others
-          ≡ range_with_len at (suc size) ++ more
+      ≡ range_with_len at (suc size) ++ more
       = ap (λ n. range_with_len token.start n ++ flat_map offsets_of others) (sym some) ∙ in_place in
       cc
 
@@ -166,7 +169,7 @@ module _ (text : List ℕ) where
       let end : token.end ≡ at + suc n = omega (arith, is.some, size_and_kind.0) in
       let token_is : token ≡ record { start = at; end = at + suc n; line = line_at text at; kind = kind }
       = token_same token at (at + suc n) (line_at text at) kind starts end (is.line
-          ∙ ap (line_at text) starts) size_and_kind.1 in
+      ∙ ap (line_at text) starts) size_and_kind.1 in
       let length_is : token.end - token.start ≡ suc n = omega arith in
       let here : offsets_of token ≡ range_with_len at (suc n)
       = ap (λ s. range_with_len s (token.end - token.start)) starts ∙ ap (range_with_len at) length_is in
@@ -174,7 +177,7 @@ module _ (text : List ℕ) where
       = append_cancel_left (range_with_len at (suc n)) (flat_map offsets_of others) (kept_from text (at + suc n))
       (ap (λ l. l ++ flat_map offsets_of others) (sym here) ∙ in_place) in
       step.moves_on ∙ ap (with_token text at (suc n) (Some kind))
-          (rest others (λ k d lt. each (suc k) d (omega arith)) later)
+      (rest others (λ k d lt. each (suc k) d (omega arith)) later)
       ∙ ap (λ t. Ok (t ∷ others)) (sym token_is)
 
   -- nothing is left at the end of the text
@@ -214,7 +217,7 @@ module _ (text : List ℕ) where
           let starts : token.start ≡ at = starts_here at 0 (kept_from text (at + 1)) token others is in_place in
           let allowed : is_in_alphabet b ≡ true
           = allowed_here text at (token.end - at) _ token.kind (omega (arith, is.some))
-              (omega (arith, is.some, is.within))
+          (omega (arith, is.some, is.within))
           (shape_at at token starts is) in
           let clash = sym allowed ∙ parts.1 in cc
 
@@ -226,7 +229,7 @@ module _ (text : List ℕ) where
       → tokens_at text (at + n) ≡ Ok others) → tokens_at text at ≡ Ok tokens
   steps at n None tokens step each in_place rest = step.moves_on
       ∙ ap (with_token text at n None) (rest tokens each (in_place
-          ∙ kept-stretch text at n false step.within step.stretch))
+      ∙ kept-stretch text at n false step.within step.stretch))
   steps at n (Some kind) tokens step each in_place rest = takes at n kind tokens step each
       (in_place ∙ kept-stretch text at n true step.within step.stretch) rest
 
@@ -238,7 +241,7 @@ module _ (text : List ℕ) where
       let none : length text - at ≡ 0 = omega arith in
       ap (tokens_from text 0 at) (drop_all at text past)
       ∙ ap (λ l. Ok l) (sym (none_here tokens each (in_place
-          ∙ ap (λ m. filter (is_kept text) (range_with_len at m)) none)))
+      ∙ ap (λ m. filter (is_kept text) (range_with_len at m)) none)))
 
   -- `fuel` is at least the number of bytes that are left
   pub only_from : (fuel at : ℕ) (tokens : List Token) → length text ≤ at + fuel → IsOutside text at

@@ -1,6 +1,6 @@
 -- One step through a text: a bad byte, or a lexeme with what is known of its bytes.
-use Rattle.std.proofs.Common.{◌≡◌, ℕ, suc, ◌+◌, ◌≤◌, ◌<◌, Bool, true, false, cond, not, ◌||◌, List, [], ◌∷◌, length,
-    get_or, take, drop, Option, Some, None, Err, refl, sym, ap, subst, ◌∙◌, inl, inr, arith}
+use Rattle.std.proofs.Common.{◌≡◌, ℕ, suc, ◌+◌, ◌≤◌, ◌<◌, Bool, true, false, cond, not, ◌||◌, List, [], ◌∷◌, length}
+use Rattle.std.proofs.Common.{get_or, take, drop, Option, Some, None, Err, refl, sym, ap, subst, ◌∙◌, inl, inr, arith}
 use Rattle.std.specs.Prelude.{is_some, nat_lt}
 use Rattle.std.specs.List.{prefix_len, list_all}
 use Rattle.std.proofs.lemmas.Bool.{cases_lt, lt-ltb, not-false, not-true}
@@ -89,7 +89,7 @@ module _ (text : List ℕ) (at : ℕ) (inside : at < length text) (outside : IsO
   -- a lexeme of one byte
   single : (class : Class) (kind : Option Kind) → class ≡ class_of byte → (class ≡ Bad → ⊥)
       → ((others : List ℕ) → more_of class others ≡ 0) → kind_of class (byte ∷ []) ≡ kind
-          → IsPlain (is_some kind) byte
+      → IsPlain (is_some kind) byte
       → ShowsToken text at 1 kind → Step text at
   single class kind class_is good none kind_is plain shown =
       let one : len text at inside class class_is ≡ 1 = ap (λ n. suc n) (none rest) in
@@ -123,7 +123,7 @@ module _ (text : List ℕ) (at : ℕ) (inside : at < length text) (outside : IsO
       = ap (take n) (cut text at inside) in
       let all : list_all is_name_byte (take n (drop at text)) ≡ true
       = subst (λ k. list_all is_name_byte (take k (drop at text)) ≡ true) (run_here named)
-          (all_pass is_name_byte (drop at text)) in
+      (all_pass is_name_byte (drop at text)) in
       goes n (Some (cond decimal Number Word)) (record {
         some = omega arith;
         within = fits text at inside Run (sym class_is);
@@ -174,7 +174,7 @@ module _ (text : List ℕ) (at : ℕ) (inside : at < length text) (outside : IsO
       each k lt =
           let same : at + 1 + k ≡ at + suc k = omega arith in
           not-true _ (subst (λ b. is_no_line_feed b ≡ true) (get_or-drop (at + 1) text k 0
-              ∙ ap (λ i. get_or text i 0) same)
+          ∙ ap (λ i. get_or text i 0) same)
           (prefix_len_passes is_no_line_feed rest k 0 lt))
 
       after : at + suc comment_more < length text
@@ -195,7 +195,7 @@ module _ (text : List ℕ) (at : ℕ) (inside : at < length text) (outside : IsO
   mark b class kind is class_is good none kind_is plain kind_fits longest =
       let bytes : take 1 (drop at text) ≡ b ∷ [] = ap (take 1) (cut text at inside) ∙ ap (λ x. x ∷ []) is in
       single class (Some kind) (class_is ∙ ap class_of (sym is)) good none (ap (λ x. kind_of class (x ∷ [])) is
-          ∙ kind_is)
+      ∙ kind_is)
       (subst (IsPlain true) (sym is) plain)
       (record { kind_is = subst (IsOfKind kind) (sym bytes) kind_fits; longest = longest })
 
@@ -210,7 +210,7 @@ module _ (text : List ℕ) (at : ℕ) (inside : at < length text) (outside : IsO
     | colon_mark is ↦ mark colon (Mark Colon) Colon is refl (λ e. cc) (λ _. refl) refl
         (record { no_hash = refl; blank = refl; allowed = refl }) refl tt
     | star_mark is ↦ mark star (Mark Star) Star is refl (λ e. cc) (λ _. refl) refl
-          (record { no_hash = refl; blank = refl; allowed = refl }) refl tt
+        (record { no_hash = refl; blank = refl; allowed = refl }) refl tt
     | unknown class_is is ↦ halts (stops text at inside class_is)
         (ap (λ v. not (v || is_in_alphabet byte))
         (outside inside ∙ differs (λ x. not (is_in_alphabet x)) hash byte refl (ap not is)) ∙ ap not is)

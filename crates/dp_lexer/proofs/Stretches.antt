@@ -1,6 +1,7 @@
 -- Stretches of a text, all of whose bytes are kept or none, and none of which is bad.
-use Rattle.std.proofs.Common.{◌≡◌, ℕ, zero, suc, ◌+◌, ◌-◌, ◌≤◌, ◌<◌, Bool, true, false, cond, not, List, [], ◌∷◌,
-    ◌++◌, length, get_or, take, drop, Option, None, refl, sym, ap, ◌∙◌, arith, add-zero, zero-add, map}
+use Rattle.std.proofs.Common.{◌≡◌, ℕ, zero, suc, ◌+◌, ◌-◌, ◌≤◌, ◌<◌, Bool, true, false, cond, not, List, [], ◌∷◌}
+use Rattle.std.proofs.Common.{◌++◌, length, get_or, take, drop, Option, None, refl, sym, ap, ◌∙◌, arith, add-zero}
+use Rattle.std.proofs.Common.{zero-add, map}
 use Rattle.std.specs.Prelude.{◌==◌, filter, find, slice_index}
 use Rattle.std.specs.List.{range_with_len}
 use Rattle.std.specs.Option.{option_or}
@@ -21,7 +22,7 @@ range-append a (suc n) m =
     let more : suc n + m ≡ suc (n + m) = omega arith in
     let next : a + 1 + n ≡ a + suc n = omega arith in
     rw more (ap (λ l. a ∷ l) (range-append (a + 1) n m
-        ∙ ap (λ s. range_with_len (a + 1) n ++ range_with_len s m) next))
+    ∙ ap (λ s. range_with_len (a + 1) n ++ range_with_len s m) next))
 
 -- a filter that answers the same of each keeps all or none
 filter-range : (p : ℕ → Bool) (v : Bool) (a n : ℕ) → ((k : ℕ) → k < n → p (a + k) ≡ v)
@@ -68,13 +69,21 @@ pub record IsPlain (kept : Bool) (b : ℕ) : Type 0 where
 
 -- a byte of names and numbers is kept
 pub named_plain : (b : ℕ) → is_name_byte b ≡ true → IsPlain true b
-named_plain b named = record { no_hash = differs is_name_byte hash b refl named; blank =
-    ap not (name_not_blank b named); allowed = rw named refl }
+named_plain b named = record {
+  no_hash = differs is_name_byte hash b refl named;
+  blank =
+      ap not (name_not_blank b named);
+  allowed = rw named refl;
+}
 
 -- a blank is not
 pub blank_plain : (b : ℕ) → is_blank b ≡ true → IsPlain false b
-blank_plain b is = record { no_hash = differs is_blank hash b refl is; blank = ap not is; allowed =
-    rw (is, or-true (is_name_byte b)) refl }
+blank_plain b is = record {
+  no_hash = differs is_blank hash b refl is;
+  blank = ap not is;
+  allowed =
+      rw (is, or-true (is_name_byte b)) refl;
+}
 
 module _ (text : List ℕ) where
   -- what is kept of the text from an offset on, and the first bad byte there

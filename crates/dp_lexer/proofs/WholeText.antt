@@ -1,6 +1,7 @@
 -- From one step to the whole text: the laws on tokens.
-use Rattle.std.proofs.Common.{◌≡◌, ℕ, zero, suc, ◌+◌, ◌-◌, ◌≤◌, ◌<◌, true, false, List, [], ◌∷◌, ◌++◌, length, take,
-    drop, map, Option, Some, None, Result, Ok, Err, refl, sym, ap, subst, ◌∙◌, inl, inr, arith}
+use Rattle.std.proofs.Common.{◌≡◌, ℕ, zero, suc, ◌+◌, ◌-◌, ◌≤◌, ◌<◌, true, false, List, [], ◌∷◌, ◌++◌, length, take}
+use Rattle.std.proofs.Common.{drop, map, Option, Some, None, Result, Ok, Err, refl, sym, ap, subst, ◌∙◌, inl, inr}
+use Rattle.std.proofs.Common.{arith}
 use Rattle.std.specs.Prelude.{filter, find, is_some, All, AllPairs, slice_index}
 use Rattle.std.specs.List.{flat_map, range_with_len}
 use Rattle.std.specs.Result.{result_err}
@@ -58,7 +59,7 @@ module _ (text : List ℕ) where
       → AreTokensFrom at others
   skips at n others step rest =
       let kept : kept_from text at ≡ kept_from text (at + n) =
-          kept-stretch text at n false step.within step.stretch in
+      kept-stretch text at n false step.within step.stretch in
       record {
         each = rest.each;
         later = later_from at n others rest.later;
@@ -70,7 +71,7 @@ module _ (text : List ℕ) where
   -- a lexeme that is a token
   takes : (at n : ℕ) (kind : Kind) (token : Token) (others : List Token) → Advances text at n (Some kind)
       → token ≡ record { start = at; end = at + n; line = line_at text at; kind = kind }
-          → AreTokensFrom (at + n) others
+      → AreTokensFrom (at + n) others
       → AreTokensFrom at (token ∷ others)
   takes at n kind token others step is rest = rw is (record {
     each = All-cons (IsTokenOf text) made others shown rest.each;
@@ -131,7 +132,7 @@ module _ (text : List ℕ) where
       subst (AreTokensFrom at) none (no_tokens at past)
   from_here (suc fuel) at tokens enough outside is = elim (cases_lt at (length text)) [
     | inr past ↦ (let none : [] ≡ tokens = let both = sym (ends at past) ∙ is in cc in
-          subst (AreTokensFrom at) none (no_tokens at past))
+        subst (AreTokensFrom at) none (no_tokens at past))
     | inl inside ↦ elim (step_of text at inside outside) [
       | halts stop bad ↦ absurd (let both = sym stop ∙ is in cc)
       | goes n kind step ↦ after at n kind tokens (tokens_at text (at + n)) step (sym step.moves_on ∙ is)

@@ -1,6 +1,6 @@
 -- Comments, blanks and bad bytes, said of a text and an offset alone: nothing here speaks of tokens.
-use Rattle.std.specs.Prelude.{ℕ, ◌+◌, Bool, not, ◌||◌, ◌==◌, List, length, take, Option, map, filter, find,
-    slice_index}
+use Rattle.std.specs.Prelude.{ℕ, ◌+◌, Bool, not, ◌||◌, ◌==◌, List, length, take, Option, map, filter, find}
+use Rattle.std.specs.Prelude.{slice_index}
 use Rattle.std.specs.List.{list_any, range_with_len}
 use Rattle.dp_lexer.specs.Bytes.{hash, is_blank, is_in_alphabet, last_line}
 

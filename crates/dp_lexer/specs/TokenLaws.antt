@@ -1,6 +1,6 @@
 -- What the tokens of a text are, in words that do not follow the text from byte to byte.
-use Rattle.std.specs.Prelude.{◌≡◌, ℕ, ◌-◌, ◌<◌, ◌≤◌, ◌↔◌, true, false, List, [], ◌∷◌, length, Ok, All, AllPairs,
-    slice_index}
+use Rattle.std.specs.Prelude.{◌≡◌, ℕ, ◌-◌, ◌<◌, ◌≤◌, ◌↔◌, true, false, List, [], ◌∷◌, length, Ok, All, AllPairs}
+use Rattle.std.specs.Prelude.{slice_index}
 use Rattle.std.specs.List.{list_all, flat_map, range_with_len, slice_range}
 use Rattle.std.specs.Result.{result_err}
 use Rattle.dp_base.specs.Bytes.{is_name_byte}

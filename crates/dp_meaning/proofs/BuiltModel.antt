@@ -1,6 +1,6 @@
 -- The model of a text, table by table.
-use Rattle.std.proofs.Common.{◌≡◌, ℕ, ◌+◌, ◌*◌, ◌<◌, [], ◌∷◌, ◌++◌, length, get_or, refl, sym, ap, subst, ◌∙◌, arith,
-    pos, cond}
+use Rattle.std.proofs.Common.{◌≡◌, ℕ, ◌+◌, ◌*◌, ◌<◌, [], ◌∷◌, ◌++◌, length, get_or, refl, sym, ap, subst, ◌∙◌, arith}
+use Rattle.std.proofs.Common.{pos, cond}
 use Rattle.std.specs.Prelude.{not, ◌==◌, sum}
 use Rattle.std.proofs.lemmas.List.{append-nil}
 use Rattle.std.proofs.lemmas.List.FromFn.{length-map-range_with_len, get_or-map-range_with_len}
@@ -78,10 +78,10 @@ pub start_is_repair : (end : ℕ) (text : Text) (x : Repaired) → repair_all en
 start_is_repair end text x e =
     let w = repair_all_ok end (start_row text) [] x e in
     let is = subst (λ n. IsRepair n (start_row text).cells w.0) (scale_of_start text)
-        (repair_ok end (start_row text) w.0 w.2) in
+    (repair_ok end (start_row text) w.0 w.2) in
     let none = no_rows end w.1 w.3 in
     let cells : w.0.cells ≡ x.cells = sym (append-nil w.0.cells) ∙ ap (λ y. w.0.cells ++ y.cells) none
-        ∙ ap (λ y. y.cells) w.4 in
+    ∙ ap (λ y. y.cells) w.4 in
     let others = ap (λ y. y.repaired) none in
     let both = ap (λ y. y.repaired) w.4 in
     let here = is.count in
@@ -100,12 +100,14 @@ start_is_repair end text x e =
 pub sum_of_start : (end : ℕ) (text : Text) (x : Repaired) → states_in text < 1000
     → repair_all end (start_row text ∷ []) ≡ done x
     → (length x.cells ≡ states_in text) × (nat_sum (states_in text) (λ s. get_or x.cells s 0)
-        ≡ (scales_of text).start)
+    ≡ (scales_of text).start)
 sum_of_start end text x short e =
     let is = start_is_repair end text x e in
-    let long = is.len ∙ length_of_start text in
-    (long, sum_of_places x.cells (states_in text) long
-        ∙ is.sums (subst (λ n. n < 1000) (sym (length_of_start text)) short))
+    let long = is.len ∙ length_of_start text in (
+      long,
+      sum_of_places x.cells (states_in text) long
+          ∙ is.sums (subst (λ n. n < 1000) (sym (length_of_start text)) short),
+    )
 
 -- ---- rewards
 
@@ -118,17 +120,17 @@ pub reward_of_place : (text : Text) (a s t o : ℕ) → a < joint_actions_in tex
     → t < states_in text
     → o < joint_observations_in text
     → get_or (rewards_of text) (((a * states_in text + s) * states_in text + t) * joint_observations_in text + o)
-        (pos 0)
+    (pos 0)
     ≡ reward_of_cell text.header.cost (scales_of text).reward (axes_of text.header Reward)
-        (statements_for Reward text.statements)
+    (statements_for Reward text.statements)
     (a ∷ s ∷ t ∷ o ∷ [])
 unfolding rewards_of
 reward_of_place text a s t o ha hs ht ho =
     let at = ((a * states_in text + s) * states_in text + t) * joint_observations_in text + o in
     get_or-map-range_with_len _ 0 _ at at (pos 0) (cell_below (joint_actions_in text) (states_in text)
-        (states_in text)
+    (states_in text)
     (joint_observations_in text) a s t o ha hs ht ho) (omega arith)
     ∙ ap (reward_of_cell text.header.cost (scales_of text).reward (axes_of text.header Reward)
-        (statements_for Reward text.statements))
+    (statements_for Reward text.statements))
     (parts_of_cell (joint_actions_in text) (states_in text) (states_in text)
-        (joint_observations_in text) a s t o ha hs ht ho)
+    (joint_observations_in text) a s t o ha hs ht ho)

@@ -1,6 +1,6 @@
 -- The cells of the model that a text means.
-use Rattle.std.proofs.Common.{◌≡◌, get_or, ◌+◌, ◌*◌, ℕ, ◌<◌, List, [], ◌∷◌, length, map, refl, sym, ap, subst, ◌∙◌,
-    pos}
+use Rattle.std.proofs.Common.{◌≡◌, get_or, ◌+◌, ◌*◌, ℕ, ◌<◌, List, [], ◌∷◌, length, map, refl, sym, ap, subst, ◌∙◌}
+use Rattle.std.proofs.Common.{pos}
 use Rattle.std.specs.Prelude.{sum}
 use Rattle.dp_spec.specs.Model.{joint_actions, joint_observations, start_at, trans_at, obs_at, reward_at}
 use Rattle.dp_meaning.specs.declared.statement.Table.TheVariants.{Trans, Obs, Reward}
@@ -36,7 +36,7 @@ unfolding joint_actions trans_at
 uncovered_transition bytes text r h a s t =
     let w = built_of (length bytes) text r (meant_text bytes text r h).model in
     subst (λ m. a < joint_actions m → s < m.states → t < m.states → IsUncovered text Trans (a ∷ s ∷ t ∷ [])
-        → trans_at m a s t ≡ 0)
+    → trans_at m a s t ≡ 0)
     (sym w.model)
     (uncovered_of_table text Trans (scales_of text).trans (states_in text) w.trans.cells
     (trans_table (length bytes) text w.trans w.trans_is) a s t)
@@ -48,7 +48,7 @@ unfolding joint_actions joint_observations obs_at
 uncovered_observation bytes text r h a t o =
     let w = built_of (length bytes) text r (meant_text bytes text r h).model in
     subst (λ m. a < joint_actions m → t < m.states → o < joint_observations m → IsUncovered text Obs (a ∷ t ∷ o ∷ [])
-        → obs_at m a t o ≡ 0)
+    → obs_at m a t o ≡ 0)
     (sym w.model)
     (uncovered_of_table text Obs (scales_of text).obs (joint_observations_in text) w.obs.cells
     (obs_table (length bytes) text w.obs w.obs_is) a t o)
@@ -70,7 +70,7 @@ right_transition bytes text r h a s t =
 pub right_observation : (bytes : List ℕ) (text : Text) (r : ReadModel) → IsMeant bytes text r
     → (a t o : ℕ) → a < joint_actions r.model.model → t < r.model.model.states → o < joint_observations r.model.model
     → sum (map (given_obs text) (row_cells (a ∷ t ∷ []) (joint_observations r.model.model)))
-        ≡ r.model.model.scales.obs
+    ≡ r.model.model.scales.obs
     → obs_at r.model.model a t o ≡ given_obs text (a ∷ t ∷ o ∷ [])
 unfolding joint_actions joint_observations obs_at
 right_observation bytes text r h a t o =
@@ -110,7 +110,7 @@ near_transition bytes text r h a s =
     let w = built_of (length bytes) text r (meant_text bytes text r h).model in
     subst (λ m. a < joint_actions m → s < m.states
     → IsNearlyGiven m.scales.trans (map (given_trans text) (row_cells (a ∷ s ∷ []) m.states)) (trans_at m a s))
-        (sym w.model)
+    (sym w.model)
     (λ ha hs. subst (λ cells. IsNearlyGiven (scales_of text).trans cells
     (λ t. get_or w.trans.cells ((a * states_in text + s) * states_in text + t) 0))
     (given_trans_row text a s)
@@ -120,14 +120,14 @@ near_transition bytes text r h a s =
 pub near_observation : (bytes : List ℕ) (text : Text) (r : ReadModel) → IsMeant bytes text r
     → (a t : ℕ) → a < joint_actions r.model.model → t < r.model.model.states
     → IsNearlyGiven r.model.model.scales.obs (map (given_obs text)
-        (row_cells (a ∷ t ∷ []) (joint_observations r.model.model)))
+    (row_cells (a ∷ t ∷ []) (joint_observations r.model.model)))
     (obs_at r.model.model a t)
 unfolding joint_actions joint_observations obs_at
 near_observation bytes text r h a t =
     let w = built_of (length bytes) text r (meant_text bytes text r h).model in
     subst (λ m. a < joint_actions m → t < m.states
     → IsNearlyGiven m.scales.obs (map (given_obs text) (row_cells (a ∷ t ∷ []) (joint_observations m)))
-        (obs_at m a t)) (sym w.model)
+    (obs_at m a t)) (sym w.model)
     (λ ha ht. subst (λ cells. IsNearlyGiven (scales_of text).obs cells
     (λ o. get_or w.obs.cells ((a * states_in text + t) * joint_observations_in text + o) 0))
     (given_obs_row text a t)
@@ -140,5 +140,7 @@ unfolding start_at
 near_start bytes text r h =
     let w = built_of (length bytes) text r (meant_text bytes text r h).model in
     let is = start_is_repair (length bytes) text w.start w.start_is in
-    subst (λ m. IsNearlyGiven m.scales.start (start_row text).cells (start_at m)) (sym w.model) (is.near,
-        λ i hi ne. is.others i ne)
+    subst (λ m. IsNearlyGiven m.scales.start (start_row text).cells (start_at m)) (sym w.model) (
+      is.near,
+      λ i hi ne. is.others i ne,
+    )

@@ -11,11 +11,11 @@ pub parts_of_row : (actions states a s : ℕ) → a < actions → s < states
     → parts_of (actions ∷ states ∷ []) (a * states + s) ≡ a ∷ s ∷ []
 parts_of_row actions states a s h k =
     ap (parts_of (actions ∷ states ∷ [])) (row_number actions states a s)
-        ∙ parts_of-joint_number (actions ∷ states ∷ []) (a ∷ s ∷ []) (h, (k, tt))
+    ∙ parts_of-joint_number (actions ∷ states ∷ []) (a ∷ s ∷ []) (h, (k, tt))
 
 cell_number : (actions states next seen a s t o : ℕ)
     → ((a * states + s) * next + t) * seen + o ≡ joint_number (actions ∷ states ∷ next ∷ seen ∷ [])
-        (a ∷ s ∷ t ∷ o ∷ [])
+    (a ∷ s ∷ t ∷ o ∷ [])
 cell_number actions states next seen a s t o = omega arith
 
 -- the cell of a joint action, a state, a next state and a joint observation

@@ -4,8 +4,8 @@ use Rattle.std.specs.List.{list_any}
 use Rattle.dp_meaning.specs.declared.statement.Statement.{Statement}
 use Rattle.dp_meaning.specs.Fields.{Axis}
 use Rattle.dp_meaning.specs.Statements.{axis_size}
-use Rattle.dp_meaning.specs.Cells.{Cell, covers, given_chance, given_reward, chance_by, reward_by, chance_of_cell,
-    reward_of_cell}
+use Rattle.dp_meaning.specs.Cells.{Cell, covers, given_chance, given_reward, chance_by, reward_by, chance_of_cell}
+use Rattle.dp_meaning.specs.Cells.{reward_of_cell}
 use Rattle.dp_meaning.proofs.Lists.{last_none, last_is, last_other}
 
 pub chance_uncovered : (scale : ℕ) (axes : List Axis) (statements : List Statement) (cell : Cell)

@@ -21,4 +21,4 @@ pub bad_byte_first : (bytes : List ℕ) (at : ℕ) → first_bad bytes ≡ Some 
 unfolding meaning text_of
 bad_byte_first bytes at e =
     let tokens : tokens_of bytes ≡ Err at = error_is (tokens_of bytes) at (first_bad_byte_is_named bytes ∙ e) in
-        rw tokens
+    rw tokens

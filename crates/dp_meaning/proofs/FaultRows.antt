@@ -18,8 +18,8 @@ use Rattle.dp_meaning.specs.Scales.{scales_of}
 use Rattle.dp_meaning.specs.Rows.{start_row, table_row, trans_rows, obs_rows, repaired_cells, repair, repair_all}
 use Rattle.dp_meaning.specs.Limits.{passed_limit}
 use Rattle.dp_meaning.specs.declared.why.Why.{Why}
-use Rattle.dp_meaning.specs.declared.why.Why.TheVariants.{BadByte, Expected, UnknownName, DoubleName, Number, RowSum,
-    MissingRow, Header}
+use Rattle.dp_meaning.specs.declared.why.Why.TheVariants.{BadByte, Expected, UnknownName, DoubleName, Number, RowSum}
+use Rattle.dp_meaning.specs.declared.why.Why.TheVariants.{MissingRow, Header}
 use Rattle.dp_meaning.specs.Meaning.{Meaning, FaultAt, text_of, rewards_of, repaired_model, meaning}
 
 -- a text and its fault
@@ -210,7 +210,7 @@ rows_rows =
     ∷ faulty (one_state ++ codes "T: 0 : uniform\nO: * : 0.5\n") 12 1 MissingRow
     -- a wrong sum stands at the last statement that covers a cell of the row
     ∷ faulty (one_state
-        ++ codes "T: * : uniform\nO: 0 : uniform\nO: 1 : 0 : 0.5\nO: 1 : 0 : 0 : 0.25\nR: * : 0 : 1\n") 13 1 RowSum
+    ++ codes "T: * : uniform\nO: 0 : uniform\nO: 1 : 0 : 0.5\nO: 1 : 0 : 0 : 0.25\nR: * : 0 : 1\n") 13 1 RowSum
     ∷ []
 
 rows_fail : meanings rows_rows ≡ faults rows_rows

@@ -48,37 +48,37 @@ limit_rows =
     large (codes "agents: 7\ndiscount: 1\nvalues: reward\nstates: 1\nstart: 0\nactions:\n1\n1\n1\n1\n1\n1\n1\nobservations:\n1\n1\n1\n1\n1\n1\n1\n") limits.Agents 7
     -- 257 states
     ∷ large (codes "agents: 1\ndiscount: 1\nvalues: reward\nstates: 257\nstart: 0\nactions: 1\nobservations: 1\n")
-        limits.States 257
+    limits.States 257
     -- the first product of actions that passes
     ∷ large (codes
-        "agents: 3\ndiscount: 1\nvalues: reward\nstates: 1\nstart: 0\nactions:\n20\n20\n20\nobservations:\n1\n1\n1\n")
-        limits.JointActions 400
+    "agents: 3\ndiscount: 1\nvalues: reward\nstates: 1\nstart: 0\nactions:\n20\n20\n20\nobservations:\n1\n1\n1\n")
+    limits.JointActions 400
     -- joint observations
     ∷ large (codes
-        "agents: 2\ndiscount: 1\nvalues: reward\nstates: 1\nstart: 0\nactions:\n1\n1\nobservations:\n1\n257\n")
-        limits.JointObservations 257
+    "agents: 2\ndiscount: 1\nvalues: reward\nstates: 1\nstart: 0\nactions:\n1\n1\nobservations:\n1\n257\n")
+    limits.JointObservations 257
     -- chances of next states
     ∷ large (codes "agents: 1\ndiscount: 1\nvalues: reward\nstates: 256\nstart: 0\nactions: 65\nobservations: 1\n")
-        limits.TransCells 4259840
+    limits.TransCells 4259840
     -- chances of joint observations
     ∷ large (codes "agents: 1\ndiscount: 1\nvalues: reward\nstates: 65\nstart: 0\nactions: 256\nobservations: 256\n")
-        limits.ObsCells 4259840
+    limits.ObsCells 4259840
     -- rewards
     ∷ large (codes "agents: 1\ndiscount: 1\nvalues: reward\nstates: 128\nstart: 0\nactions: 255\nobservations: 128\n")
-        limits.RewardCells 534773760
+    limits.RewardCells 534773760
     -- the scale of the transitions
     ∷ large (codes
-        "agents: 1\ndiscount: 1\nvalues: reward\nstates: 7\nstart: 0\nactions: 1\nobservations: 1\nT: * : uniform\nT: 0 : 0 : 0 : 0.000000000000000001\n") limits.Scale 7000000000000000000
+    "agents: 1\ndiscount: 1\nvalues: reward\nstates: 7\nstart: 0\nactions: 1\nobservations: 1\nT: * : uniform\nT: 0 : 0 : 0 : 0.000000000000000001\n") limits.Scale 7000000000000000000
     -- the scale of the observations
     ∷ large (codes
-        "agents: 1\ndiscount: 1\nvalues: reward\nstates: 1\nstart: uniform\nactions: 1\nobservations: 7\nT: * : 0.000000000000000001\nO: * : uniform\nO: * : * : * : 0.000000000000000001\n") limits.Scale 7000000000000000000
+    "agents: 1\ndiscount: 1\nvalues: reward\nstates: 1\nstart: uniform\nactions: 1\nobservations: 7\nT: * : 0.000000000000000001\nO: * : uniform\nO: * : * : * : 0.000000000000000001\n") limits.Scale 7000000000000000000
     -- the first of several limits
     ∷ large (codes
-        "agents: 7\ndiscount: 1\nvalues: reward\nstates: 300\nstart: 0\nactions:\n1\n1\n1\n1\n1\n1\n1\nobservations:\n1\n1\n1\n1\n1\n1\n1\n") limits.Agents 7
+    "agents: 7\ndiscount: 1\nvalues: reward\nstates: 300\nstart: 0\nactions:\n1\n1\n1\n1\n1\n1\n1\nobservations:\n1\n1\n1\n1\n1\n1\n1\n") limits.Agents 7
     -- a limit before a missing row
     ∷ large (codes
-        "agents: 1\ndiscount: 1\nvalues: reward\nstates: 257\nstart: uniform\nactions: 1\nobservations: 1\n")
-        limits.States 257
+    "agents: 1\ndiscount: 1\nvalues: reward\nstates: 257\nstart: uniform\nactions: 1\nobservations: 1\n")
+    limits.States 257
     ∷ []
 
 limits_are_passed : meanings limit_rows ≡ limits_passed limit_rows

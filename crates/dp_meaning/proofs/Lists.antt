@@ -1,6 +1,6 @@
 -- Sums, first places and last elements of lists.
-use Rattle.std.proofs.Common.{◌≡◌, ◌⊎◌, inl, inr, ℕ, zero, suc, ◌+◌, ◌<◌, ◌≤◌, Bool, true, false, cond, List, [], ◌∷◌,
-    ◌++◌, length, get_or, take, refl, sym, ap, ◌∙◌, arith}
+use Rattle.std.proofs.Common.{◌≡◌, ◌⊎◌, inl, inr, ℕ, zero, suc, ◌+◌, ◌<◌, ◌≤◌, Bool, true, false, cond, List, [], ◌∷◌}
+use Rattle.std.proofs.Common.{◌++◌, length, get_or, take, refl, sym, ap, ◌∙◌, arith}
 use Rattle.std.specs.Prelude.{◌||◌, ◌==◌, max, sum, reverse, Option, Some, None, All}
 use Rattle.std.specs.List.{fold, find, list_any, position_or_len}
 use Rattle.std.specs.Option.{option_or}
@@ -35,8 +35,10 @@ most_above f acc (x ∷ xs) = let h = most_above f (max acc (f x)) xs in omega a
 pub each_below_most : {X : Type 0} (f : X → ℕ) (acc : ℕ) (xs : List X)
     → Each (λ x. f x ≤ fold (λ m y. max m (f y)) acc xs) xs
 each_below_most f acc [] = tt
-each_below_most f acc (x ∷ xs) = ((let h = most_above f (max acc (f x)) xs in omega arith),
-    each_below_most f (max acc (f x)) xs)
+each_below_most f acc (x ∷ xs) = (
+  (let h = most_above f (max acc (f x)) xs in omega arith),
+  each_below_most f (max acc (f x)) xs,
+)
 
 pub most_below : {X : Type 0} (f : X → ℕ) (n acc : ℕ) (xs : List X) → acc ≤ n → Each (λ x. f x ≤ n) xs
     → fold (λ m x. max m (f x)) acc xs ≤ n
@@ -63,7 +65,7 @@ first_no_later : {X : Type 0} (p : X → Bool) (xs : List X) (k : ℕ) (d : X) �
     → position_or_len p xs ≤ k
 first_no_later p xs k d e =
     let not_before : k < position_or_len p xs → ⊥ = λ h. clash (fails_before_first p xs k d h) in
-        omega (arith, not_before)
+    omega (arith, not_before)
   where
     clash : p (get_or xs k d) ≡ false → ⊥
     clash f = cc
@@ -87,7 +89,7 @@ last_none p [] h = refl
 last_none p (x ∷ xs) h =
     ap (find p) (reverse-append (x ∷ []) xs) ∙ find-append p (reverse xs) (x ∷ [])
     ∙ ap (λ o. option_or o (find p (x ∷ []))) (last_none p xs (rest (p x) refl h))
-        ∙ ap (λ b. cond b (Some x) None) (here (p x) refl h)
+    ∙ ap (λ b. cond b (Some x) None) (here (p x) refl h)
   where
     rest : (b : Bool) → p x ≡ b → (b || list_any p xs) ≡ false → list_any p xs ≡ false
     rest true e f = absurd (cc)

@@ -5,8 +5,8 @@ use Rattle.dp_model.specs.declared.limit.TooLarge.{TooLarge}
 use Rattle.dp_meaning.specs.declared.why.Fault.{Fault}
 use Rattle.dp_meaning.specs.declared.text.Text.{Text}
 use Rattle.dp_meaning.specs.Limits.{passed_limit}
-use Rattle.dp_meaning.specs.Meaning.{text_of, ReadModel, repaired_model, Means, meaning_of_model, meaning_within,
-    meaning_of_text, meaning}
+use Rattle.dp_meaning.specs.Meaning.{text_of, ReadModel, repaired_model, Means, meaning_of_model, meaning_within}
+use Rattle.dp_meaning.specs.Meaning.{meaning_of_text, meaning}
 use Rattle.dp_meaning.specs.MeaningLaws.{IsMeant}
 use Rattle.dp_meaning.proofs.FaultSteps.{done}
 
@@ -51,4 +51,4 @@ pub meant_text : (bytes : List ℕ) (text : Text) (r : ReadModel) → IsMeant by
 meant_text bytes text r h =
     let w = meant bytes r h.means in
     let same : w.0 ≡ text = text_same w.0 text (sym w.1.says ∙ h.says) in
-        subst (λ t. IsReadWithinLimits bytes t r) same w.1
+    subst (λ t. IsReadWithinLimits bytes t r) same w.1

@@ -1,6 +1,6 @@
 -- The model that a text means keeps what every model keeps.
-use Rattle.std.proofs.Common.{◌≡◌, ℕ, zero, suc, ◌*◌, ◌^◌, ◌<◌, ◌≤◌, List, [], ◌∷◌, length, get_or, map, refl, sym,
-    subst, ◌∙◌, arith, pos}
+use Rattle.std.proofs.Common.{◌≡◌, ℕ, zero, suc, ◌*◌, ◌^◌, ◌<◌, ◌≤◌, List, [], ◌∷◌, length, get_or, map, refl, sym}
+use Rattle.std.proofs.Common.{subst, ◌∙◌, arith, pos}
 use Rattle.std.specs.Prelude.{unsigned_abs, Ok}
 use Rattle.std.proofs.lemmas.List.{length-map}
 use Rattle.std.proofs.lemmas.Nat.{mul-le}
@@ -22,8 +22,8 @@ use Rattle.dp_meaning.specs.Statements.{axes_of, statements_of}
 use Rattle.dp_meaning.specs.Cells.{statements_for}
 use Rattle.dp_meaning.specs.Text.{states_in, joint_observations_in}
 use Rattle.dp_meaning.specs.Scales.{digits_of_statements, scales_of}
-use Rattle.dp_meaning.specs.Meaning.{table_model, names_given, pieces_of_tokens, unless_lines, text_of, rewards_of,
-    ReadModel, Means, meaning}
+use Rattle.dp_meaning.specs.Meaning.{table_model, names_given, pieces_of_tokens, unless_lines, text_of, rewards_of}
+use Rattle.dp_meaning.specs.Meaning.{ReadModel, Means, meaning}
 use Rattle.dp_meaning.proofs.FaultSteps.{ok_same, bind_ok}
 use Rattle.dp_meaning.proofs.Meant.{meant}
 use Rattle.dp_meaning.proofs.TextLimits.{IsSmall, small}
@@ -33,8 +33,8 @@ use Rattle.dp_meaning.proofs.Each.{Each, each_at, each_from, each_of_range}
 use Rattle.dp_meaning.proofs.ReadValues.{IsList}
 use Rattle.dp_meaning.proofs.ReadHeader.{AreLists, IsHeader, header_is}
 use Rattle.dp_meaning.proofs.ReadStatements.{IsStatement, statements_are}
-use Rattle.dp_meaning.proofs.ReadScales.{chance_parts, some_scale, some_start_scale, rewards_only, reward_digits,
-    cell_bound}
+use Rattle.dp_meaning.proofs.ReadScales.{chance_parts, some_scale, some_start_scale, rewards_only, reward_digits}
+use Rattle.dp_meaning.proofs.ReadScales.{cell_bound}
 
 -- ---- the text
 
@@ -48,9 +48,9 @@ unfolding text_of
 text_is bytes text e =
     let pieces = bind_ok (pieces_of_tokens bytes (tokens_of bytes)) _ text e in
     let none = bind_ok (unless_lines (length bytes) (items_of_pieces (length bytes) pieces.0).before) _ text
-        pieces.2 in
+    pieces.2 in
     let header = bind_ok (header_of (length bytes) no_entries (items_of_pieces (length bytes) pieces.0).items) _ text
-        none.2 in
+    none.2 in
     let statements = bind_ok (statements_of header.0.0 header.0.1) _ text header.2 in
     subst IsText (ok_same _ text statements.2) (record {
       header = header_is (length bytes) (items_of_pieces (length bytes) pieces.0).items header.0 header.1;
@@ -111,8 +111,12 @@ scales_are text is fits =
       start_limit = fits.start_scale;
       trans_limit = fits.trans_scale;
       obs_limit = fits.obs_scale;
-      reward_digits = (_, reward_digits (statements_for Reward text.statements)
-          (rewards_only text.statements is.statements), refl);
+      reward_digits = (
+        _,
+        reward_digits (statements_for Reward text.statements)
+            (rewards_only text.statements is.statements),
+        refl,
+      );
       discount_digits = (text.header.discount.digits, discount.0, refl);
       gain = discount.1;
     }
@@ -124,9 +128,9 @@ rewards_bound : (text : Text) → IsText text → (i : ℕ)
 unfolding rewards_of scales_of
 rewards_bound text is i =
     each_at (λ r. unsigned_abs r ≤ 10 ^ 8 * 10 ^ digits_of_statements (statements_for Reward text.statements))
-        (rewards_of text) i (pos 0)
+    (rewards_of text) i (pos 0)
     (each_of_range _ _ 0 _ (λ k. cell_bound text.header.cost (axes_of text.header Reward)
-        (statements_for Reward text.statements) _
+    (statements_for Reward text.statements) _
     (rewards_only text.statements is.statements)))
     (omega arith)
 
@@ -179,10 +183,10 @@ names_within [] most each h fits i = empty-kept
 names_within (l ∷ lists) most each h fits zero =
     let some = some_product lists each.1 in
     let times = mul-le (size_of l) 1 (size_of l) (product (map size_of lists)) (omega arith) some in
-        each.0.names (omega arith)
+    each.0.names (omega arith)
 names_within (l ∷ lists) most each h fits (suc i) =
     let times = mul-le 1 (product (map size_of lists)) (size_of l) (product (map size_of lists)) each.0.some
-        (omega arith) in
+    (omega arith) in
     names_within lists most each.1 (omega arith) fits i
 
 given_names : (text : Text) → IsText text → IsSmall text → AreNames (names_given text.header)

@@ -1,6 +1,6 @@
 -- What is known of the fields and the value of a statement that is read.
-use Rattle.std.proofs.Common.{◌≡◌, ℕ, zero, suc, ◌<◌, ◌≤◌, Bool, true, false, cond, List, [], ◌∷◌, ◌++◌, length, map,
-    drop, refl, sym, ap, subst, ◌∙◌, arith}
+use Rattle.std.proofs.Common.{◌≡◌, ℕ, zero, suc, ◌<◌, ◌≤◌, Bool, true, false, cond, List, [], ◌∷◌, ◌++◌, length, map}
+use Rattle.std.proofs.Common.{drop, refl, sym, ap, subst, ◌∙◌, arith}
 use Rattle.std.specs.Prelude.{◌&&◌, ◌||◌, nat_lt, codes, Option, Some, None, Result}
 use Rattle.std.specs.List.{flat_map}
 use Rattle.std.specs.Str.{bytes_eq}
@@ -30,8 +30,8 @@ use Rattle.dp_meaning.specs.Numbers.{number, numbers, ended}
 use Rattle.dp_meaning.specs.NameLists.{size_of, names_in, index, says, if_below, place_in, found_at, find_in}
 use Rattle.dp_meaning.specs.Header.{header_of, no_entries}
 use Rattle.dp_meaning.specs.Fields.{Axis, Field, fields_of, part_of, parts_in, is_one_star, field_parts, all_parts}
-use Rattle.dp_meaning.specs.Statements.{axes_of, axis_size, least_fields, allows_uniform, allows_identity,
-    is_number_of, value_of, unless_too_few, statement, statements_of}
+use Rattle.dp_meaning.specs.Statements.{axes_of, axis_size, least_fields, allows_uniform, allows_identity}
+use Rattle.dp_meaning.specs.Statements.{is_number_of, value_of, unless_too_few, statement, statements_of}
 use Rattle.dp_meaning.specs.Meaning.{pieces_of_tokens, unless_lines, text_of, IsSaid}
 use Rattle.dp_meaning.proofs.FaultSteps.{done, ok_same, err_not_ok, bind_ok}
 use Rattle.dp_meaning.proofs.Each.{Each}
@@ -165,7 +165,7 @@ unfolding value_of
 value_fills table rest next [] v e = absurd (err_not_ok v _ e)
 value_fills table rest next (piece ∷ pieces) v e =
     by (allows_uniform table rest) refl (allows_identity table rest) refl (says (codes "uniform") piece)
-        (says (codes "identity") piece) e
+    (says (codes "identity") piece) e
   where
     more : Result Value Fault
     more = numbers (is_number_of table) next (product (map axis_size rest)) (piece ∷ pieces) >>= λ ns.
@@ -231,10 +231,10 @@ said_statements text said =
     let bytes = said.0 in
     let pieces = bind_ok (pieces_of_tokens bytes (tokens_of bytes)) _ text said.1 in
     let none = bind_ok (unless_lines (length bytes) (items_of_pieces (length bytes) pieces.0).before) _ text
-        pieces.2 in
+    pieces.2 in
     let header = bind_ok (header_of (length bytes) no_entries (items_of_pieces (length bytes) pieces.0).items) _ text
-        none.2 in
+    none.2 in
     let statements = bind_ok (statements_of header.0.0 header.0.1) _ text header.2 in
     subst (λ t. Each (IsStatementOf t.header) t.statements) (ok_same _ text statements.2)
     (each_statement header.0.0 (IsStatementOf header.0.0)
-        (statement_is header.0.0) header.0.1 statements.0 statements.1)
+    (statement_is header.0.0) header.0.1 statements.0 statements.1)

@@ -6,8 +6,8 @@ use Rattle.dp_meaning.specs.declared.given_list.GivenList.{GivenList}
 use Rattle.dp_meaning.specs.declared.header.Start.{Start}
 use Rattle.dp_meaning.specs.declared.header.Start.TheVariants.{AnyState, OneState, StartRow}
 use Rattle.dp_meaning.specs.declared.header.Entry.{Entry}
-use Rattle.dp_meaning.specs.declared.header.Entry.TheVariants.{Agents, Discount, Values, States, StartEntry, Actions,
-    Observations}
+use Rattle.dp_meaning.specs.declared.header.Entry.TheVariants.{Agents, Discount, Values, States, StartEntry, Actions}
+use Rattle.dp_meaning.specs.declared.header.Entry.TheVariants.{Observations}
 use Rattle.dp_meaning.specs.declared.statement.ItemKind.{ItemKind}
 use Rattle.dp_meaning.specs.declared.statement.ItemKind.TheVariants.{HeaderEntry, StatementOf, NoItem}
 use Rattle.dp_meaning.specs.declared.header.Entries.{Entries}
@@ -86,12 +86,12 @@ start_is states next (piece ∷ pieces) start e =
     by : (b c : Bool) → cond b (ended AnyState pieces)
         (cond c (find_in states piece >>= λ s. ended (OneState s) pieces)
         (numbers is_chance next (size_of states) (piece ∷ pieces) >>= λ row. done (StartRow piece.at row)))
-            ≡ done start
+        ≡ done start
         → IsStart start
     by true c f = subst IsStart (ended_same AnyState start pieces f) tt
     by false true f =
         let w = bind_ok (find_in states piece) _ start f in
-            subst IsStart (ended_same (OneState w.0) start pieces w.2) tt
+        subst IsStart (ended_same (OneState w.0) start pieces w.2) tt
     by false false f =
         let w = bind_ok (numbers is_chance next (size_of states) (piece ∷ pieces)) _ start f in
         subst IsStart (ok_same (StartRow piece.at w.0) start w.2)
@@ -236,7 +236,7 @@ header_from : (end : ℕ) (e : Entries) (items : List Item) (h : Header × List 
 unfolding header_of
 header_from end e [] h is f =
     let w = bind_ok (header_with end e) _ h f in subst (λ x. IsHeader x.0) (ok_same _ h w.2)
-        (header_with_is end e w.0 is w.1)
+    (header_with_is end e w.0 is w.1)
 header_from end e (item ∷ items) h is f = by (kind_of item) f (λ more is g. header_from end more items h is g)
   where
     by : (kind : ItemKind) → (elim kind [

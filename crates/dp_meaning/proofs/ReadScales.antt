@@ -1,6 +1,6 @@
 -- The scales of a text that is read, and its rewards over theirs.
-use Rattle.std.proofs.Common.{◌≡◌, ℕ, ◌+◌, ◌*◌, ◌/◌, ◌-◌, ◌^◌, ◌<◌, ◌≤◌, Bool, true, false, cond, List, [], ◌∷◌,
-    length, map, drop, refl, sym, ap, subst, ◌∙◌, arith, pos, negsuc, ℤ}
+use Rattle.std.proofs.Common.{◌≡◌, ℕ, ◌+◌, ◌*◌, ◌/◌, ◌-◌, ◌^◌, ◌<◌, ◌≤◌, Bool, true, false, cond, List, [], ◌∷◌}
+use Rattle.std.proofs.Common.{length, map, drop, refl, sym, ap, subst, ◌∙◌, arith, pos, negsuc, ℤ}
 use Rattle.std.specs.Prelude.{◌&&◌, nat_le, ◌*ℤ◌, unsigned_abs, reverse, Some}
 use Rattle.std.specs.List.{find}
 use Rattle.std.proofs.lemmas.Bool.Decides.{nat_tests}
@@ -22,8 +22,8 @@ use Rattle.dp_meaning.specs.declared.statement.Statement.{Statement}
 use Rattle.dp_meaning.specs.Numbers.{is_at_most, is_chance, is_reward}
 use Rattle.dp_meaning.specs.Fields.{Axis}
 use Rattle.dp_meaning.specs.Statements.{axis_size, is_number_of}
-use Rattle.dp_meaning.specs.Cells.{Cell, covers, is_same_table, statements_for, no_number, number_at, reward_over,
-    given_reward, reward_by, reward_of_cell}
+use Rattle.dp_meaning.specs.Cells.{Cell, covers, is_same_table, statements_for, no_number, number_at, reward_over}
+use Rattle.dp_meaning.specs.Cells.{given_reward, reward_by, reward_of_cell}
 use Rattle.dp_meaning.specs.Scales.{most_digits, digits_of_value, digits_of_statements, scale_of, start_scale}
 use Rattle.dp_meaning.proofs.Each.{Each, each_at, each_with, each_from, each_filter, each_reverse}
 use Rattle.dp_meaning.proofs.Lists.{each_below_most, most_below}
@@ -69,7 +69,7 @@ chance_parts d e = by (is_at_most d.units (10 ^ d.digits)) refl (nat_le d.digits
 pub row_digits : (ns : List Decimal) → Each (λ d. is_chance d ≡ true) ns → most_digits ns ≤ 18
 row_digits ns each =
     most_below (λ d. d.digits) 18 0 ns (omega arith) (each_from _ (λ d. d.digits ≤ 18)
-        (λ d e. (chance_parts d e).0) ns each)
+    (λ d e. (chance_parts d e).0) ns each)
 
 -- ---- rewards
 
@@ -126,7 +126,7 @@ table_digits table ss each =
     (each_filter (λ s. digits_of_value s.value ≤ 18) (λ s. is_same_table table s.table) ss
     (each_from IsStatement (λ s. digits_of_value s.value ≤ 18)
     (λ s is. digits_below s.value 18 (each_from _ (λ d. d.digits ≤ 18) (number_digits s.table)
-        (numbers_in s.value) is)) ss each))
+    (numbers_in s.value) is)) ss each))
 
 -- rewards have at most nine fraction digits
 pub reward_digits : (ss : List Statement) → Each GivesRewards ss → digits_of_statements ss ≤ 9
@@ -134,7 +134,7 @@ reward_digits ss each =
     most_below (λ s. digits_of_value s.value) 9 0 ss (omega arith)
     (each_from GivesRewards (λ s. digits_of_value s.value ≤ 9)
     (λ s g. digits_below s.value 9 (each_from IsReward (λ d. d.digits ≤ 9) (λ d h. h.0) (numbers_in s.value) g)) ss
-        each)
+    each)
 
 -- a reward over a scale of enough digits is at most 10^8 times the scale
 reward_bound : (cost : Bool) (digits : ℕ) (d : Decimal) → IsReward d → d.digits ≤ digits
@@ -161,7 +161,7 @@ reward_bound cost digits d is h = by cost
         let most = mul-le (unsigned_abs d.units) (10 ^ digits / 10 ^ d.digits) (10 ^ (8 + d.digits)) (10 ^ more) is.1
         (subst (λ k. k ≤ 10 ^ more) (sym factor) (omega arith)) in
         subst (λ k. k ≤ 10 ^ 8 * 10 ^ digits) (sym times)
-            (subst (λ k. unsigned_abs d.units * (10 ^ digits / 10 ^ d.digits) ≤ k) whole most)
+        (subst (λ k. unsigned_abs d.units * (10 ^ digits / 10 ^ d.digits) ≤ k) whole most)
 
     by : (cost : Bool) → unsigned_abs (reward_over cost (10 ^ digits) d) ≤ 10 ^ 8 * 10 ^ digits
     by true = subst (λ k. k ≤ 10 ^ 8 * 10 ^ digits) (sym (unsigned_abs-neg _)) positive

@@ -17,8 +17,9 @@ use Rattle.dp_meaning.specs.Numbers.{numbers, ended}
 use Rattle.dp_meaning.specs.NameLists.{says}
 use Rattle.dp_meaning.specs.Header.{kind_of}
 use Rattle.dp_meaning.specs.Fields.{Axis, fields_of, all_parts}
-use Rattle.dp_meaning.specs.Statements.{axes_of, axis_size, least_fields, allows_uniform, allows_identity,
-    is_number_of, value_of, unless_too_few, statement, statement_of_kind, statements_of}
+use Rattle.dp_meaning.specs.Statements.{axes_of, axis_size, least_fields, allows_uniform, allows_identity}
+use Rattle.dp_meaning.specs.Statements.{is_number_of, value_of, unless_too_few, statement, statement_of_kind}
+use Rattle.dp_meaning.specs.Statements.{statements_of}
 use Rattle.dp_meaning.proofs.FaultSteps.{done, ok_same, err_not_ok, bind_ok}
 use Rattle.dp_meaning.proofs.Each.{Each}
 use Rattle.dp_meaning.proofs.ReadValues.{ended_same, numbers_fit}
@@ -39,11 +40,11 @@ unfolding value_of
 value_is table rest next [] v e = absurd (err_not_ok v _ e)
 value_is table rest next (piece ∷ pieces) v e =
     by (allows_uniform table rest && says (codes "uniform") piece)
-        (allows_identity table rest && says (codes "identity") piece) e
+    (allows_identity table rest && says (codes "identity") piece) e
   where
     by : (b c : Bool) → cond b (ended Uniform pieces) (cond c (ended Identity pieces)
         (numbers (is_number_of table) next (product (map axis_size rest)) (piece ∷ pieces) >>= λ ns.
-            done (Numbers ns))) ≡ done v
+        done (Numbers ns))) ≡ done v
         → AreNumbersOf table v
     by true c f = subst (AreNumbersOf table) (ended_same Uniform v pieces f) tt
     by false true f = subst (AreNumbersOf table) (ended_same Identity v pieces f) tt

@@ -1,6 +1,6 @@
 -- What is known of numbers, lists and values that are read.
-use Rattle.std.proofs.Common.{◌≡◌, ℕ, zero, suc, ◌+◌, ◌^◌, ◌<◌, ◌≤◌, rules, Bool, true, false, cond, List, [], ◌∷◌,
-    ◌++◌, length, refl, sym, ap, subst, ◌∙◌, arith, length-append}
+use Rattle.std.proofs.Common.{◌≡◌, ℕ, zero, suc, ◌+◌, ◌^◌, ◌<◌, ◌≤◌, rules, Bool, true, false, cond, List, [], ◌∷◌}
+use Rattle.std.proofs.Common.{◌++◌, length, refl, sym, ap, subst, ◌∙◌, arith, length-append}
 use Rattle.std.specs.Prelude.{not, ◌&&◌, nat_le, Result, Ok, Err}
 use Rattle.std.proofs.lemmas.Bool.Decides.{nat_tests}
 use Rattle.dp_base.specs.declared.decimal.Decimal.{Decimal}
@@ -83,7 +83,7 @@ longer_list : (before : List (List ℕ)) (name : List ℕ) → IsNameList before
     → IsNameList (before ++ name ∷ [])
 longer_list before name are named new room =
     subst IsNameList (ap (λ b. cond b before (before ++ name ∷ [])) new)
-        (with_name-kept before name are (search (rules, named)) room)
+    (with_name-kept before name are (search (rules, named)) room)
 
 -- what is read is a list of names, where it is not too long
 names_kept : (before : List (List ℕ)) (pieces : List Piece) (names : List (List ℕ))
@@ -94,7 +94,7 @@ names_kept before [] names e room are = subst IsNameList (ok_same before names e
 names_kept before (piece ∷ pieces) names e room are =
     by (is_name piece.text) refl (has_name before piece.text) refl (names_after (before ++ piece.text ∷ []) pieces) e
     (names_count (before ++ piece.text ∷ []) pieces names)
-        (λ f l. names_kept (before ++ piece.text ∷ []) pieces names f room l)
+    (λ f l. names_kept (before ++ piece.text ∷ []) pieces names f room l)
   where
     by : (b : Bool) → is_name piece.text ≡ b → (c : Bool) → has_name before piece.text ≡ c
         → (rest : Result (List (List ℕ)) Fault)
@@ -106,7 +106,7 @@ names_kept before (piece ∷ pieces) names e room are =
     by true s true t rest f g h = absurd (err_not_ok names _ f)
     by true s false t rest f g h =
         let long = g f in let more = length-append before (piece.text ∷ []) in
-            h f (longer_list before piece.text are s t (omega arith))
+        h f (longer_list before piece.text are s t (omega arith))
 
 count_above : (piece : Piece) (n : ℕ) → count piece ≡ done n → 1 ≤ n
 count_above piece n e = by (nat_le 1 (index piece)) refl (nat_le (index piece) 65536) e
@@ -136,7 +136,7 @@ list_is next (piece ∷ pieces) list e = by (is_index piece.text) e
     by true f =
         let n = bind_ok (count piece) _ list f in
         subst IsList (ended_same (Counted n.0) list pieces n.2)
-            (record { some = count_above piece n.0 n.1; names = λ h. empty-kept })
+        (record { some = count_above piece n.0 n.1; names = λ h. empty-kept })
     by false f =
         let names = bind_ok (names_after [] (piece ∷ pieces)) _ list f in
         let long : 1 ≤ length names.0 = (let h = names_count [] (piece ∷ pieces) names.0 names.1 in omega arith) in

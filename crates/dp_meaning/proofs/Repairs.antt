@@ -1,6 +1,7 @@
 -- What the repair of a row, and of rows in order, gives.
-use Rattle.std.proofs.Common.{◌≡◌, ◌≢◌, inl, inr, ℕ, zero, suc, ◌+◌, ◌*◌, ◌-◌, ◌<◌, ◌≤◌, Bool, true, false, cond,
-    List, [], ◌∷◌, ◌++◌, length, get_or, set, refl, sym, ap, subst, ◌∙◌, arith, length-set, length-append}
+use Rattle.std.proofs.Common.{◌≡◌, ◌≢◌, inl, inr, ℕ, zero, suc, ◌+◌, ◌*◌, ◌-◌, ◌<◌, ◌≤◌, Bool, true, false, cond}
+use Rattle.std.proofs.Common.{List, [], ◌∷◌, ◌++◌, length, get_or, set, refl, sym, ap, subst, ◌∙◌, arith, length-set}
+use Rattle.std.proofs.Common.{length-append}
 use Rattle.std.proofs.lemmas.Nat.{mul-le}
 use Rattle.std.specs.Prelude.{not, ◌==◌, sum, count_by}
 use Rattle.std.specs.List.{position_or_len}
@@ -10,8 +11,8 @@ use Rattle.std.proofs.lemmas.List.Sums.{sum_by-le, sum_by-set, sum_by-cons, pass
 use Rattle.dp_base.specs.Sums.{nat_sum}
 use Rattle.dp_meaning.specs.declared.why.Why.TheVariants.{RowSum}
 use Rattle.dp_meaning.specs.Faults.{fault}
-use Rattle.dp_meaning.specs.Rows.{Row, Repaired, greatest_cell, greatest_place, repaired_cells, is_near, repair_at,
-    row_place, repair, repair_all}
+use Rattle.dp_meaning.specs.Rows.{Row, Repaired, greatest_cell, greatest_place, repaired_cells, is_near, repair_at}
+use Rattle.dp_meaning.specs.Rows.{row_place, repair, repair_all}
 use Rattle.dp_meaning.proofs.FaultSteps.{done, ok_same, err_not_ok, bind_ok}
 use Rattle.dp_meaning.proofs.Lists.{below_greatest, first_greatest, sum_of_places}
 use Rattle.dp_base.proofs.NaturalSumLaws.{nat_sum_ext}
@@ -38,7 +39,7 @@ enough_in_greatest scale cells short near =
         → ((scale - total) + (total - scale)) * 1000 ≤ scale → total ≤ greatest + scale
     by len greatest total short most near =
         let times : len * greatest ≤ 999 * greatest = mul-le len greatest 999 greatest (omega arith) (omega arith) in
-            omega arith
+        omega arith
 
 -- such a row sums to its scale once it is repaired
 pub sum_of_repaired : (scale : ℕ) (cells : List ℕ) → length cells < 1000 → is_near scale (sum cells) ≡ true
@@ -48,7 +49,7 @@ sum_of_repaired scale [] short near = let h = near_parts scale 0 near in omega a
 sum_of_repaired scale (x ∷ xs) short near =
     let at = at_greatest (x ∷ xs) (omega arith) in
     let written = sum_by-set (λ n. n) (x ∷ xs) (greatest_place (x ∷ xs))
-        (greatest_cell (x ∷ xs) + scale - sum (x ∷ xs)) 0
+    (greatest_cell (x ∷ xs) + scale - sum (x ∷ xs)) 0
     (first_greatest (x ∷ xs) (omega arith)) in
     let enough = enough_in_greatest scale (x ∷ xs) short near in
     exact (greatest_cell (x ∷ xs)) (sum (x ∷ xs)) _ _ enough at written
@@ -66,11 +67,11 @@ zero_of_repaired scale cells i h near none = elim (cases_eq i place) [
   | inl e ↦
       let most = sum_by-le (λ n. n) (greatest_cell cells) cells (below_greatest cells) in
       let greatest : greatest_cell cells ≡ 0 = sym (at_greatest cells (omega arith))
-          ∙ ap (λ k. get_or cells k 0) (sym e) ∙ none in
+      ∙ ap (λ k. get_or cells k 0) (sym e) ∙ none in
       ap (λ k. get_or (set cells place new) k 0) e ∙ get_or-set_same cells place new 0
-          (subst (λ k. k < length cells) e h)
+      (subst (λ k. k < length cells) e h)
       ∙ nothing (length cells) (greatest_cell cells) scale (sum cells) greatest most
-          (near_parts scale (sum cells) near)
+      (near_parts scale (sum cells) near)
   | inr ne ↦ get_or-set_other cells place i new 0 ne ∙ none
 ]
   where
@@ -207,7 +208,7 @@ length_of_all end n (row ∷ rows) x len e =
     let rest = length_of_all end n rows w.1 (λ k c l. len (suc k) c (omega arith)) w.3 in
     let joined = length-append w.0.cells w.1.cells in
     ap (λ y. length y.cells) (sym w.4) ∙ joined ∙ together (length w.0.cells) (length row.cells) (length w.1.cells)
-        (length rows) n a b rest
+    (length rows) n a b rest
   where
     together : (first given others count n : ℕ) → first ≡ given → given ≡ n → others ≡ count * n
         → first + others ≡ suc count * n

@@ -43,5 +43,5 @@ repaired_rows bytes text r h =
     let first = sum_by-append (λ row. cond (not (sum row.cells == row.scale)) 1 0) (start_row text ∷ [])
     (trans_rows text ++ obs_rows text) in
     let second = sum_by-append (λ row. cond (not (sum row.cells == row.scale)) 1 0) (trans_rows text)
-        (obs_rows text) in
+    (obs_rows text) in
     let all = w.repaired in omega arith

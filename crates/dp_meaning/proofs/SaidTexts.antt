@@ -43,7 +43,7 @@ statement_digits text table said = table_digits table text.statements (said_is t
 pub rewards_digits : (text : Text) → IsSaid text → digits_of_statements (statements_for Reward text.statements) ≤ 9
 rewards_digits text said =
     reward_digits (statements_for Reward text.statements)
-        (rewards_only text.statements (said_is text said).statements)
+    (rewards_only text.statements (said_is text said).statements)
 
 pub discount_digits : (text : Text) → IsSaid text → text.header.discount.digits ≤ 18
 discount_digits text said = (chance_parts text.header.discount (said_is text said).header.discount).0

@@ -1,6 +1,6 @@
 -- The rows of a table as they are read.
-use Rattle.std.proofs.Common.{◌≡◌, ◌≢◌, true, ℕ, ◌+◌, ◌*◌, ◌<◌, false, List, [], ◌∷◌, ◌++◌, length, get_or, map, refl,
-    sym, ap, subst, ◌∙◌, arith}
+use Rattle.std.proofs.Common.{◌≡◌, ◌≢◌, true, ℕ, ◌+◌, ◌*◌, ◌<◌, false, List, [], ◌∷◌, ◌++◌, length, get_or, map, refl}
+use Rattle.std.proofs.Common.{sym, ap, subst, ◌∙◌, arith}
 use Rattle.std.specs.Prelude.{sum}
 use Rattle.std.specs.List.{range_with_len, list_any}
 use Rattle.std.proofs.lemmas.List.{length-map, get_or-map}
@@ -14,8 +14,8 @@ use Rattle.dp_meaning.specs.Fields.{Axis}
 use Rattle.dp_meaning.specs.Statements.{axes_of}
 use Rattle.dp_meaning.specs.Cells.{covers, statements_for, chance_of_cell}
 use Rattle.dp_meaning.specs.Text.{states_in, joint_actions_in}
-use Rattle.dp_meaning.specs.Rows.{is_near, greatest_place, Row, Repaired, row_cells, table_row, table_rows,
-    repair_all}
+use Rattle.dp_meaning.specs.Rows.{is_near, greatest_place, Row, Repaired, row_cells, table_row, table_rows}
+use Rattle.dp_meaning.specs.Rows.{repair_all}
 use Rattle.dp_meaning.proofs.CellNumbers.{parts_of_row}
 use Rattle.dp_meaning.proofs.FaultSteps.{done}
 use Rattle.dp_meaning.proofs.CellValues.{chance_uncovered}
@@ -29,18 +29,18 @@ pub length_of_table_row : (scale : ℕ) (axes : List Axis) (statements : List St
 unfolding table_row
 length_of_table_row scale axes statements len row =
     length-map (row_cells row len) (chance_of_cell scale axes statements)
-        ∙ length-map-range_with_len (λ n. row ++ n ∷ []) 0 len
+    ∙ length-map-range_with_len (λ n. row ++ n ∷ []) 0 len
 
 pub cell_of_table_row : (scale : ℕ) (axes : List Axis) (statements : List Statement) (len : ℕ) (row : List ℕ) (j : ℕ)
     → j < len
     → get_or (table_row scale axes statements len row).cells j 0
-        ≡ chance_of_cell scale axes statements (row ++ j ∷ [])
+    ≡ chance_of_cell scale axes statements (row ++ j ∷ [])
 unfolding table_row
 cell_of_table_row scale axes statements len row j h =
     get_or-map (chance_of_cell scale axes statements) (row_cells row len) j [] 0
     (subst (λ n. j < n) (sym (length-map-range_with_len (λ n. row ++ n ∷ []) 0 len)) h)
     ∙ ap (chance_of_cell scale axes statements) (get_or-map-range_with_len (λ n. row ++ n ∷ []) 0 len j j [] h
-        (omega arith))
+    (omega arith))
 
 pub scale_of_table_row : (scale : ℕ) (axes : List Axis) (statements : List Statement) (len : ℕ) (row : List ℕ)
     → (table_row scale axes statements len row).scale ≡ scale
@@ -98,9 +98,12 @@ table_is end text table scale len x e = record { size = size; row = row }
         let same = is_row (a * states_in text + s) d within
         ∙ ap (table_row scale (axes_of text.header table) (statements_for table text.statements) len)
         (parts_of_row (joint_actions_in text) (states_in text) a s ha hs) in
-        let is = subst (λ r. IsRepair r.scale r.cells w.0) same w.1 in
-        (w.0, subst (λ n. IsRepair n (given_row text table scale len a s).cells w.0)
-            (scale_of_table_row scale _ _ len _) is, w.2)
+        let is = subst (λ r. IsRepair r.scale r.cells w.0) same w.1 in (
+          w.0,
+          subst (λ n. IsRepair n (given_row text table scale len a s).cells w.0)
+              (scale_of_table_row scale _ _ len _) is,
+          w.2,
+        )
 
 pub sum_of_table_row : (text : Text) (table : Table) (scale len : ℕ) (cells : List ℕ)
     → IsTable text table scale len cells → len < 1000
@@ -115,7 +118,7 @@ pub uncovered_of_table : (text : Text) (table : Table) (scale len : ℕ) (cells 
     → IsTable text table scale len cells
     → (a s j : ℕ) → a < joint_actions_in text → s < states_in text → j < len
     → list_any (λ l. covers (axes_of text.header table) l.fields (a ∷ s ∷ j ∷ []))
-        (statements_for table text.statements)
+    (statements_for table text.statements)
     ≡ false
     → get_or cells ((a * states_in text + s) * len + j) 0 ≡ 0
 uncovered_of_table text table scale len cells is a s j ha hs hj none =
@@ -138,7 +141,7 @@ pub near_of_table : (text : Text) (table : Table) (scale len : ℕ) (cells : Lis
     → (a s : ℕ) → a < joint_actions_in text → s < states_in text
     → (is_near scale (sum (given_row text table scale len a s).cells) ≡ true)
     × ((j : ℕ) → j < length (given_row text table scale len a s).cells
-        → j ≢ greatest_place (given_row text table scale len a s).cells
+    → j ≢ greatest_place (given_row text table scale len a s).cells
     → get_or cells ((a * states_in text + s) * len + j) 0 ≡ get_or (given_row text table scale len a s).cells j 0)
 near_of_table text table scale len cells is a s ha hs =
     let w = is.row a s ha hs in

@@ -26,7 +26,7 @@ product_within : (most acc : ℕ) (ns : List ℕ) → product_past most acc ns �
 product_within most acc [] h = omega arith
 product_within most acc (n ∷ ns) h =
     product_step most acc n (product ns) (product_past most (acc * n) ns) (nat_lt most acc) refl h
-        (product_within most (acc * n) ns)
+    (product_within most (acc * n) ns)
 
 -- where the first product that is counted is kept, it is the product of all
 pub counted_product : (most : ℕ) (ns : List ℕ) → product_past most 1 ns ≤ most → product_past most 1 ns ≡ product ns

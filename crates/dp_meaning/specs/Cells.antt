@@ -1,6 +1,7 @@
 -- The value of a cell of a table: the one that the last covering statement gives it.
-use Rattle.std.specs.Prelude.{ℕ, ◌*◌, ◌/◌, ◌^◌, Bool, true, false, ◌&&◌, ◌==◌, if◌then◌else◌, ℤ, pos, neg_ℤ, ◌*ℤ◌,
-    unsigned_abs, List, [], ◌∷◌, length, map, drop, reverse, filter, slice_index, slice_index_or, Option, Some, None}
+use Rattle.std.specs.Prelude.{ℕ, ◌*◌, ◌/◌, ◌^◌, Bool, true, false, ◌&&◌, ◌==◌, if◌then◌else◌, ℤ, pos, neg_ℤ, ◌*ℤ◌}
+use Rattle.std.specs.Prelude.{unsigned_abs, List, [], ◌∷◌, length, map, drop, reverse, filter, slice_index}
+use Rattle.std.specs.Prelude.{slice_index_or, Option, Some, None}
 use Rattle.std.specs.List.{find}
 use Rattle.dp_base.specs.declared.decimal.Decimal.{Decimal}
 use Rattle.dp_spec.specs.JointNumbers.{joint_number, parts_of}

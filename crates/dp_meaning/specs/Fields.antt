@@ -28,8 +28,10 @@ in_first_field piece (field ∷ fields) rest =
 
 -- one more piece in front: a Colon closes a field of its own, any other piece joins the first field
 abbrev pub with_field_piece : Bool → Piece → Fields → Fields
-with_field_piece true piece others = record others { fields =
-    record { pieces = []; colon = piece.at } ∷ others.fields }
+with_field_piece true piece others = record others {
+  fields =
+      record { pieces = []; colon = piece.at } ∷ others.fields;
+}
 with_field_piece false piece others = in_first_field piece others.fields others.rest
 
 -- the fields of the pieces of a line, each of which ends at a Colon, and what stands after the last Colon

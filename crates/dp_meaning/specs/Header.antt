@@ -3,8 +3,8 @@ use Rattle.std.specs.Prelude.{ℕ, if◌then◌else◌, List, [], ◌∷◌, cod
 use Rattle.std.specs.Str.{bytes_eq}
 use Rattle.dp_meaning.specs.declared.why.Fault.{Fault}
 use Rattle.dp_meaning.specs.declared.header.Entry.{Entry}
-use Rattle.dp_meaning.specs.declared.header.Entry.TheVariants.{Agents, Discount, Values, States, StartEntry, Actions,
-    Observations}
+use Rattle.dp_meaning.specs.declared.header.Entry.TheVariants.{Agents, Discount, Values, States, StartEntry, Actions}
+use Rattle.dp_meaning.specs.declared.header.Entry.TheVariants.{Observations}
 use Rattle.dp_meaning.specs.declared.statement.Table.TheVariants.{Trans, Obs, Reward}
 use Rattle.dp_meaning.specs.declared.statement.ItemKind.{ItemKind}
 use Rattle.dp_meaning.specs.declared.statement.ItemKind.TheVariants.{HeaderEntry, StatementOf, NoItem}
@@ -21,10 +21,14 @@ use Rattle.dp_meaning.specs.Entries.{discount_of, is_cost, agent_lines, start_of
 -- what an item is, by the text of its first token
 abbrev pub item_words : List (List ℕ × ItemKind)
 item_words =
-    (codes "agents", HeaderEntry Agents) ∷ (codes "discount", HeaderEntry Discount) ∷ (codes "values",
-        HeaderEntry Values)
-    ∷ (codes "states", HeaderEntry States) ∷ (codes "start", HeaderEntry StartEntry) ∷ (codes "actions",
-        HeaderEntry Actions)
+    (codes "agents", HeaderEntry Agents) ∷ (codes "discount", HeaderEntry Discount) ∷ (
+      codes "values",
+      HeaderEntry Values,
+    )
+    ∷ (codes "states", HeaderEntry States) ∷ (codes "start", HeaderEntry StartEntry) ∷ (
+      codes "actions",
+      HeaderEntry Actions,
+    )
     ∷ (codes "observations", HeaderEntry Observations)
     ∷ (codes "T", StatementOf Trans) ∷ (codes "O", StatementOf Obs) ∷ (codes "R", StatementOf Reward) ∷ []
 
@@ -46,8 +50,16 @@ kind_of item = kind_of_pieces item.first.pieces
 
 -- no entry has come yet
 abbrev pub no_entries : Entries
-no_entries = record { agents = None; discount = None; cost = None; states = None; start = None; actions =
-    None; observations = None }
+no_entries = record {
+  agents = None;
+  discount = None;
+  cost = None;
+  states = None;
+  start = None;
+  actions =
+      None;
+  observations = None;
+}
 
 -- this entry has not come yet
 abbrev pub unless_come : {A : Type 0} → ℕ → Option A → Result (Unit {0}) Fault

@@ -83,8 +83,15 @@ first_item_at end (item ∷ _) = first_at end item.first.pieces
 -- one more line in front, which begins an item or does not
 abbrev pub with_line : ℕ → Bool → Line → Items → Items
 with_line end true line others =
-    record { before = []; items = record { first = line; more = others.before; next =
-        first_item_at end others.items } ∷ others.items }
+    record {
+      before = [];
+      items = record {
+        first = line;
+        more = others.before;
+        next =
+            first_item_at end others.items;
+      } ∷ others.items;
+    }
 with_line end false line others = record others { before = line ∷ others.before }
 
 -- the items of the lines of a text that ends at `end`

@@ -77,7 +77,7 @@ rewards_of text =
     let axes = axes_of text.header Reward in
     let statements = statements_for Reward text.statements in
     map (λ k. reward_of_cell text.header.cost (scales_of text).reward axes statements (parts_of sizes k))
-        (range_with_len 0 count)
+    (range_with_len 0 count)
 
 -- the model of a text whose rows of chances these are
 abbrev pub table_model : Text → List ℕ → List ℕ → List ℕ → Model

@@ -1,6 +1,6 @@
 -- What holds of the meaning of a model file, in words that do not follow its reading.
-use Rattle.std.specs.Prelude.{◌≡◌, ◌≢◌, ℕ, ◌<◌, Bool, true, false, not, ◌==◌, ℤ, pos, List, [], ◌∷◌, ◌++◌, length,
-    get_or, map, sum, count_by, Some, Ok}
+use Rattle.std.specs.Prelude.{◌≡◌, ◌≢◌, ℕ, ◌<◌, Bool, true, false, not, ◌==◌, ℤ, pos, List, [], ◌∷◌, ◌++◌, length}
+use Rattle.std.specs.Prelude.{get_or, map, sum, count_by, Some, Ok}
 use Rattle.std.specs.List.{list_any}
 use Rattle.dp_lexer.specs.Comments.{first_bad}
 use Rattle.dp_spec.specs.Model.{joint_actions, joint_observations, start_at, trans_at, obs_at, reward_at, AreRows}
@@ -13,8 +13,8 @@ use Rattle.dp_meaning.specs.declared.text.Text.{Text}
 use Rattle.dp_meaning.specs.declared.why.Why.TheVariants.{BadByte}
 use Rattle.dp_meaning.specs.Fields.{Axis}
 use Rattle.dp_meaning.specs.Statements.{axes_of, axis_size}
-use Rattle.dp_meaning.specs.Cells.{Cell, covers, statements_for, given_chance, given_reward, chance_of_cell,
-    reward_of_cell}
+use Rattle.dp_meaning.specs.Cells.{Cell, covers, statements_for, given_chance, given_reward, chance_of_cell}
+use Rattle.dp_meaning.specs.Cells.{reward_of_cell}
 use Rattle.dp_meaning.specs.Scales.{scales_of}
 use Rattle.dp_meaning.specs.Rows.{Row, row_cells, greatest_place, is_near, start_row, trans_rows, obs_rows}
 use Rattle.dp_meaning.specs.Meaning.{text_of, ReadModel, Means, FaultAt, place_at, meaning}
@@ -63,16 +63,16 @@ LastCoveringChanceWins =
     (scale : ℕ) (axes : List Axis) (before : List Statement) (s : Statement) (after : List Statement) (cell : Cell) →
     covers axes s.fields cell ≡ true → some_covers axes after cell ≡ false →
     chance_of_cell scale axes (before ++ s ∷ after) cell
-        ≡ given_chance scale (map axis_size axes) (length s.fields) cell s.value
+    ≡ given_chance scale (map axis_size axes) (length s.fields) cell s.value
 
 -- A statement that covers a reward gives it, whatever stands before it, where no later one covers the reward.
 abbrev pub LastCoveringRewardWins : Type 0
 LastCoveringRewardWins =
     (cost : Bool) (scale : ℕ) (axes : List Axis) (before : List Statement) (s : Statement) (after : List Statement)
-        (cell : Cell) →
+    (cell : Cell) →
     covers axes s.fields cell ≡ true → some_covers axes after cell ≡ false →
     reward_of_cell cost scale axes (before ++ s ∷ after) cell
-        ≡ given_reward cost scale (map axis_size axes) (length s.fields) cell s.value
+    ≡ given_reward cost scale (map axis_size axes) (length s.fields) cell s.value
 
 -- A statement that does not cover a chance changes nothing of it, wherever it stands.
 abbrev pub OtherChancesAreKept : Type 0
@@ -85,7 +85,7 @@ OtherChancesAreKept =
 abbrev pub OtherRewardsAreKept : Type 0
 OtherRewardsAreKept =
     (cost : Bool) (scale : ℕ) (axes : List Axis) (before : List Statement) (s : Statement) (after : List Statement)
-        (cell : Cell) →
+    (cell : Cell) →
     covers axes s.fields cell ≡ false →
     reward_of_cell cost scale axes (before ++ s ∷ after) cell ≡ reward_of_cell cost scale axes (before ++ after) cell
 
@@ -120,7 +120,7 @@ RightObservationsAreKept =
     (bytes : List ℕ) (text : Text) (r : ReadModel) → IsMeant bytes text r →
     (a t o : ℕ) → a < joint_actions r.model.model → t < r.model.model.states → o < joint_observations r.model.model →
     sum (map (given_obs text) (row_cells (a ∷ t ∷ []) (joint_observations r.model.model)))
-        ≡ r.model.model.scales.obs →
+    ≡ r.model.model.scales.obs →
     obs_at r.model.model a t o ≡ given_obs text (a ∷ t ∷ o ∷ [])
 
 -- A row is nearly as it is given where the sum of what is given misses the scale by at most a thousandth of it, and
@@ -144,7 +144,7 @@ ObservationsAreNearlyGiven =
     (bytes : List ℕ) (text : Text) (r : ReadModel) → IsMeant bytes text r →
     (a t : ℕ) → a < joint_actions r.model.model → t < r.model.model.states →
     IsNearlyGiven r.model.model.scales.obs (map (given_obs text)
-        (row_cells (a ∷ t ∷ []) (joint_observations r.model.model)))
+    (row_cells (a ∷ t ∷ []) (joint_observations r.model.model)))
     (obs_at r.model.model a t)
 
 -- The row of the start is nearly as it is given.

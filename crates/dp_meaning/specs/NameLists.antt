@@ -1,6 +1,6 @@
 -- Lists of agents, states, actions and observations: each is given as a count or by names.
-use Rattle.std.specs.Prelude.{ℕ, zero, suc, Bool, not, ◌&&◌, ◌||◌, nat_le, nat_lt, if◌then◌else◌, List, [], ◌∷◌, ◌++◌,
-    length, Option, Some, None, Result, Ok}
+use Rattle.std.specs.Prelude.{ℕ, zero, suc, Bool, not, ◌&&◌, ◌||◌, nat_le, nat_lt, if◌then◌else◌, List, [], ◌∷◌, ◌++◌}
+use Rattle.std.specs.Prelude.{length, Option, Some, None, Result, Ok}
 use Rattle.std.specs.Str.{bytes_eq}
 use Rattle.std.specs.Str.Parse.{digits_value}
 use Rattle.dp_base.specs.DecimalShape.{is_index}
@@ -83,4 +83,4 @@ found_at at None = fault UnknownName at
 unfoldable pub find_in : GivenList → Piece → Result ℕ Fault
 find_in list piece =
     if is_index piece.text || is_name piece.text then found_at piece.at
-        (place_in list piece) else fault Expected piece.at
+    (place_in list piece) else fault Expected piece.at

@@ -1,6 +1,6 @@
 -- Chances, the discount and rewards, as Numbers of the text.
-use Rattle.std.specs.Prelude.{ℕ, zero, suc, ◌+◌, ◌^◌, Bool, false, ◌&&◌, nat_le, if◌then◌else◌, List, [], ◌∷◌, ℤ, pos,
-    negsuc, unsigned_abs, Result, Ok, Err}
+use Rattle.std.specs.Prelude.{ℕ, zero, suc, ◌+◌, ◌^◌, Bool, false, ◌&&◌, nat_le, if◌then◌else◌, List, [], ◌∷◌, ℤ, pos}
+use Rattle.std.specs.Prelude.{negsuc, unsigned_abs, Result, Ok, Err}
 use Rattle.dp_base.specs.declared.decimal.Decimal.{Decimal}
 use Rattle.dp_base.specs.declared.decimal.NumFault.{NumFault}
 use Rattle.dp_base.specs.declared.decimal.NumFault.TheVariants.{Shape}

@@ -1,6 +1,6 @@
 -- The rows of chances as a text gives them, and their repair.
-use Rattle.std.specs.Prelude.{ℕ, ◌+◌, ◌-◌, ◌*◌, ◌/◌, max, Bool, ◌==◌, nat_le, if◌then◌else◌, List, [], ◌∷◌, ◌++◌, map,
-    reverse, sum, slice_index_or, slice_set, Option, Some, None, Result, Ok}
+use Rattle.std.specs.Prelude.{ℕ, ◌+◌, ◌-◌, ◌*◌, ◌/◌, max, Bool, ◌==◌, nat_le, if◌then◌else◌, List, [], ◌∷◌, ◌++◌, map}
+use Rattle.std.specs.Prelude.{reverse, sum, slice_index_or, slice_set, Option, Some, None, Result, Ok}
 use Rattle.std.specs.List.{fold, find, range_with_len, list_any, position_or_len}
 use Rattle.dp_spec.specs.JointNumbers.{parts_of}
 use Rattle.dp_meaning.specs.declared.why.Fault.{Fault}

@@ -1,18 +1,8 @@
-ghost use Rattle.dp_meaning.specs.MeaningLaws.{
-  LastCoveringChanceWins,
-  LastCoveringRewardWins,
-  OtherChancesAreKept,
-  OtherRewardsAreKept,
-  ObservationsAreNearlyGiven,
-  RewardsAreAsGiven,
-  RightObservationsAreKept,
-  RightTransitionsAreKept,
-  StartIsNearlyGiven,
-  TransitionsAreNearlyGiven,
-  UncoveredObservationsAreZero,
-  UncoveredRewardsAreZero,
-  UncoveredTransitionsAreZero,
-};
+ghost use Rattle.dp_meaning.specs.MeaningLaws.{LastCoveringChanceWins, LastCoveringRewardWins, OtherChancesAreKept};
+ghost use Rattle.dp_meaning.specs.MeaningLaws.{OtherRewardsAreKept, ObservationsAreNearlyGiven, RewardsAreAsGiven};
+ghost use Rattle.dp_meaning.specs.MeaningLaws.{RightObservationsAreKept, RightTransitionsAreKept, StartIsNearlyGiven};
+ghost use Rattle.dp_meaning.specs.MeaningLaws.{TransitionsAreNearlyGiven, UncoveredObservationsAreZero};
+ghost use Rattle.dp_meaning.specs.MeaningLaws.{UncoveredRewardsAreZero, UncoveredTransitionsAreZero};
 
 /// A transition that no statement covers has the chance 0, also in a row that was repaired.
 #[tactic(auto, using(crate::proofs::CellLaws::uncovered_transition))]

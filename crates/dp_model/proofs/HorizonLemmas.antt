@@ -1,9 +1,9 @@
 -- Counts of histories, and the mode of a horizon.
-use Rattle.std.proofs.Common.{◌≡◌, ℕ, zero, suc, ◌+◌, ◌-◌, ◌*◌, ◌^◌, ◌<◌, ◌≤◌, Bool, true, false, max, pos, to_z,
-    List, [], ◌∷◌, length, get_or, add-one, refl, ap, subst, ◌∙◌, arith}
+use Rattle.std.proofs.Common.{◌≡◌, ℕ, zero, suc, ◌+◌, ◌-◌, ◌*◌, ◌^◌, ◌<◌, ◌≤◌, Bool, true, false, max, pos, to_z}
+use Rattle.std.proofs.Common.{List, [], ◌∷◌, length, get_or, add-one, refl, ap, subst, ◌∙◌, arith}
 use Rattle.std.specs.Prelude.{Option, SomeIff}
-use Rattle.std.proofs.Math.Nat.{le-mul_of_pos_right, mul-le-mul, mul-le-mul_left, mul-pos, pow-le-pow_left,
-    pow-le-pow_right, pow-suc, pow-zero}
+use Rattle.std.proofs.Math.Nat.{le-mul_of_pos_right, mul-le-mul, mul-le-mul_left, mul-pos, pow-le-pow_left}
+use Rattle.std.proofs.Math.Nat.{pow-le-pow_right, pow-suc, pow-zero}
 use Rattle.std.proofs.lemmas.Bool.{le-leb, leb-true}
 use Rattle.std.proofs.lemmas.Int.{to_z_pos}
 use Rattle.std.proofs.lemmas.Nat.{mul-pow}

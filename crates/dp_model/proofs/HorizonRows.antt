@@ -58,8 +58,12 @@ fit_of_twenty_steps = refl
 -- ---- sizes with few own histories and many joint ones: 4 agents of 2 observations over 6 steps have 16^5 in the
 -- last stage
 abbrev four_agents : ℕ → List ℕ → Model
-four_agents states actions = record two_agents { states = states; actions = actions; observations =
-    2 ∷ 2 ∷ 2 ∷ 2 ∷ [] }
+four_agents states actions = record two_agents {
+  states = states;
+  actions = actions;
+  observations =
+      2 ∷ 2 ∷ 2 ∷ 2 ∷ [];
+}
 
 stage_cells_kept : first_passed (horizon_limits (four_agents 4 (2 ∷ 2 ∷ 2 ∷ 2 ∷ [])) 6) ≡ None
 unfolding joint_actions joint_observations

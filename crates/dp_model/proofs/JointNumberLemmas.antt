@@ -4,8 +4,8 @@ use Rattle.std.proofs.lemmas.Grind.{get_or-set_at}
 use Rattle.std.proofs.lemmas.List.{get_or-set_other}
 use Rattle.std.proofs.lemmas.Bool.{eqb-true, eqb-false}
 use Rattle.std.proofs.lemmas.List.{length-set}
-use Rattle.std.proofs.Common.{◌≢◌, Bool, true, false, ◌≡◌, ℕ, suc, ◌*◌, ◌<◌, ◌≤◌, List, length, get_or, drop, refl,
-    sym, ap, ◌∙◌, arith}
+use Rattle.std.proofs.Common.{◌≢◌, Bool, true, false, ◌≡◌, ℕ, suc, ◌*◌, ◌<◌, ◌≤◌, List, length, get_or, drop, refl}
+use Rattle.std.proofs.Common.{sym, ap, ◌∙◌, arith}
 use Rattle.std.proofs.Math.Nat.{mul_comm}
 use Rattle.dp_spec.specs.JointNumbers.{product}
 use Rattle.dp_model.specs.Parts.{AreParts, AreSteps}
@@ -20,7 +20,7 @@ pub back-count : (ns : List ℕ) (j agent count : ℕ) → agent ≡ suc j → j
     → count * get_or ns j 0 ≡ product (drop j ns)
 back-count ns j agent count e lt is =
     ap (λ n. n * get_or ns j 0) (is ∙ ap (λ k. product (drop k ns)) e)
-        ∙ mul_comm (product (drop (suc j) ns)) (get_or ns j 0) ∙ sym (product-drop ns j lt)
+    ∙ mul_comm (product (drop (suc j) ns)) (get_or ns j 0) ∙ sym (product-drop ns j lt)
 
 pub back-steps : (ns : List ℕ) (j agent count : ℕ) (steps : List ℕ) → agent ≡ suc j → j < length ns
     → AreSteps ns agent count steps → AreSteps ns j (count * get_or ns j 0) (slice_set steps j count)

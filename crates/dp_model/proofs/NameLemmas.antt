@@ -1,6 +1,6 @@
 -- Lists of names: as the texts of the keys of a set, and what they keep.
-use Rattle.std.proofs.Common.{◌≡◌, ◌≢◌, ℕ, zero, suc, ◌+◌, ◌^◌, ◌<◌, Bool, true, false, cond, not, ◌||◌, List, [],
-    ◌∷◌, ◌++◌, length, get_or, map, position, refl, sym, ap, ◌∙◌, true≢false, arith}
+use Rattle.std.proofs.Common.{◌≡◌, ◌≢◌, ℕ, zero, suc, ◌+◌, ◌^◌, ◌<◌, Bool, true, false, cond, not, ◌||◌, List, []}
+use Rattle.std.proofs.Common.{◌∷◌, ◌++◌, length, get_or, map, position, refl, sym, ap, ◌∙◌, true≢false, arith}
 use Rattle.std.specs.Prelude.{if◌then◌else◌, replicate, slice_get, slice_set, IsTrue, is_some}
 use Rattle.std.specs.List.{list_any, position_or_len}
 use Rattle.std.specs.Str.{bytes_eq}
@@ -81,8 +81,12 @@ with_name-kept names name kept named room = by (has_name names name) refl
     }
 
 pub empty-kept : IsNameList []
-empty-kept = record { are_names = λ k d lt. absurd (let no : k < 0 = lt in omega arith); once =
-    λ i j d lt in_. absurd (let no : j < 0 = in_ in omega arith); limit = omega arith }
+empty-kept = record {
+  are_names = λ k d lt. absurd (let no : k < 0 = lt in omega arith);
+  once =
+      λ i j d lt in_. absurd (let no : j < 0 = in_ in omega arith);
+  limit = omega arith;
+}
 
 -- one list of agents' lists replaced by another
 pub slice_set-kept : (lists : List (List (List ℕ))) (i : ℕ) (list : List (List ℕ))

@@ -1,6 +1,6 @@
 -- The model of the tests: one state, two agents with 2 and 3 actions and 1 and 2 observations, rewards 0 to 11.
-use Rattle.std.proofs.Common.{◌≡◌, ℕ, zero, suc, ◌+◌, ◌*◌, ◌<◌, ◌≤◌, true, ℤ, pos, unsigned_abs, List, [], ◌∷◌,
-    get_or, replicate, refl, ap, arith}
+use Rattle.std.proofs.Common.{◌≡◌, ℕ, zero, suc, ◌+◌, ◌*◌, ◌<◌, ◌≤◌, true, ℤ, pos, unsigned_abs, List, [], ◌∷◌}
+use Rattle.std.proofs.Common.{get_or, replicate, refl, ap, arith}
 use Rattle.std.specs.Prelude.{nat_le, slice_index}
 use Rattle.std.specs.List.{list_all}
 use Rattle.std.proofs.lemmas.List.{get_or-replicate}
@@ -75,7 +75,7 @@ is_model = record {
         let first : (a * 1 + t) * 2 + 0 < 12 = omega arith in
         let second : (a * 1 + t) * 2 + 1 < 12 = omega arith in
         (λ i. (0 + get_or-replicate 12 ((a * 1 + t) * 2 + 0) 1 0 first i)
-            + get_or-replicate 12 ((a * 1 + t) * 2 + 1) 1 0 second i);
+        + get_or-replicate 12 ((a * 1 + t) * 2 + 1) 1 0 second i);
   };
 }
 

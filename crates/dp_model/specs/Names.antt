@@ -1,6 +1,6 @@
 -- The names of a model's agents, states, actions and observations.
-use Rattle.std.specs.Prelude.{ℕ, ◌^◌, ◌≤◌, ◌≡◌, ◌≢◌, Bool, IsTrue, List, [], ◌∷◌, ◌++◌, Option, length, get_or,
-    slice_set, position, replicate, All, AllPairs, if◌then◌else◌}
+use Rattle.std.specs.Prelude.{ℕ, ◌^◌, ◌≤◌, ◌≡◌, ◌≢◌, Bool, IsTrue, List, [], ◌∷◌, ◌++◌, Option, length, get_or}
+use Rattle.std.specs.Prelude.{slice_set, position, replicate, All, AllPairs, if◌then◌else◌}
 use Rattle.std.specs.List.{list_any}
 use Rattle.std.specs.Str.{bytes_eq}
 use Rattle.dp_base.specs.Names.{is_name}
@@ -15,8 +15,13 @@ pub record NameLists : Type 0 where
 
 -- of so many agents, each list given as a count
 abbrev pub counts_of : ℕ → NameLists
-counts_of agents = record { agents = []; states = []; actions = replicate agents []; observations =
-    replicate agents [] }
+counts_of agents = record {
+  agents = [];
+  states = [];
+  actions = replicate agents [];
+  observations =
+      replicate agents [];
+}
 
 -- whether a list has the name
 abbrev pub has_name : List (List ℕ) → List ℕ → Bool

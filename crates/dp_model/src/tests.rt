@@ -82,8 +82,7 @@ fn two_agents(alloc: Global) -> Result<Model, Memory>
 }
 
 #[test]
-#[tactic(auto, unfolding(dp_base::specs::Names::is_name, dp_base::specs::Names::is_word,
-    dp_base::specs::DecimalShape::is_decimal))]
+#[tactic(auto, unfolding(dp_base::specs::Names::is_name, dp_base::specs::Names::is_word, dp_base::specs::DecimalShape::is_decimal))]
 fn a_name_is_added_once_and_found(rt: HostRuntime) -> Result<(), Fail> {
     let mut names = Names::counts(rt.alloc(), 1)?;
     let is_new = names.add_state(rt.alloc(), "left")?;

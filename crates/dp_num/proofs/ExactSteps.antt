@@ -1,11 +1,12 @@
 -- What rewards are multiplied by, step by step, and products that fit.
-use Rattle.std.proofs.Common.{◌≡◌, ℕ, zero, suc, ◌+◌, ◌*◌, ◌^◌, ◌<◌, ◌≤◌, ◌%◌, ℤ, pos, negsuc, ◌*ℤ◌, unsigned_abs,
-    to_z, of_z, List, length, min, slice_set, add-one, ap, ◌∙◌, sym, subst, refl, arith, ◌⊎◌, inl, inr}
+use Rattle.std.proofs.Common.{◌≡◌, ℕ, zero, suc, ◌+◌, ◌*◌, ◌^◌, ◌<◌, ◌≤◌, ◌%◌, ℤ, pos, negsuc, ◌*ℤ◌, unsigned_abs}
+use Rattle.std.proofs.Common.{to_z, of_z, List, length, min, slice_set, add-one, ap, ◌∙◌, sym, subst, refl, arith}
+use Rattle.std.proofs.Common.{◌⊎◌, inl, inr}
 use Rattle.std.proofs.lemmas.Grind.{common_steps}
 use Rattle.std.proofs.lemmas.Int.{fits_signed_from_abs, to_z-of_z, to_z_pos, unsigned_abs-mul}
 use Rattle.std.proofs.lemmas.Nat.{mul-mod}
-use Rattle.std.proofs.Math.Nat.{le-mul_of_pos_right, mod-eq_of_lt, mul-pos, pow-le-pow_left, pow-suc, pow-zero,
-    mul_assoc, mul_right_comm}
+use Rattle.std.proofs.Math.Nat.{le-mul_of_pos_right, mod-eq_of_lt, mul-pos, pow-le-pow_left, pow-suc, pow-zero}
+use Rattle.std.proofs.Math.Nat.{mul_assoc, mul_right_comm}
 use Rattle.std.proofs.Math.Pow.{pow_mono}
 use mir.Syntax.{w128}
 use mir.Val.{SFits}

@@ -1,6 +1,7 @@
 -- A fraction in millionths: its digits one after another, its rounding, its sign and its text.
-use Rattle.std.proofs.Common.{◌≡◌, ℕ, zero, suc, ◌+◌, ◌*◌, ◌/◌, ◌%◌, ◌^◌, ◌<◌, ◌≤◌, Bool, true, false, not, T, List,
-    [], ◌∷◌, ◌++◌, drop, ℤ, pos, negsuc, neg_ℤ, ◌*ℤ◌, unsigned_abs, decimal, refl, sym, ap, subst, ◌∙◌, arith}
+use Rattle.std.proofs.Common.{◌≡◌, ℕ, zero, suc, ◌+◌, ◌*◌, ◌/◌, ◌%◌, ◌^◌, ◌<◌, ◌≤◌, Bool, true, false, not, T, List}
+use Rattle.std.proofs.Common.{[], ◌∷◌, ◌++◌, drop, ℤ, pos, negsuc, neg_ℤ, ◌*ℤ◌, unsigned_abs, decimal, refl, sym, ap}
+use Rattle.std.proofs.Common.{subst, ◌∙◌, arith}
 use mathlib.Core.List.{append_assoc}
 use Rattle.std.proofs.lemmas.Int.{ints}
 use Rattle.std.proofs.lemmas.Nat.{div-mul-add, div_below}

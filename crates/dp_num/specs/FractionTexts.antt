@@ -1,6 +1,6 @@
 -- The text of a fraction: its value in millionths, rounded, with six digits behind the point.
-use Rattle.std.specs.Prelude.{ℕ, zero, suc, ◌+◌, ◌/◌, ◌%◌, ◌^◌, Bool, true, false, List, [], ◌∷◌, ◌++◌, ℤ, pos,
-    negsuc, ◌*ℤ◌}
+use Rattle.std.specs.Prelude.{ℕ, zero, suc, ◌+◌, ◌/◌, ◌%◌, ◌^◌, Bool, true, false, List, [], ◌∷◌, ◌++◌, ℤ, pos}
+use Rattle.std.specs.Prelude.{negsuc, ◌*ℤ◌}
 use Rattle.std.specs.Prelude.{decimal, unsigned_abs}
 use Rattle.dp_base.specs.Bytes.{minus, decimal_point}
 use Rattle.dp_base.specs.Rounding.{floor_of, ceiling_of}

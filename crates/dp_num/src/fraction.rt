@@ -1,6 +1,6 @@
 //! The text of a fraction.
-ghost use Rattle.std.specs.Prelude.{◌≡◌, ◌^◌, ◌<◌, ◌≤◌, ◌+◌, ◌*◌, ◌++◌, ℕ, Bool, pos, ◌≤ℤ◌, unsigned_abs,
-    string_bytes, IfOk, OnOk, IsTrue, ◌↔◌};
+ghost use Rattle.std.specs.Prelude.{◌≡◌, ◌^◌, ◌<◌, ◌≤◌, ◌+◌, ◌*◌, ◌++◌, ℕ, Bool, pos, ◌≤ℤ◌, unsigned_abs};
+ghost use Rattle.std.specs.Prelude.{string_bytes, IfOk, OnOk, IsTrue, ◌↔◌};
 ghost use Rattle.dp_num.specs.FractionTexts.{fraction_text, millionths, millionths_text};
 
 use dp_base::Memory;

@@ -134,8 +134,7 @@ impl Arith for Outward {
     ghost calls = { λ a. outward_calls a };
 
     #[inline]
-    #[tactic(auto, unfolding(dp_spec::specs::Arithmetic::outward, dp_base::specs::Rounding::mul_down,
-        dp_base::specs::Rounding::mul_up))]
+    #[tactic(auto, unfolding(dp_spec::specs::Arithmetic::outward, dp_base::specs::Rounding::mul_down, dp_base::specs::Rounding::mul_up))]
     fn start(&self, b: u64) -> Span {
         let scale = i128::from(self.scales.start);
         Span {

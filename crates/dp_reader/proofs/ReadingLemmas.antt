@@ -8,8 +8,8 @@ use Rattle.dp_meaning.specs.declared.text.Text.{Text}
 use Rattle.dp_meaning.specs.declared.why.Fault.{Fault}
 use Rattle.dp_meaning.specs.Limits.{passed_limit}
 use Rattle.dp_meaning.specs.Meaning as meaning
-use Rattle.dp_meaning.specs.Meaning.{text_of, names_given, repaired_model, Place, Meaning, meaning, Means, FaultAt,
-    Passes}
+use Rattle.dp_meaning.specs.Meaning.{text_of, names_given, repaired_model, Place, Meaning, meaning, Means, FaultAt}
+use Rattle.dp_meaning.specs.Meaning.{Passes}
 use Rattle.dp_meaning.specs.Rows as rows
 use Rattle.dp_meaning.specs.Rows.{repair_all, start_row, trans_rows, obs_rows}
 use Rattle.dp_lexer.specs.declared.LexFault.{LexFault}
@@ -93,7 +93,7 @@ pub rows_built : (end : ℕ) (text : Text) (rows : Rows) (model : NamedModel) �
     → repaired_model end text ≡ Ok (record { model = model; repaired = (built text rows).repaired })
 rows_built end text rows model are e =
     let with_model : NamedModel → Result meaning.ReadModel Fault =
-        λ m. Ok (record { model = m; repaired = (built text rows).repaired }) in
+    λ m. Ok (record { model = m; repaired = (built text rows).repaired }) in
     all_rows_are end text rows are ∙ ap with_model (sym e)
 
 -- ---- the answer
@@ -157,8 +157,10 @@ same_fault p q why why' e =
 pub model_iff : (meant : Meaning) (r : Result ReadModel ModelFault) → IsMeaning meant r → (read : ReadModel)
     → r ≢ Err faults.Memory
     → (r ≡ Ok read) ↔ (meant ≡ Means (meant_model read))
-model_iff meant (Ok x) is read memory = (λ e. subst (IsMeaning meant) e is,
-    λ e. same_model (meant_model x) (meant_model read) (sym is ∙ e))
+model_iff meant (Ok x) is read memory = (
+  λ e. subst (IsMeaning meant) e is,
+  λ e. same_model (meant_model x) (meant_model read) (sym is ∙ e),
+)
 model_iff meant (Err (faults.At line column why)) is read memory = (λ e. absurd cc, λ e. absurd cc)
 model_iff meant (Err (faults.TooLarge passed)) is read memory = (λ e. absurd cc, λ e. absurd cc)
 model_iff meant (Err faults.Memory) is read memory = absurd (memory refl)

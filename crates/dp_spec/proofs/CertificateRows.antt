@@ -1,14 +1,14 @@
 -- Worked rows of whole certificates: one that is valid in both versions, and a branch that stands at a wide node.
 use Rattle.std.proofs.Common.{◌≡◌, ◌⊎◌, inl, inr, ℕ, ◌<◌, true, false, ℤ, pos, [], ◌∷◌, refl, sym, ◌∙◌, arith}
-use Rattle.dp_spec.specs.Model.{joint_actions, joint_observations, obs_at, reward_at, start_at, step_scale, trans_at,
-    value_scale}
+use Rattle.dp_spec.specs.Model.{joint_actions, joint_observations, obs_at, reward_at, start_at, step_scale, trans_at}
+use Rattle.dp_spec.specs.Model.{value_scale}
 use Rattle.dp_spec.specs.Mode.{is_exact_mode, unit_of}
 use Rattle.dp_spec.specs.Front.{fixed_joint_action, joint_class}
 use Rattle.dp_spec.specs.Bound.{agreeing_actions}
 use Rattle.dp_spec.specs.Steps.{advanced_agent, front_after_choice, root_front}
 use Rattle.dp_spec.specs.Arithmetic.{Arithmetic, exact, reward_factor}
-use Rattle.dp_spec.specs.Quantities.{action_look_ahead_in, class_weight_in, weighted_reward_in, weighted_table_in,
-    weights_after_in}
+use Rattle.dp_spec.specs.Quantities.{action_look_ahead_in, class_weight_in, weighted_reward_in, weighted_table_in}
+use Rattle.dp_spec.specs.Quantities.{weights_after_in}
 use Rattle.dp_spec.specs.BoundTree.{BoundTrees, branch}
 use Rattle.dp_spec.specs.SharedPolicy.{AreAgentRows, IsSharedOf}
 use Rattle.dp_spec.specs.SharedPolicy.AreRowsOfAgents.{and_agent, no_agents}
@@ -26,8 +26,19 @@ use Rattle.dp_spec.proofs.WideRows.{all_but_one, all_but_one_is_wide}
 -- ---- the certificate of one agent that earns 3 by its second action
 
 abbrev pub solo_certificate : ℕ → Certificate
-solo_certificate version = record { version = version; horizon = 1; look = 1; is_exact = true; unit = pos 1; lower =
-    pos 3; upper = pos 3; inner = 1; policy = one_row 1 ∷ []; tree = both_actions }
+solo_certificate version = record {
+  version = version;
+  horizon = 1;
+  look = 1;
+  is_exact = true;
+  unit = pos 1;
+  lower =
+      pos 3;
+  upper = pos 3;
+  inner = 1;
+  policy = one_row 1 ∷ [];
+  tree = both_actions;
+}
 
 no_more : (c : ℕ) → c < 1 → c ≡ 0
 no_more c lt = omega arith
@@ -38,8 +49,12 @@ solo_rows = record {
   one_first = refl;
   rows = (
     omega arith,
-    λ r lt. rw (no_more r lt) (record { action = omega arith; one_each = refl; below =
-        λ o seen. absurd (omega arith) }),
+    λ r lt. rw (no_more r lt) (record {
+      action = omega arith;
+      one_each = refl;
+      below =
+          λ o seen. absurd (omega arith);
+    }),
     tt,
   );
 }
@@ -53,8 +68,11 @@ solo_shared = record {
 
 solo_plain : IsPlain solo 1 (one_row 1 ∷ [])
 unfolding solo
-solo_plain = and_plain (record { counts = λ t lt. rw (no_more t lt) refl; nexts =
-    λ t c o step below seen. absurd (omega arith) }) none_plain
+solo_plain = and_plain (record {
+  counts = λ t lt. rw (no_more t lt) refl;
+  nexts =
+      λ t c o step below seen. absurd (omega arith);
+}) none_plain
 
 solo_policy : (version : ℕ) → (version ≡ 1) ⊎ (version ≡ 2) → HasPolicyOfVersion solo (solo_certificate version)
 solo_policy version known = record { version = known; shared = solo_shared; plain = λ e. solo_plain }
@@ -75,8 +93,14 @@ unfolding solo unit_of is_exact_mode value_scale step_scale shared_worth_in exac
 solo_is_valid = record {
   within = record {
     known = inl refl;
-    first = λ e. record { some_step = omega arith; horizon = omega arith; own_histories = omega arith; stage_cells =
-        omega arith; game_cells = omega arith };
+    first = λ e. record {
+      some_step = omega arith;
+      horizon = omega arith;
+      own_histories = omega arith;
+      stage_cells =
+          omega arith;
+      game_cells = omega arith;
+    };
     second = λ e. absurd (omega arith);
   };
   mode = refl;

@@ -1,6 +1,6 @@
 -- Worked rows of equivalent classes: places and their numbers, first unequal places, least pairs, primitive vectors.
-use Rattle.std.proofs.Common.{◌≡◌, ◌<◌, ◌≤◌, ◌⊎◌, inl, inr, ℕ, zero, suc, ◌*◌, ◌/◌, ◌%◌, ap, List, get_or, [], ◌∷◌,
-    Some, None, refl, arith}
+use Rattle.std.proofs.Common.{◌≡◌, ◌<◌, ◌≤◌, ◌⊎◌, inl, inr, ℕ, zero, suc, ◌*◌, ◌/◌, ◌%◌, ap, List, get_or, [], ◌∷◌}
+use Rattle.std.proofs.Common.{Some, None, refl, arith}
 use Rattle.std.specs.Int.{◌∣◌}
 use Rattle.std.specs.Prelude.{All}
 use Rattle.std.proofs.lemmas.Nat.Gcd.{dvd-zero, dvd_of_mod-eq-zero, mod-eq-zero_of_dvd}
@@ -76,8 +76,13 @@ left_twice_and_once = refl
 
 waited_pair : IsPair blind waited 0 0 1
 unfolding blind root_front front_after_choice advanced_agent
-waited_pair = record { order = omega arith; first = (omega arith, refl); second = (omega arith, refl); equivalent =
-    heard_and_never_are_equivalent }
+waited_pair = record {
+  order = omega arith;
+  first = (omega arith, refl);
+  second = (omega arith, refl);
+  equivalent =
+      heard_and_never_are_equivalent;
+}
 
 least_of_waited : IsLeastPair blind waited 0 0 1
 unfolding blind root_front front_after_choice advanced_agent
@@ -104,8 +109,10 @@ some_pair none = none 0 1 (omega arith) (omega arith, refl) (omega arith, refl) 
 -- ---- primitive vectors
 
 two_divides : All (λ x. 2 ∣ x) (4 ∷ 0 ∷ 6 ∷ [])
-two_divides = All-from_recursion (λ x. 2 ∣ x) (4 ∷ 0 ∷ 6 ∷ []) (dvd_of_mod-eq-zero 2 refl,
-    (dvd-zero 2, (dvd_of_mod-eq-zero 2 refl, tt)))
+two_divides = All-from_recursion (λ x. 2 ∣ x) (4 ∷ 0 ∷ 6 ∷ []) (
+  dvd_of_mod-eq-zero 2 refl,
+  (dvd-zero 2, (dvd_of_mod-eq-zero 2 refl, tt)),
+)
 
 two_is_greatest : IsGcdOf (4 ∷ 0 ∷ 6 ∷ []) 2
 two_is_greatest = record {

@@ -1,16 +1,16 @@
 -- Worked rows of bound trees that fit a front, and of valid certificates: what holds, and what does not.
 use Rattle.std.proofs.Common.{◌≡◌, inl, inr, ℕ, true, false, ℤ, pos, [], ◌∷◌, refl, sym, arith}
 use Rattle.std.proofs.lemmas.Int.{ints}
-use Rattle.dp_spec.specs.Model.{joint_actions, joint_observations, obs_at, reward_at, start_at, step_scale, trans_at,
-    value_scale}
+use Rattle.dp_spec.specs.Model.{joint_actions, joint_observations, obs_at, reward_at, start_at, step_scale, trans_at}
+use Rattle.dp_spec.specs.Model.{value_scale}
 use Rattle.dp_spec.specs.Mode.{is_exact_mode, unit_of}
 use Rattle.dp_spec.specs.Front.{fixed_joint_action, joint_class}
 use Rattle.dp_spec.specs.Bound.{agreeing_actions}
 use Rattle.dp_spec.specs.Steps.{advanced_agent, front_after_choice, root_front}
 use Rattle.dp_spec.specs.LookAhead.{weights_after}
 use Rattle.dp_spec.specs.Arithmetic.{Arithmetic, exact, outward, reward_factor}
-use Rattle.dp_spec.specs.Quantities.{action_look_ahead_in, class_weight_in, weighted_reward_in, weighted_table_in,
-    weights_after_in}
+use Rattle.dp_spec.specs.Quantities.{action_look_ahead_in, class_weight_in, weighted_reward_in, weighted_table_in}
+use Rattle.dp_spec.specs.Quantities.{weights_after_in}
 use Rattle.dp_spec.specs.BoundTree.{BoundTree, BoundTrees, branch, leaf, merge, more_bound_trees, no_bound_trees}
 use Rattle.dp_spec.specs.SharedWorth.{joint_row_action, next_joint_row, shared_worth_in}
 use Rattle.dp_spec.specs.PlainForm.{ArePlain, ArePlainRows}
@@ -83,7 +83,7 @@ no_such_agent fits = fits.1
 -- nothing is refined at a full front, whatever the children are
 branch_at_full : (ks : BoundTrees) (cap : ℤ)
     → FitsFront (exact solo.scales) solo 1 1 1 (branch 0 0 ks) (front_after_choice solo (root_front solo) 0 0 0) cap
-        → ⊥
+    → ⊥
 unfolding solo root_front front_after_choice advanced_agent
 branch_at_full ks cap fits = omega (arith, fits.0)
 
@@ -98,8 +98,24 @@ unfolding blind front_bound exact reward_factor weights_after weights_after_in w
     action_look_ahead_in class_weight_in joint_class fixed_joint_action agreeing_actions joint_observations
     joint_actions trans_at obs_at reward_at start_at step_scale root_front front_after_choice advanced_agent is_wide
     widens is_room
-merge_fits = (omega arith, (omega arith, refl), ((omega arith, omega arith, (omega arith, refl), (omega arith, refl),
-    heard_and_never_are_equivalent, (omega arith, (omega arith, refl), (refl, refl), refl), refl, refl), refl), refl)
+merge_fits = (
+  omega arith,
+  (omega arith, refl),
+  (
+    (
+      omega arith,
+      omega arith,
+      (omega arith, refl),
+      (omega arith, refl),
+      heard_and_never_are_equivalent,
+      (omega arith, (omega arith, refl), (refl, refl), refl),
+      refl,
+      refl,
+    ),
+    refl,
+  ),
+  refl,
+)
 
 -- the smaller number stands first
 merge_reversed : FitsRoot (exact blind.scales) blind 2 1 (merged_after_wait 1 0) → ⊥

@@ -1,11 +1,11 @@
 -- Laws of products, of joint numbers and of their parts.
-use Rattle.std.proofs.Common.{◌≡◌, ℕ, zero, suc, ◌+◌, ◌*◌, ◌/◌, ◌%◌, ◌<◌, ◌≤◌, List, [], ◌∷◌, ◌++◌, length, get_or,
-    drop, refl, sym, ap, ◌∙◌, arith}
+use Rattle.std.proofs.Common.{◌≡◌, ℕ, zero, suc, ◌+◌, ◌*◌, ◌/◌, ◌%◌, ◌<◌, ◌≤◌, List, [], ◌∷◌, ◌++◌, length, get_or}
+use Rattle.std.proofs.Common.{drop, refl, sym, ap, ◌∙◌, arith}
 use Rattle.std.specs.Int.{◌∣◌}
 use Rattle.std.proofs.lemmas.Nat.{div-mul-add, mod-mul-add, mod_below, mul-add-lt}
 use Rattle.std.proofs.lemmas.Nat.Gcd.{dvd_refl, dvd_trans}
-use Rattle.std.proofs.Math.Nat.{div-add-mod, div-div-eq-div-mul, div-lt_iff_lt-mul, dvd-mul_left, le-mul_of_pos_right,
-    mod-eq_of_lt, mod-mod_of_dvd, mul_assoc, mul_comm}
+use Rattle.std.proofs.Math.Nat.{div-add-mod, div-div-eq-div-mul, div-lt_iff_lt-mul, dvd-mul_left, le-mul_of_pos_right}
+use Rattle.std.proofs.Math.Nat.{mod-eq_of_lt, mod-mod_of_dvd, mul_assoc, mul_comm}
 use Rattle.std.proofs.Math.Seq.{drop-cons}
 use Rattle.dp_spec.specs.JointNumbers.{joint_number, parts_of, product}
 
@@ -115,8 +115,10 @@ pub below_each : (ns ps : List ℕ) → length ps ≡ length ns → ((i : ℕ) �
 below_each [] [] alike below = tt
 below_each [] (p ∷ ps) alike below = absurd (omega arith)
 below_each (n ∷ ns) [] alike below = absurd (omega arith)
-below_each (n ∷ ns) (p ∷ ps) alike below = (below 0 (omega arith),
-    below_each ns ps (omega arith) (λ i lt. below (suc i) (omega arith)))
+below_each (n ∷ ns) (p ∷ ps) alike below = (
+  below 0 (omega arith),
+  below_each ns ps (omega arith) (λ i lt. below (suc i) (omega arith)),
+)
 
 -- ---- joint numbers and their parts
 
@@ -130,7 +132,7 @@ joint_number_below (n ∷ ns) (p ∷ ps) h = row_below p n _ _ h.0 (joint_number
 -- the joint number from place i on
 pub joint_number-drop : (ns ps : List ℕ) (i : ℕ) → length ps ≡ length ns → i < length ns →
     joint_number (drop i ns) (drop i ps) ≡ get_or ps i 0 * product (drop (suc i) ns)
-        + joint_number (drop (suc i) ns) (drop (suc i) ps)
+    + joint_number (drop (suc i) ns) (drop (suc i) ps)
 joint_number-drop ns ps i alike lt =
     let there : i < length ps = omega arith in
     rw (drop-cons ns i 0 lt, drop-cons ps i 0 there) refl
@@ -143,8 +145,10 @@ length-parts_of (n ∷ ns) x = ap suc (length-parts_of ns _)
 -- the parts of a joint number are below their numbers
 pub parts_below : (ns : List ℕ) (x : ℕ) → x < product ns → AreBelow ns (parts_of ns x)
 parts_below [] x h = tt
-parts_below (n ∷ ns) x h = (part_below n (product ns) x h,
-    parts_below ns _ (mod_below x (product ns) (positive_right n (product ns) x h)))
+parts_below (n ∷ ns) x h = (
+  part_below n (product ns) x h,
+  parts_below ns _ (mod_below x (product ns) (positive_right n (product ns) x h)),
+)
 
 -- a joint number has the parts of which it is made
 pub parts_of-joint_number : (ns ps : List ℕ) → AreBelow ns ps → parts_of ns (joint_number ns ps) ≡ ps
@@ -154,9 +158,9 @@ parts_of-joint_number (n ∷ ns) [] h = absurd h
 parts_of-joint_number (n ∷ ns) (p ∷ ps) h =
     let lt : joint_number ns ps < product ns = joint_number_below ns ps h.1 in
     let first : (p * product ns + joint_number ns ps) / product ns ≡ p =
-        div-mul-add p (product ns) (joint_number ns ps) lt in
+    div-mul-add p (product ns) (joint_number ns ps) lt in
     let rest : (p * product ns + joint_number ns ps) % product ns ≡ joint_number ns ps =
-        mod-mul-add p (product ns) (joint_number ns ps) lt in
+    mod-mul-add p (product ns) (joint_number ns ps) lt in
     rw (first, rest, parts_of-joint_number ns ps h.1)
 
 put_together : (x p j : ℕ) → j ≡ x % p → x / p * p + j ≡ x
@@ -167,7 +171,7 @@ pub joint_number-parts_of : (ns : List ℕ) (x : ℕ) → x < product ns → joi
 joint_number-parts_of [] x h = omega arith
 joint_number-parts_of (n ∷ ns) x h =
     put_together x (product ns) _ (joint_number-parts_of ns (x % product ns)
-        (mod_below x (product ns) (positive_right n (product ns) x h)))
+    (mod_below x (product ns) (positive_right n (product ns) x h)))
 
 -- the parts from place f on are those of what is left by the parts before
 pub joint_number-drop_parts : (f : ℕ) (ns : List ℕ) (x : ℕ) → x < product ns
@@ -195,7 +199,7 @@ part-is ns x i h lt =
     part-rest ns x i h lt
     ∙ ap (λ y. x % y / product (drop (suc i) ns)) (product-drop ns i lt)
     ∙ mod-div x (get_or ns i 0) (product (drop (suc i) ns)) (size_above ns i some lt)
-        (product-drop_above ns (suc i) some)
+    (product-drop_above ns (suc i) some)
 
 -- ---- two lists, one after the other
 
@@ -212,7 +216,7 @@ parts_of-append (n ∷ ns) ms x h =
     let some_product : 0 < N * M = omega arith in
     let row : x / P ≡ x / M / N = ap (λ (y : ℕ). x / y) (factors ∙ mul_comm N M) ∙ sym (div-div-eq-div-mul x M N) in
     let rest : x % P / M ≡ x / M % N = ap (λ (y : ℕ). x % y / M) factors
-        ∙ mod-div x N M (positive_left N M 0 some_product) (positive_right N M 0 some_product) in
+    ∙ mod-div x N M (positive_left N M 0 some_product) (positive_right N M 0 some_product) in
     let place : x % P % M ≡ x % M = ap (λ (y : ℕ). x % y % M) factors ∙ mod-mod_of_dvd M x (dvd-mul_left M N) in
     ap (λ (y : ℕ). y ∷ parts_of (ns ++ ms) (x % P)) row
     ∙ ap (λ (ps : List ℕ). x / M / N ∷ ps) (parts_of-append ns ms (x % P) (mod_below x P some))
@@ -225,5 +229,7 @@ pub joint_number-append : (ns ms ps qs : List ℕ) → length ps ≡ length ns
 joint_number-append [] ms [] qs alike = omega arith
 joint_number-append [] ms (p ∷ ps) qs alike = absurd (omega arith)
 joint_number-append (n ∷ ns) ms [] qs alike = absurd (omega arith)
-joint_number-append (n ∷ ns) ms (p ∷ ps) qs alike = rw (product-append ns ms,
-    joint_number-append ns ms ps qs (omega arith)) (omega arith)
+joint_number-append (n ∷ ns) ms (p ∷ ps) qs alike = rw (
+  product-append ns ms,
+  joint_number-append ns ms ps qs (omega arith),
+) (omega arith)

@@ -1,6 +1,6 @@
 -- Worked rows of joint policies that keep a front, and of those that do not.
-use Rattle.std.proofs.Common.{◌≡◌, ◌<◌, ℕ, zero, suc, ◌^◌, List, [], ◌∷◌, get_or, Option, Some, None, refl, sym, ap,
-    ◌∙◌, arith}
+use Rattle.std.proofs.Common.{◌≡◌, ◌<◌, ℕ, zero, suc, ◌^◌, List, [], ◌∷◌, get_or, Option, Some, None, refl, sym, ap}
+use Rattle.std.proofs.Common.{◌∙◌, arith}
 use Rattle.std.specs.Prelude.{unwrap_or}
 use Rattle.dp_spec.specs.PolicyTree.{PolicyTree, more_trees, no_trees, node, root_action}
 use Rattle.dp_spec.specs.Front.{AgentFront, Front}

@@ -1,6 +1,6 @@
 -- The condition of exact mode in numbers, and the greatest magnitude of a reward.
-use Rattle.std.proofs.Common.{◌≡◌, ℕ, zero, suc, ◌+◌, ◌*◌, ◌^◌, ◌<◌, ◌≤◌, true, max, ℤ, pos, unsigned_abs, List, [],
-    ◌∷◌, get_or, sym, arith}
+use Rattle.std.proofs.Common.{◌≡◌, ℕ, zero, suc, ◌+◌, ◌*◌, ◌^◌, ◌<◌, ◌≤◌, true, max, ℤ, pos, unsigned_abs, List, []}
+use Rattle.std.proofs.Common.{◌∷◌, get_or, sym, arith}
 use Rattle.std.proofs.lemmas.Bool.{leb-true}
 use Rattle.dp_spec.specs.Mode.{greatest_magnitude, is_exact_mode}
 use Rattle.dp_spec.specs.Model.{IsModel, Model, joint_observations, reward_at, step_scale}

@@ -15,6 +15,6 @@ some_state m ok =
 pub some_joint_observation : (m : Model) → IsModel m → 0 < joint_observations m
 some_joint_observation m ok =
     let sum : nat_sum (joint_observations m) (obs_at m 0 0) ≡ m.scales.obs =
-        ok.rows.obs 0 0 ok.sizes.some_action (some_state m ok) in
+    ok.rows.obs 0 0 ok.sizes.some_action (some_state m ok) in
     let scale : 0 < m.scales.obs = ok.scales.obs in
     some_of_sum (joint_observations m) (obs_at m 0 0) (omega arith)

@@ -1,6 +1,6 @@
 -- Worked rows of numberings: joint numbers, own histories, classes, limits of a horizon.
-use Rattle.std.proofs.Common.{◌≡◌, ◌+◌, ◌*◌, ◌^◌, ℤ, pos, negsuc, Bool, true, false, [], ◌∷◌, Some, None, map, refl,
-    arith}
+use Rattle.std.proofs.Common.{◌≡◌, ◌+◌, ◌*◌, ◌^◌, ℤ, pos, negsuc, Bool, true, false, [], ◌∷◌, Some, None, map, refl}
+use Rattle.std.proofs.Common.{arith}
 use Rattle.dp_spec.specs.Model.{step_scale, value_scale}
 use Rattle.dp_spec.specs.JointNumbers.{joint_number, parts_of}
 use Rattle.dp_spec.specs.PolicyTree.{node, no_trees, more_trees}
@@ -32,7 +32,7 @@ own_of_two_steps = refl
 -- the tree that does action 10 * t + x after own history x of length t
 tree_of_three_steps : tree_doing 2 (λ t x. 10 * t + x) 3
     ≡ node 0 (more_trees (node 10 (more_trees (node 20 no_trees) (more_trees (node 21 no_trees) no_trees)))
-        (more_trees (node 11 (more_trees (node 22 no_trees) (more_trees (node 23 no_trees) no_trees))) no_trees))
+    (more_trees (node 11 (more_trees (node 22 no_trees) (more_trees (node 23 no_trees) no_trees))) no_trees))
 tree_of_three_steps = refl
 
 -- class c followed by observation o is class 2 * c + o
@@ -43,8 +43,12 @@ unfolding blind root_front front_after_choice advanced_agent
 classes_of_second_stage = refl
 
 -- of two classes the second, with the first observation, comes after the first with the second one
-classes_of_two : (advanced_agent 2 1 (record { fixed = []; class_of = 0 ∷ 1 ∷ []; chosen =
-    Some 0 ∷ Some 0 ∷ [] })).class_of ≡ 0 ∷ 1 ∷ 2 ∷ 3 ∷ []
+classes_of_two : (advanced_agent 2 1 (record {
+  fixed = [];
+  class_of = 0 ∷ 1 ∷ [];
+  chosen =
+      Some 0 ∷ Some 0 ∷ [];
+})).class_of ≡ 0 ∷ 1 ∷ 2 ∷ 3 ∷ []
 unfolding advanced_agent
 classes_of_two = refl
 

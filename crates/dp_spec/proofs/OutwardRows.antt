@@ -9,8 +9,8 @@ use Rattle.dp_spec.specs.Steps.{root_front, front_after_choice, advanced_agent}
 use Rattle.dp_spec.specs.declared.scales.Scales.{Scales}
 use Rattle.dp_base.specs.Rounding.{ceiling_of, mul_down, mul_up}
 use Rattle.dp_spec.specs.Arithmetic.{outward, point, reward_factor}
-use Rattle.dp_spec.specs.Quantities.{weights_after_in, weighted_reward_in, forward_worth_in, weighted_table_in,
-    action_look_ahead_in, class_weight_in, look_ahead_in}
+use Rattle.dp_spec.specs.Quantities.{weights_after_in, weighted_reward_in, forward_worth_in, weighted_table_in}
+use Rattle.dp_spec.specs.Quantities.{action_look_ahead_in, class_weight_in, look_ahead_in}
 use Rattle.dp_spec.specs.BoundTree.{BoundTree, leaf, branch, no_bound_trees, more_bound_trees}
 use Rattle.dp_spec.specs.Fitting.{front_bound}
 use Rattle.dp_spec.specs.Qualities.{Node, nodes_of}

@@ -3,8 +3,8 @@ use Rattle.std.proofs.Common.{◌≡◌, ◌<◌, inl, ℕ, zero, suc, true, fal
 use Rattle.std.specs.Prelude.{◌≤ℤ◌, ◌<ℤ◌, All, Some, slice_get}
 use Rattle.std.proofs.lemmas.Int.{ints}
 use Rattle.std.proofs.lemmas.List.Elements.{All-from_recursion}
-use Rattle.dp_spec.specs.Model.{joint_actions, joint_observations, obs_at, reward_at, start_at, step_scale, trans_at,
-    value_scale}
+use Rattle.dp_spec.specs.Model.{joint_actions, joint_observations, obs_at, reward_at, start_at, step_scale, trans_at}
+use Rattle.dp_spec.specs.Model.{value_scale}
 use Rattle.dp_spec.specs.Mode.{is_exact_mode, unit_of}
 use Rattle.dp_spec.specs.Front.{fixed_joint_action, joint_class}
 use Rattle.dp_spec.specs.Bound.{agreeing_actions}
@@ -12,16 +12,16 @@ use Rattle.dp_spec.specs.Steps.{advanced_agent, front_after_choice, root_front}
 use Rattle.dp_spec.specs.LookAhead.{weights_after}
 use Rattle.dp_spec.specs.ConstantPolicy.{constant_policy}
 use Rattle.dp_spec.specs.Arithmetic.{exact, reward_factor}
-use Rattle.dp_spec.specs.Quantities.{action_look_ahead_in, class_weight_in, weighted_reward_in, weighted_table_in,
-    weights_after_in}
+use Rattle.dp_spec.specs.Quantities.{action_look_ahead_in, class_weight_in, weighted_reward_in, weighted_table_in}
+use Rattle.dp_spec.specs.Quantities.{weights_after_in}
 use Rattle.dp_spec.specs.FullPolicy.{full_policy}
 use Rattle.dp_spec.specs.PlainForm.{plain_form}
 use Rattle.dp_spec.specs.SharedWorth.{form_in, joint_row_action, low_worth, next_joint_row, shared_worth_in}
 use Rattle.dp_spec.specs.BoundTree.{BoundTree, leaf, merge}
 use Rattle.dp_spec.specs.Fitting.{front_bound}
 use Rattle.dp_spec.specs.Certificate.{Certificate, IsValid, arithmetic_for}
-use Rattle.dp_spec.specs.Qualities.{HasNoEquivalent, IfBranch, IfInner, IfNarrowLeaf, IfOpenLeaf, Node, Place,
-    certificate_nodes, places_of}
+use Rattle.dp_spec.specs.Qualities.{HasNoEquivalent, IfBranch, IfInner, IfNarrowLeaf, IfOpenLeaf, Node, Place}
+use Rattle.dp_spec.specs.Qualities.{certificate_nodes, places_of}
 use Rattle.dp_spec.specs.Promises.{HasNoMerge, IfFullLeaf, IsBestConstant, IsPlanned, PlanOptions, constant_worth}
 use Rattle.dp_spec.proofs.SmallModels.{solo}
 use Rattle.dp_spec.proofs.TextLemmas.{one_row}
@@ -48,8 +48,12 @@ best_is_valid = record {
   within = solo_is_valid.within;
   mode = refl;
   unit = refl;
-  policy = record { version = solo_is_valid.policy.version; shared = solo_is_valid.policy.shared; plain =
-      solo_is_valid.policy.plain };
+  policy = record {
+    version = solo_is_valid.policy.version;
+    shared = solo_is_valid.policy.shared;
+    plain =
+        solo_is_valid.policy.plain;
+  };
   lower = refl;
   tree = refl;
   inner = refl;
@@ -99,8 +103,13 @@ ruled_at May n =
     (x : ℕ) × May places x × ((p : Place) × (slice_get places x ≡ Some p) × (p.agent ≡ i) × (p.class ≡ k)))
 
 -- the only node is a leaf
-abbrev of_leaf : (P : Node → Type 0) → P (record { tree = leaf (pos 3); above = 0; front = root_front solo; cap =
-    front_bound (exact solo.scales) solo 1 1 (root_front solo) }) → All P (certificate_nodes solo best)
+abbrev of_leaf : (P : Node → Type 0) → P (record {
+  tree = leaf (pos 3);
+  above = 0;
+  front = root_front solo;
+  cap =
+      front_bound (exact solo.scales) solo 1 1 (root_front solo);
+}) → All P (certificate_nodes solo best)
 of_leaf P holds = All-from_recursion P (certificate_nodes solo best) (holds, tt)
 
 best_is_planned : IsPlanned solo any_place 1 (asked 1) best
@@ -114,12 +123,18 @@ best_is_planned = record {
   horizon = refl;
   look = refl;
   nodes = omega arith;
-  ended = inl (record { open_leaves = of_leaf (λ n. IfOpenLeaf 1 n (λ x. x ≤ℤ pos 3))
-      (λ early. omega (arith, ints)); exact_leaves = λ e. omega (arith, ints) });
+  ended = inl (record {
+    open_leaves = of_leaf (λ n. IfOpenLeaf 1 n (λ x. x ≤ℤ pos 3))
+        (λ early. omega (arith, ints));
+    exact_leaves = λ e. omega (arith, ints);
+  });
   lean = of_leaf (λ n. All (λ k. IfInner n.tree (IfNarrowLeaf solo 1 k (λ x. pos 3 <ℤ x → x ≤ℤ n.cap)))
       (certificate_nodes solo best)) (of_leaf (λ k. Unit {0}) tt);
-  merged = λ merge e. record { exact = refl; branches =
-      of_leaf (λ n. IfBranch n.tree (λ i k. HasNoEquivalent solo n.front)) tt };
+  merged = λ merge e. record {
+    exact = refl;
+    branches =
+        of_leaf (λ n. IfBranch n.tree (λ i k. HasNoEquivalent solo n.front)) tt;
+  };
   unmerged = λ (e : true ≡ false). absurd (cc);
   constants = two_worths;
   inner_nodes = of_leaf (λ n. IfInner n.tree ((a : ℕ) → a < joint_actions solo
@@ -146,8 +161,17 @@ unfolding solo front_bound exact reward_factor weights_after weights_after_in we
     is_exact_mode unit_of value_scale shared_worth_in joint_row_action next_joint_row constant_worth low_worth form_in
     plain_form constant_policy
 needless_branch planned =
-    omega (arith, ints, planned.inner_nodes 0 (record { tree = leaf (pos 0); above = 0; front = root_front solo; cap =
-        pos 0 }) (omega arith) 1 (omega arith))
+    omega (
+      arith,
+      ints,
+      planned.inner_nodes 0 (record {
+        tree = leaf (pos 0);
+        above = 0;
+        front = root_front solo;
+        cap =
+            pos 0;
+      }) (omega arith) 1 (omega arith),
+    )
 
 -- a lower end below the worth of a constant policy
 worse_constant : IsPlanned solo any_place 1 (asked 1) (record best { lower = pos 1; policy = one_row 0 ∷ [] }) → ⊥

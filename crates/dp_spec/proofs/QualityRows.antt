@@ -1,7 +1,7 @@
 -- Worked rows of the qualities of certificates: closed, lean, merged and ruled, each where it holds and where it does
 -- not.
-use Rattle.std.proofs.Common.{◌≡◌, ℕ, zero, suc, Bool, true, false, ℤ, pos, List, [], ◌∷◌, length, ap, subst, Some,
-    refl, arith}
+use Rattle.std.proofs.Common.{◌≡◌, ℕ, zero, suc, Bool, true, false, ℤ, pos, List, [], ◌∷◌, length, ap, subst, Some}
+use Rattle.std.proofs.Common.{refl, arith}
 use Rattle.std.specs.Prelude.{◌≤ℤ◌, ◌<ℤ◌, All, slice_get, unwrap_or, Option}
 use Rattle.std.proofs.lemmas.Int.{ints}
 use Rattle.std.proofs.lemmas.List.Elements.{All-from_recursion}
@@ -13,14 +13,15 @@ use Rattle.dp_spec.specs.LookAhead.{weights_after}
 use Rattle.dp_spec.specs.Merge.{merged_agent, merged_front}
 use Rattle.dp_base.specs.Rounding.{ceiling_of, mul_down, mul_up}
 use Rattle.dp_spec.specs.Arithmetic.{exact, outward, reward_factor}
-use Rattle.dp_spec.specs.Quantities.{action_look_ahead_in, class_weight_in, weighted_reward_in, weighted_table_in,
-    weights_after_in}
+use Rattle.dp_spec.specs.Quantities.{action_look_ahead_in, class_weight_in, weighted_reward_in, weighted_table_in}
+use Rattle.dp_spec.specs.Quantities.{weights_after_in}
 use Rattle.dp_spec.specs.BoundTree.{BoundTree, branch, leaf, merge, more_bound_trees, no_bound_trees}
 use Rattle.dp_spec.specs.Wide.{is_room, is_wide, widens}
 use Rattle.dp_spec.specs.Fitting.{front_bound}
 use Rattle.dp_spec.specs.Certificate.{Certificate, arithmetic_for}
-use Rattle.dp_spec.specs.Qualities.{IfBranch, places_of, IfInner, IfNarrowLeaf, IfOpenLeaf, Node, HasNoEquivalent,
-    IsClosed, IsLean, IsMerged, IsRefined, IsRuled, Place, certificate_nodes, spread_of, upper_weight}
+use Rattle.dp_spec.specs.Qualities.{IfBranch, places_of, IfInner, IfNarrowLeaf, IfOpenLeaf, Node, HasNoEquivalent}
+use Rattle.dp_spec.specs.Qualities.{IsClosed, IsLean, IsMerged, IsRefined, IsRuled, Place, certificate_nodes}
+use Rattle.dp_spec.specs.Qualities.{spread_of, upper_weight}
 use Rattle.dp_spec.proofs.SmallModels.{blind, solo, tiger}
 use Rattle.dp_spec.proofs.SmallRows.{heard_and_never_are_equivalent, waited}
 use Rattle.dp_spec.proofs.TreeRows.{both_actions}
@@ -73,8 +74,10 @@ unfolding solo front_bound exact outward mul_down mul_up ceiling_of reward_facto
     agreeing_actions joint_observations joint_actions trans_at obs_at reward_at start_at step_scale root_front
     front_after_choice advanced_agent is_wide widens is_room
 full_leaf_above_in_outward = record {
-  open_leaves = All-from_recursion (low_leaves (low_end false)) (certificate_nodes solo (low_end false)) (tt,
-      ((λ early. absurd (omega arith)), ((λ early. absurd (omega arith)), tt)));
+  open_leaves = All-from_recursion (low_leaves (low_end false)) (certificate_nodes solo (low_end false)) (
+    tt,
+    ((λ early. absurd (omega arith)), ((λ early. absurd (omega arith)), tt)),
+  );
   exact_leaves = λ (e : false ≡ true). cc;
 }
 
@@ -107,8 +110,12 @@ unfolding solo front_bound exact outward mul_down mul_up ceiling_of reward_facto
     weighted_reward_in weighted_table_in action_look_ahead_in class_weight_in joint_class fixed_joint_action
     agreeing_actions joint_observations joint_actions trans_at obs_at reward_at start_at step_scale root_front
     front_after_choice advanced_agent is_wide widens is_room
-branch_below_an_open_leaf lean = omega (arith, ints, lean 1 no_node (omega arith) 4 no_node (omega arith)
-    (omega arith) refl (omega (arith, ints)))
+branch_below_an_open_leaf lean = omega (
+  arith,
+  ints,
+  lean 1 no_node (omega arith) 4 no_node (omega arith)
+      (omega arith) refl (omega (arith, ints)),
+)
 
 -- no leaf that can be refined states more than the lower end
 lean_two_steps : IsLean solo (two_steps (leaf (pos 4)) (refined (pos 4) (pos 6)))
@@ -121,11 +128,20 @@ lean_two_steps =
     let nodes = certificate_nodes solo c in
     let of_leaf : All (λ (k : Node). Unit {0}) nodes = λ k d lt. tt in
     let of_branch : All (λ (k : Node). IfNarrowLeaf solo 2 k (λ x. pos 4 <ℤ x → x ≤ℤ pos 6)) nodes =
-    All-from_recursion (λ (k : Node). IfNarrowLeaf solo 2 k (λ x. pos 4 <ℤ x → x ≤ℤ pos 6)) nodes
-    (tt, ((λ early narrow more. omega (arith, ints)), (tt,
-        ((λ early. absurd (omega arith)), ((λ early. absurd (omega arith)), tt))))) in
-    All-from_recursion (λ n. All (lean_at c n) nodes) nodes (of_branch,
-        (of_leaf, (of_branch, (of_leaf, (of_leaf, tt)))))
+    All-from_recursion (λ (k : Node). IfNarrowLeaf solo 2 k (λ x. pos 4 <ℤ x → x ≤ℤ pos 6)) nodes (
+      tt,
+      (
+        (λ early narrow more. omega (arith, ints)),
+        (
+          tt,
+          ((λ early. absurd (omega arith)), ((λ early. absurd (omega arith)), tt)),
+        ),
+      ),
+    ) in
+    All-from_recursion (λ n. All (lean_at c n) nodes) nodes (
+      of_branch,
+      (of_leaf, (of_branch, (of_leaf, (of_leaf, tt)))),
+    )
 
 -- a branch may stand where its bound is that of the leaf
 lean_where_equal : IsLean solo (two_steps (leaf (pos 4)) (leaf (pos 6)))
@@ -166,7 +182,7 @@ unfolding solo front_bound exact outward mul_down mul_up ceiling_of reward_facto
     front_after_choice advanced_agent is_wide widens is_room
 solo_is_refined =
     All-from_recursion (λ (n : Node). IfOpenLeaf 1 n (λ x. pos 3 <ℤ x → is_wide solo 1 n.above n.front ≡ true))
-        (certificate_nodes solo (solo_certificate 1))
+    (certificate_nodes solo (solo_certificate 1))
     (tt, ((λ early. absurd (omega arith)), ((λ early. absurd (omega arith)), tt)))
 
 open_solo_is_not_refined : IsRefined solo open_solo → ⊥
@@ -199,8 +215,10 @@ waits c k = branch 0 c (more_bound_trees k no_bound_trees)
 -- both classes are branched on, though one never comes
 unmerged : IsMerged blind (waited_twice true (waits 0 (waits 1 (leaf (pos 2))))) → ⊥
 unfolding blind root_front front_after_choice advanced_agent
-unmerged is = is.branches 1 no_node (omega arith) 0 0 1 (omega arith) (omega arith, refl) (omega arith,
-    refl) heard_and_never_are_equivalent
+unmerged is = is.branches 1 no_node (omega arith) 0 0 1 (omega arith) (omega arith, refl) (
+  omega arith,
+  refl,
+) heard_and_never_are_equivalent
 
 -- a single class leaves nothing to merge
 one_class : (F : Front) (d : AgentFront) → F.agents ≡ d ∷ [] → length d.chosen ≡ 1 → HasNoEquivalent blind F
@@ -221,10 +239,17 @@ merged_is_merged : IsMerged blind merged_wait
 unfolding blind root_front front_after_choice advanced_agent
 merged_is_merged = record {
   exact = refl;
-  branches = All-from_recursion unmerged_at (certificate_nodes blind merged_wait)
-      (one_class (root_front blind) root_agent refl refl,
-          (tt, (one_class (merged_front waited 0 0 1) (merged_agent 0 1
-          (advanced_agent 2 0 (record root_agent { chosen = Some 0 ∷ [] }))) refl refl, (tt, tt))));
+  branches = All-from_recursion unmerged_at (certificate_nodes blind merged_wait) (
+    one_class (root_front blind) root_agent refl refl,
+    (
+      tt,
+      (
+        one_class (merged_front waited 0 0 1) (merged_agent 0 1
+            (advanced_agent 2 0 (record root_agent { chosen = Some 0 ∷ [] }))) refl refl,
+        (tt, tt),
+      ),
+    ),
+  );
 }
 
 -- in outward mode nothing is called merged
@@ -261,9 +286,14 @@ unfolding tiger root_front
 second_is_not_first ruled =
     let A = exact tiger.scales in
     let at = ruled 0 no_node (omega arith) in
-    let first : Place = record { agent = 0; class = 0; weight = upper_weight A tiger (root_front tiger) 0 0; spread =
-        spread_of A tiger 2 1 (root_front tiger) 0 0 } in
+    let first : Place = record {
+      agent = 0;
+      class = 0;
+      weight = upper_weight A tiger (root_front tiger) 0 0;
+      spread =
+          spread_of A tiger 2 1 (root_front tiger) 0 0;
+    } in
     let here : Some first ≡ Some at.2.0 = subst (λ x. slice_get (places_of A tiger 2 1 (root_front tiger)) x
-        ≡ Some at.2.0) at.1 at.2.1 in
+    ≡ Some at.2.0) at.1 at.2.1 in
     let same : 0 ≡ at.2.0.agent = ap (λ (p : Option Place). (unwrap_or p first).agent) here in
     omega (arith, same, at.2.2)

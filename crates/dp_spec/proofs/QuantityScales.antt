@@ -34,7 +34,7 @@ pub scale_after_reward : (m : Model) (T r : ℕ)
     ≡ T * (m.scales.reward * step_scale m ^ suc r)
 scale_after_reward m T r =
     times_gain T (step_scale m) m.scales.trans m.scales.obs m.scales.discount (step_scale m ^ r) m.scales.reward
-        (step_scale_is m)
+    (step_scale_is m)
     ∙ ap (λ (n : ℕ). T * (m.scales.reward * n)) (sym (pow-suc (step_scale m) r))
 
 -- a value of the table one step earlier
@@ -56,8 +56,11 @@ scale_after_tail m T r = times_tail T m.scales.reward (step_scale m) (step_scale
 pub scale_at_stage : (m : Model) (t r : ℕ)
     → m.scales.start * step_scale m ^ t * (m.scales.reward * step_scale m ^ r) ≡ value_scale m (t + r)
 unfolding value_scale
-scale_at_stage m t r = omega (arith, ap (λ (n : ℕ). m.scales.start * (m.scales.reward * n))
-    (pow-add (step_scale m) t r))
+scale_at_stage m t r = omega (
+  arith,
+  ap (λ (n : ℕ). m.scales.start * (m.scales.reward * n))
+      (pow-add (step_scale m) t r),
+)
 
 -- weights against a value of r rewards of at most x, where two powers make up one
 pub weights_times_value : (d p r x q k : ℕ) → p * q ≡ k → d * p * (r * x * q) ≡ r * (d * k * x)

@@ -1,7 +1,7 @@
 -- Worked rows of the first reason why a certificate is not valid, one for each kind of reason and for their order.
 use Rattle.std.proofs.Common.{◌≡◌, ℕ, true, false, ℤ, pos, negsuc, [], ◌∷◌, Some, None, refl}
-use Rattle.dp_spec.specs.Model.{joint_actions, joint_observations, obs_at, reward_at, start_at, step_scale, trans_at,
-    value_scale}
+use Rattle.dp_spec.specs.Model.{joint_actions, joint_observations, obs_at, reward_at, start_at, step_scale, trans_at}
+use Rattle.dp_spec.specs.Model.{value_scale}
 use Rattle.dp_spec.specs.Mode.{is_exact_mode, unit_of}
 use Rattle.dp_spec.specs.Front.{fixed_joint_action, joint_class}
 use Rattle.dp_spec.specs.Bound.{agreeing_actions}
@@ -11,16 +11,16 @@ use Rattle.dp_spec.specs.Merge.{class_of_agent, class_of_others, class_total, pl
 use Rattle.dp_spec.specs.UnequalPlaces.{first_unequal, place_count}
 use Rattle.dp_base.specs.Rounding.{ceiling_of, mul_down, mul_up}
 use Rattle.dp_spec.specs.Arithmetic.{exact, outward, reward_factor}
-use Rattle.dp_spec.specs.Quantities.{action_look_ahead_in, class_weight_in, weighted_reward_in, weighted_table_in,
-    weights_after_in}
+use Rattle.dp_spec.specs.Quantities.{action_look_ahead_in, class_weight_in, weighted_reward_in, weighted_table_in}
+use Rattle.dp_spec.specs.Quantities.{weights_after_in}
 use Rattle.dp_spec.specs.SharedPolicy.{AgentRows}
 use Rattle.dp_spec.specs.SharedWorth.{joint_row_action, next_joint_row, shared_worth_in}
 use Rattle.dp_spec.specs.BoundTree.{BoundTree, branch, leaf, merge, more_bound_trees, no_bound_trees}
 use Rattle.dp_spec.specs.Wide.{is_room, is_wide, widens}
 use Rattle.dp_spec.specs.Fitting.{front_bound}
 use Rattle.dp_spec.specs.Certificate.{Certificate}
-use Rattle.dp_spec.specs.Reasons.{bound_is, children_are, first_reason, inner_is, lower_is, mode_is, no_place,
-    unequal_at, unit_is, upper_is}
+use Rattle.dp_spec.specs.Reasons.{bound_is, children_are, first_reason, inner_is, lower_is, mode_is, no_place}
+use Rattle.dp_spec.specs.Reasons.{unequal_at, unit_is, upper_is}
 use Rattle.dp_spec.proofs.SmallModels.{solo, tiger}
 use Rattle.dp_spec.proofs.CertificateRows.{solo_certificate}
 

@@ -17,8 +17,11 @@ scales_in_range c are = record {
   start = (are.start, are.start_limit);
   trans = (are.trans, are.trans_limit);
   obs = (are.obs, are.obs_limit);
-  reward = (are.reward, let le : are.reward_digits.0 ≤ 18 = let nine = are.reward_digits.1 in omega arith in
-      power_most c.reward are.reward_digits.0 le are.reward_digits.2);
+  reward = (
+    are.reward,
+    let le : are.reward_digits.0 ≤ 18 = let nine = are.reward_digits.1 in omega arith in
+        power_most c.reward are.reward_digits.0 le are.reward_digits.2,
+  );
   discount = (are.discount, power_most c.discount are.discount_digits.0 are.discount_digits.1 are.discount_digits.2);
   gain = are.gain;
 }

@@ -1,7 +1,7 @@
 -- Worked rows of the small models: discount, merging, outward numbers, certificates.
 use Rattle.std.proofs.Common.{◌≡◌, ◌<◌, ℕ, pos, [], ◌∷◌, refl, arith}
-use Rattle.dp_spec.specs.Model.{joint_actions, joint_observations, start_at, trans_at, obs_at, reward_at, step_scale,
-    value_scale}
+use Rattle.dp_spec.specs.Model.{joint_actions, joint_observations, start_at, trans_at, obs_at, reward_at, step_scale}
+use Rattle.dp_spec.specs.Model.{value_scale}
 use Rattle.dp_spec.specs.PolicyTree.{PolicyTree, node, no_trees, more_trees}
 use Rattle.dp_spec.specs.Value.{joint_root_action, trees_after, policy_value}
 use Rattle.dp_spec.specs.MdpTable.{mdp_table}
@@ -11,8 +11,8 @@ use Rattle.dp_spec.specs.Quantities.{forward_worth_in, mdp_table_in, weighted_re
 use Rattle.dp_spec.specs.JointHistory.{earned_reward}
 use Rattle.dp_spec.specs.Front.{Front, fixed_joint_action, joint_class, class_weight}
 use Rattle.dp_spec.specs.Steps.{root_front, front_after_choice, advanced_agent}
-use Rattle.dp_spec.specs.Merge.{AreEquivalent, class_of_agent, class_of_others, place_weight, class_total,
-    merged_front}
+use Rattle.dp_spec.specs.Merge.{AreEquivalent, class_of_agent, class_of_others, place_weight, class_total}
+use Rattle.dp_spec.specs.Merge.{merged_front}
 use Rattle.dp_spec.proofs.SmallModels.{blind, drift, halved, tiger}
 
 -- ---- the discount is one half: the first reward of 3 counts in full, the second by one half

@@ -39,7 +39,7 @@ pub line_text-row : (b n t : ℕ) (q : PolicyTree)
     → line_text (row_form b n t) (map pos (row_actions n q t)) ≡ join_with_byte 32 (map decimal (row_actions n q t))
 line_text-row b n t q =
     subst (λ (k : ℕ). line_text (replicate k (plain 0 (b - 1))) (map pos (row_actions n q t))
-        ≡ join_with_byte 32 (map decimal (row_actions n q t)))
+    ≡ join_with_byte 32 (map decimal (row_actions n q t)))
     (length-map-range_with_len (λ x. root_action (tree_at n q t x)) 0 (n ^ t))
     (ap (join_with_byte 32) (spelled_items-replicate 0 (b - 1) (row_actions n q t)))
 
@@ -49,8 +49,19 @@ one_row a = (record { action = a; next = [] } ∷ []) ∷ []
 
 -- whatever its numbers are, a certificate of version 1, of one step and one agent with one leaf is these lines
 pub one_leaf : (b n look inner action : ℕ) (unit lower upper bound : ℤ)
-    → certificate_text (b ∷ []) (n ∷ []) (record { version = 1; horizon = 1; look = look; is_exact = true; unit =
-        unit; lower = lower; upper = upper; inner = inner; policy = one_row action ∷ []; tree = leaf bound })
+    → certificate_text (b ∷ []) (n ∷ []) (record {
+      version = 1;
+      horizon = 1;
+      look = look;
+      is_exact = true;
+      unit =
+          unit;
+      lower = lower;
+      upper = upper;
+      inner = inner;
+      policy = one_row action ∷ [];
+      tree = leaf bound;
+    })
     ≡ codes "decplan certificate 1\nhorizon 1\nlook "
     ++ (decimal look
     ++ (codes "\nmode exact\nunit "
@@ -60,7 +71,7 @@ pub one_leaf : (b n look inner action : ℕ) (unit lower upper bound : ℤ)
     ++ (codes "\nupper "
     ++ (signed_decimal upper
     ++ (codes "\ninner " ++ (decimal inner ++ (codes "\npolicy\nagent 0\n"
-        ++ (decimal action ++ (codes "\ntree\nL " ++ (signed_decimal bound ++ codes "\nend\n")))))))))))))
+    ++ (decimal action ++ (codes "\ntree\nL " ++ (signed_decimal bound ++ codes "\nend\n")))))))))))))
 unfolding certificate_text certificate_rows
 one_leaf b n look inner action unit lower upper bound =
     rw (pow-zero n, decimal_digit 0 (omega arith), decimal_digit 1 (omega arith)) refl

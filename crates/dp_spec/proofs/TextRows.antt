@@ -71,40 +71,95 @@ two_rows a b c =
 
 -- both agents listen once, and the tree is one leaf
 listen_once : certificate_text (3 ∷ 3 ∷ []) (2 ∷ 2 ∷ [])
-    (record { version = 1; horizon = 1; look = 1; is_exact = true; unit = pos 40000; lower = negsuc 79999; upper =
-    negsuc 79999; inner = 0; policy = one_row 0 ∷ one_row 0 ∷ []; tree = leaf (negsuc 79999) })
+    (record {
+      version = 1;
+      horizon = 1;
+      look = 1;
+      is_exact = true;
+      unit = pos 40000;
+      lower = negsuc 79999;
+      upper =
+          negsuc 79999;
+      inner = 0;
+      policy = one_row 0 ∷ one_row 0 ∷ [];
+      tree = leaf (negsuc 79999);
+    })
     ≡ codes "decplan certificate 1\nhorizon 1\nlook 1\nmode exact\nunit 40000\nlower -80000\nupper -80000\ninner 0\npolicy\nagent 0\n0\nagent 1\n0\ntree\nL -80000\nend\n"
 unfolding certificate_text certificate_rows digits
 listen_once = refl
 
 -- one agent with two actions: a branch, and a leaf for each action
-two_leaves : certificate_text (2 ∷ []) (1 ∷ []) (record { version = 1; horizon = 1; look = 1; is_exact = true; unit =
-    pos 1; lower = pos 3; upper = pos 3; inner = 1; policy = one_row 1 ∷ []; tree =
-    branch 0 0 (more_bound_trees (leaf (pos 1)) (more_bound_trees (leaf (pos 3)) no_bound_trees)) })
+two_leaves : certificate_text (2 ∷ []) (1 ∷ []) (record {
+  version = 1;
+  horizon = 1;
+  look = 1;
+  is_exact = true;
+  unit =
+      pos 1;
+  lower = pos 3;
+  upper = pos 3;
+  inner = 1;
+  policy = one_row 1 ∷ [];
+  tree =
+      branch 0 0 (more_bound_trees (leaf (pos 1)) (more_bound_trees (leaf (pos 3)) no_bound_trees));
+})
     ≡ codes "decplan certificate 1\nhorizon 1\nlook 1\nmode exact\nunit 1\nlower 3\nupper 3\ninner 1\npolicy\nagent 0\n1\ntree\nB 0 0 2\nL 1\nL 3\nend\n"
 unfolding certificate_text certificate_rows digits
 two_leaves = refl
 
 -- a merge below a branch: its child follows it at once, before the branch's second child; and outward mode
-merge_below : certificate_text (2 ∷ []) (2 ∷ []) (record { version = 1; horizon = 2; look = 16; is_exact =
-    false; unit = pos 1000000000; lower = negsuc 0; upper = pos 0; inner = 2; policy = two_rows 1 0 1 ∷ []; tree =
-    branch 0 0 (more_bound_trees (merge 0 0 1 (leaf (pos 0))) (more_bound_trees (leaf (negsuc 1)) no_bound_trees)) })
+merge_below : certificate_text (2 ∷ []) (2 ∷ []) (record {
+  version = 1;
+  horizon = 2;
+  look = 16;
+  is_exact =
+      false;
+  unit = pos 1000000000;
+  lower = negsuc 0;
+  upper = pos 0;
+  inner = 2;
+  policy = two_rows 1 0 1 ∷ [];
+  tree =
+      branch 0 0 (more_bound_trees (merge 0 0 1 (leaf (pos 0))) (more_bound_trees (leaf (negsuc 1)) no_bound_trees));
+})
     ≡ codes "decplan certificate 1\nhorizon 2\nlook 16\nmode outward\nunit 1000000000\nlower -1\nupper 0\ninner 2\npolicy\nagent 0\n1\n0 1\ntree\nB 0 0 2\nM 0 0 1\nL 0\nL -2\nend\n"
 unfolding certificate_text certificate_rows digits
 merge_below = refl
 
 -- version 2: a line with the counts of the stages, and a line for each row
 listen_once_shared : certificate_text (3 ∷ 3 ∷ []) (2 ∷ 2 ∷ [])
-    (record { version = 2; horizon = 1; look = 1; is_exact = true; unit = pos 40000; lower = negsuc 79999; upper =
-    negsuc 79999; inner = 0; policy = one_row 0 ∷ one_row 0 ∷ []; tree = leaf (negsuc 79999) })
+    (record {
+      version = 2;
+      horizon = 1;
+      look = 1;
+      is_exact = true;
+      unit = pos 40000;
+      lower = negsuc 79999;
+      upper =
+          negsuc 79999;
+      inner = 0;
+      policy = one_row 0 ∷ one_row 0 ∷ [];
+      tree = leaf (negsuc 79999);
+    })
     ≡ codes "decplan certificate 2\nhorizon 1\nlook 1\nmode exact\nunit 40000\nlower -80000\nupper -80000\ninner 0\npolicy\nagent 0\nrows 1\n0\nagent 1\nrows 1\n0\ntree\nL -80000\nend\n"
 unfolding certificate_text certificate_rows digits
 listen_once_shared = refl
 
 -- the rows stand stage after stage, each with its action and then its next rows
-rows_by_stage : certificate_text (2 ∷ []) (2 ∷ []) (record { version = 2; horizon = 2; look = 16; is_exact =
-    false; unit = pos 1000000000; lower = negsuc 0; upper = pos 0; inner = 0; policy = two_rows 1 0 1 ∷ []; tree =
-    leaf (pos 0) })
+rows_by_stage : certificate_text (2 ∷ []) (2 ∷ []) (record {
+  version = 2;
+  horizon = 2;
+  look = 16;
+  is_exact =
+      false;
+  unit = pos 1000000000;
+  lower = negsuc 0;
+  upper = pos 0;
+  inner = 0;
+  policy = two_rows 1 0 1 ∷ [];
+  tree =
+      leaf (pos 0);
+})
     ≡ codes "decplan certificate 2\nhorizon 2\nlook 16\nmode outward\nunit 1000000000\nlower -1\nupper 0\ninner 0\npolicy\nagent 0\nrows 1 2\n1 0 1\n0\n1\ntree\nL 0\nend\n"
 unfolding certificate_text certificate_rows digits
 rows_by_stage = refl

@@ -1,7 +1,7 @@
 -- Worked rows of the tiger model at horizons 1, 2 and 3.
 use Rattle.std.proofs.Common.{◌≡◌, ◌*◌, pos, negsuc, List, [], ◌∷◌, refl, arith}
-use Rattle.dp_spec.specs.Model.{joint_actions, joint_observations, start_at, trans_at, obs_at, reward_at, step_scale,
-    value_scale}
+use Rattle.dp_spec.specs.Model.{joint_actions, joint_observations, start_at, trans_at, obs_at, reward_at, step_scale}
+use Rattle.dp_spec.specs.Model.{value_scale}
 use Rattle.dp_spec.specs.PolicyTree.{PolicyTree, node, no_trees, more_trees}
 use Rattle.dp_spec.specs.Value.{joint_root_action, trees_after, policy_value}
 use Rattle.dp_spec.specs.MdpTable.{mdp_table}

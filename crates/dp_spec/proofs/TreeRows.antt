@@ -5,10 +5,10 @@ use Rattle.dp_spec.specs.Front.{fixed_joint_action, joint_class}
 use Rattle.dp_spec.specs.Bound.{agreeing_actions}
 use Rattle.dp_spec.specs.Steps.{chosen_front, root_front, front_after_choice, advanced_agent}
 use Rattle.dp_spec.specs.Arithmetic.{exact, reward_factor}
-use Rattle.dp_spec.specs.Quantities.{weights_after_in, weighted_reward_in, weighted_table_in, action_look_ahead_in,
-    class_weight_in}
-use Rattle.dp_spec.specs.BoundTree.{BoundTree, leaf, branch, no_bound_trees, more_bound_trees, inner_count, depth_of,
-    greatest_leaf}
+use Rattle.dp_spec.specs.Quantities.{weights_after_in, weighted_reward_in, weighted_table_in, action_look_ahead_in}
+use Rattle.dp_spec.specs.Quantities.{class_weight_in}
+use Rattle.dp_spec.specs.BoundTree.{BoundTree, leaf, branch, no_bound_trees, more_bound_trees, inner_count, depth_of}
+use Rattle.dp_spec.specs.BoundTree.{greatest_leaf}
 use Rattle.dp_spec.specs.Fitting.{front_bound}
 use Rattle.dp_spec.specs.Qualities.{Place, Node, nodes_of, places_of, upper_weight, spread_of}
 use Rattle.dp_spec.proofs.SmallModels.{solo, tiger}

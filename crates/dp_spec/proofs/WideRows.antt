@@ -32,8 +32,15 @@ waited_is_not_wide = refl
 
 -- once one of them is left, it is
 abbrev pub all_but_one : Front
-all_but_one = record { stage = 1; agents = record { fixed = []; class_of = []; chosen =
-    None ∷ replicate 255 (Some 0) } ∷ [] }
+all_but_one = record {
+  stage = 1;
+  agents = record {
+    fixed = [];
+    class_of = [];
+    chosen =
+        None ∷ replicate 255 (Some 0);
+  } ∷ [];
+}
 
 pub all_but_one_is_wide : is_wide fan 3 256 all_but_one ≡ true
 unfolding fan is_wide widens is_room joint_actions

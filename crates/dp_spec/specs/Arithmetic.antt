@@ -42,8 +42,11 @@ exact c = record {
   one = point (pos 1);
   chance = λ w p z. record { low = w.low *ℤ pos (p * z); high = w.high *ℤ pos (p * z) };
   later = λ w. record { low = w.low *ℤ pos c.gain; high = w.high *ℤ pos c.gain };
-  gain = λ w r rest. record { low = w.low *ℤ (r *ℤ pos (reward_factor c rest)); high =
-      w.high *ℤ (r *ℤ pos (reward_factor c rest)) };
+  gain = λ w r rest. record {
+    low = w.low *ℤ (r *ℤ pos (reward_factor c rest));
+    high =
+        w.high *ℤ (r *ℤ pos (reward_factor c rest));
+  };
   carry = λ v p. v *ℤ pos (p * c.obs * c.gain);
   tail = λ w v. w.low *ℤ v;
   is_exact = true;
@@ -52,8 +55,11 @@ exact c = record {
 -- Weights are counted in 10^-12 and values in 10^-9. Each product is divided at once and rounded outward.
 unfoldable pub outward : Scales → Arithmetic
 outward c = record {
-  start = λ b. record { low = mul_down (pos b) (pos (10 ^ 12)) c.start; high =
-      mul_up (pos b) (pos (10 ^ 12)) c.start };
+  start = λ b. record {
+    low = mul_down (pos b) (pos (10 ^ 12)) c.start;
+    high =
+        mul_up (pos b) (pos (10 ^ 12)) c.start;
+  };
   one = point (pos (10 ^ 12));
   chance = λ w p z. record {
     low = mul_down (mul_down w.low (pos p) c.trans) (pos z) c.obs;

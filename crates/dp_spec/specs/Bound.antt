@@ -1,7 +1,7 @@
 -- The bound of a front: a collaborative Bayesian game over its joint classes (Oliehoek and Amato, chapter 5; JAIR 46
 -- (2013)).
-use Rattle.std.specs.Prelude.{ℕ, zero, suc, ◌+◌, Bool, true, false, ◌&&◌, ◌==◌, ℤ, ◌+ℤ◌, List, [], ◌∷◌, filter,
-    get_or, Option, Some, None}
+use Rattle.std.specs.Prelude.{ℕ, zero, suc, ◌+◌, Bool, true, false, ◌&&◌, ◌==◌, ℤ, ◌+ℤ◌, List, [], ◌∷◌, filter}
+use Rattle.std.specs.Prelude.{get_or, Option, Some, None}
 use Rattle.dp_base.specs.Sums.{int_sum, greatest, numbers_below}
 use Rattle.dp_spec.specs.JointNumbers.{product, parts_of}
 use Rattle.dp_spec.specs.Model.{Model, joint_actions}

@@ -4,11 +4,11 @@ use Rattle.std.specs.Int.{w128}
 use Rattle.dp_spec.specs.Model.{Model}
 use Rattle.dp_spec.specs.SharedPolicy.{unfolded}
 use Rattle.dp_spec.specs.SharedRows.{shared_policy_rows}
-use Rattle.dp_spec.specs.BoundTree.{BoundTree, BoundTrees, child_count, leaf, branch, merge, no_bound_trees,
-    more_bound_trees}
+use Rattle.dp_spec.specs.BoundTree.{BoundTree, BoundTrees, child_count, leaf, branch, merge, no_bound_trees}
+use Rattle.dp_spec.specs.BoundTree.{more_bound_trees}
 use Rattle.dp_spec.specs.Certificate.{Certificate, HasPolicyOfVersion}
-use Rattle.dp_spec.specs.TextLines.{Item, fixed, plain, signed, any_plain, Line, fixed_line, text_of_lines, Allows,
-    AllAllowed}
+use Rattle.dp_spec.specs.TextLines.{Item, fixed, plain, signed, any_plain, Line, fixed_line, text_of_lines, Allows}
+use Rattle.dp_spec.specs.TextLines.{AllAllowed}
 use Rattle.dp_spec.specs.PolicyText.{title_form, horizon_form, end_form, horizon_line, policy_rows, agent_lines}
 
 -- ---- the forms of the lines

@@ -5,8 +5,8 @@ use Rattle.dp_spec.specs.JointNumbers.{joint_number, parts_of, product}
 use Rattle.dp_spec.specs.Model.{Model, joint_observations}
 use Rattle.dp_spec.specs.Front.{AgentFront, Front, class_counts, fixed_joint_action, joint_class, next_own_histories}
 use Rattle.dp_spec.specs.Arithmetic.{Arithmetic, point}
-use Rattle.dp_spec.specs.Quantities.{class_weight_in, history_weight_in, span_history_sum, weighted_reward_in,
-    weights_after_in}
+use Rattle.dp_spec.specs.Quantities.{class_weight_in, history_weight_in, span_history_sum, weighted_reward_in}
+use Rattle.dp_spec.specs.Quantities.{weights_after_in}
 
 -- the actions that are chosen for classes cs, and 0 where none is
 abbrev pub actions_for : List AgentFront → List ℕ → List ℕ

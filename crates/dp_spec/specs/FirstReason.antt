@@ -7,8 +7,8 @@ use Rattle.dp_spec.specs.BoundTree.{BoundTree, branch, child_count, greatest_lea
 use Rattle.dp_spec.specs.Certificate.{Certificate, arithmetic_for}
 use Rattle.dp_spec.specs.Qualities.{Node, certificate_nodes}
 use Rattle.dp_spec.specs.RightNodes.{AreRightNodes, MayStand}
-use Rattle.dp_spec.specs.Reasons.{Reason, bound_is, children_are, inner_is, lower_is, lower_of, mode_is, no_place,
-    unequal_at, unit_is, upper_is}
+use Rattle.dp_spec.specs.Reasons.{Reason, bound_is, children_are, inner_is, lower_is, lower_of, mode_is, no_place}
+use Rattle.dp_spec.specs.Reasons.{unequal_at, unit_is, upper_is}
 
 -- the mode, the unit and the lower end are right
 pub record HasRightHead (m : Model) (c : Certificate) : Type 0 where
@@ -31,7 +31,7 @@ pub record IsFirstWrong (m : Model) (c : Certificate) (k : ℕ) (Wrong : Node �
 abbrev pub HasOtherChildren : Model → Certificate → ℕ → Node → BoundTree → Type 0
 HasOtherChildren m c count n (branch i k ks) =
     MayStand (arithmetic_for m c) m c.horizon n (branch i k ks) × (count ≡ get_or m.actions i 0)
-        × ¬ (child_count ks ≡ count)
+    × ¬ (child_count ks ≡ count)
 HasOtherChildren m c count n T = ⊥
 
 -- the classes of a merge that may stand where it does differ first at place p
@@ -58,7 +58,7 @@ IsFirstReason m c (unit_is u) =
     (c.is_exact ≡ is_exact_mode m c.horizon) × (u ≡ pos (unit_of m c.horizon)) × ¬ (c.unit ≡ u)
 IsFirstReason m c (lower_is x) =
     (c.is_exact ≡ is_exact_mode m c.horizon) × (c.unit ≡ pos (unit_of m c.horizon)) × (x ≡ lower_of m c)
-        × ¬ (c.lower ≡ x)
+    × ¬ (c.lower ≡ x)
 IsFirstReason m c (no_place k) = IsFirstWrong m c k (λ n T. ¬ MayStand (arithmetic_for m c) m c.horizon n T)
 IsFirstReason m c (children_are k count) = IsFirstWrong m c k (HasOtherChildren m c count)
 IsFirstReason m c (unequal_at k p) = IsFirstWrong m c k (HasUnequalClasses m c p)

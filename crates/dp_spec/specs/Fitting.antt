@@ -25,7 +25,7 @@ abbrev mutual
   FitsFront A m h look above (merge i a b k) F cap =
       (F.stage < h) × (a < b) × IsUnassigned i a F.agents × IsUnassigned i b F.agents × AreEquivalent m F i a b
       × FitsFront A m h look (suc above) k (merged_front F i a b)
-          (int_min cap (front_bound A m h look (merged_front F i a b)))
+      (int_min cap (front_bound A m h look (merged_front F i a b)))
       × IsTrue A.is_exact × (is_wide m h above F ≡ false)
 
   -- one tree for each action of the agent from a on, which fits the front after that choice

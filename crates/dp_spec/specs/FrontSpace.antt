@@ -1,6 +1,6 @@
 -- The space of a planner: the fronts of a model, with merging or without, under a branching rule.
-use Rattle.std.specs.Prelude.{ℕ, ◌<◌, ◌≡◌, Bool, true, not, nat_lt, IsTrue, ℤ, List, [], ◌∷◌, map, slice_get, get_or,
-    Some}
+use Rattle.std.specs.Prelude.{ℕ, ◌<◌, ◌≡◌, Bool, true, not, nat_lt, IsTrue, ℤ, List, [], ◌∷◌, map, slice_get, get_or}
+use Rattle.std.specs.Prelude.{Some}
 use Rattle.std.specs.List.{range_with_len}
 use Rattle.dp_spec.specs.Model.{Model}
 use Rattle.dp_spec.specs.Front.{Front}

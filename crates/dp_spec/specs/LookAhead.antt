@@ -14,7 +14,7 @@ unfoldable pub weighted_reward : Model → ℕ → (ℕ → ℕ) → ℕ → ℤ
 weighted_reward m r w a =
     int_sum m.states (λ s. int_sum m.states (λ t. int_sum (joint_observations m) (λ o.
     pos (w s * (trans_at m a s t * obs_at m a t o)) *ℤ
-        (reward_at m a s t o *ℤ pos (m.scales.discount * step_scale m ^ r)))))
+    (reward_at m a s t o *ℤ pos (m.scales.discount * step_scale m ^ r)))))
 
 -- what can be earned from weights w over the r steps that are left, with look k: k steps of look-ahead, and then the
 -- table
@@ -24,7 +24,7 @@ look_ahead m (suc r) w zero = int_sum m.states (λ s. pos (w s) *ℤ mdp_table m
 look_ahead m (suc r) w (suc k) =
     greatest (λ a. weighted_reward m r w a
     +ℤ int_sum (joint_observations m) (λ o. look_ahead m r (weights_after m w a o) k))
-        (numbers_below (joint_actions m))
+    (numbers_below (joint_actions m))
 
 -- the same where joint action a is done now, with look k of at least 1; r steps are left after this one
 unfoldable pub action_look_ahead : Model → ℕ → (ℕ → ℕ) → ℕ → ℕ → ℤ

@@ -1,6 +1,6 @@
 -- Equivalent classes and merging: probabilistic equivalence of histories (JAIR 46 (2013), lossless clustering).
-use Rattle.std.specs.Prelude.{ℕ, zero, suc, ◌-◌, ◌*◌, ◌<◌, ◌≡◌, cond, ◌==◌, nat_lt, List, [], ◌∷◌, map, filter,
-    length, get_or, ◌≤◌}
+use Rattle.std.specs.Prelude.{ℕ, zero, suc, ◌-◌, ◌*◌, ◌<◌, ◌≡◌, cond, ◌==◌, nat_lt, List, [], ◌∷◌, map, filter}
+use Rattle.std.specs.Prelude.{length, get_or, ◌≤◌}
 use Rattle.std.specs.List.{range_with_len}
 use Rattle.dp_base.specs.Sums.{nat_sum}
 use Rattle.dp_spec.specs.JointNumbers.{joint_number, parts_of, product}
@@ -32,7 +32,7 @@ class_of_agent m F i H = get_or (own_classes F.agents (own_histories m.observati
 unfoldable pub class_of_others : Model → Front → ℕ → List ℕ → ℕ
 class_of_others m F i H =
     joint_number (without i (class_counts F.agents)) (without i
-        (own_classes F.agents (own_histories m.observations H)))
+    (own_classes F.agents (own_histories m.observations H)))
 
 -- the weight of class c of agent i with joint class x of the others and state s
 unfoldable pub place_weight : Model → Front → ℕ → ℕ → ℕ → ℕ → ℕ

@@ -1,6 +1,6 @@
 -- The mode of a model and a horizon, the unit in which its values are counted, and the limits of a horizon.
-use Rattle.std.specs.Prelude.{ℕ, ◌+◌, ◌*◌, ◌-◌, ◌^◌, ◌<◌, ◌≤◌, ◌≡◌, ◌⊎◌, Bool, nat_le, max, unsigned_abs, ℤ, pos,
-    List, [], ◌∷◌, if◌then◌else◌}
+use Rattle.std.specs.Prelude.{ℕ, ◌+◌, ◌*◌, ◌-◌, ◌^◌, ◌<◌, ◌≤◌, ◌≡◌, ◌⊎◌, Bool, nat_le, max, unsigned_abs, ℤ, pos}
+use Rattle.std.specs.Prelude.{List, [], ◌∷◌, if◌then◌else◌}
 use Rattle.dp_base.specs.Sums.{nat_sum}
 use Rattle.dp_spec.specs.Model.{Model, joint_actions, joint_observations, step_scale, value_scale}
 
@@ -13,7 +13,7 @@ greatest_magnitude (r ∷ rs) = max (unsigned_abs r) (greatest_magnitude rs)
 unfoldable pub is_exact_mode : Model → ℕ → Bool
 is_exact_mode m h =
     nat_le (m.scales.start * step_scale m ^ h * h * max (max (greatest_magnitude m.reward) m.scales.reward) 1)
-        (2 ^ 126)
+    (2 ^ 126)
 
 -- what values are counted in: the value scale in exact mode, and else 10^9
 unfoldable pub unit_of : Model → ℕ → ℕ

@@ -8,8 +8,8 @@ use Rattle.dp_spec.specs.SharedPolicy.{unfolded}
 use Rattle.dp_spec.specs.SharedForm.{IsSharedForm}
 use Rattle.dp_spec.specs.SharedWorth.{low_worth}
 use Rattle.dp_spec.specs.Certificate.{Certificate, IsValid, arithmetic_for}
-use Rattle.dp_spec.specs.Qualities.{IfInner, IfLeaf, IsClosed, IsLean, IsMerged, IsRefined, IsRuled, Node, Place,
-    certificate_nodes}
+use Rattle.dp_spec.specs.Qualities.{IfInner, IfLeaf, IsClosed, IsLean, IsMerged, IsRefined, IsRuled, Node, Place}
+use Rattle.dp_spec.specs.Qualities.{certificate_nodes}
 
 -- what a plan is asked for besides its horizon: the version of its certificate, the most branches and merges, the
 -- look of its bounds, and whether it merges

@@ -1,6 +1,7 @@
 -- What can be said of a valid certificate: closed, lean, merged, and ruled by a branching rule. (Own.)
-use Rattle.std.specs.Prelude.{ℕ, suc, ◌<◌, ◌≡◌, ◌==◌, true, false, cond, ℤ, pos, ◌+ℤ◌, neg_ℤ, ◌≤ℤ◌, ◌<ℤ◌, All,
-    slice_get, List, [], ◌∷◌, ◌++◌, map, filter, length, get_or, Option, Some, None, is_none}
+use Rattle.std.specs.Prelude.{ℕ, suc, ◌<◌, ◌≡◌, ◌==◌, true, false, cond, ℤ, pos, ◌+ℤ◌, neg_ℤ, ◌≤ℤ◌, ◌<ℤ◌, All}
+use Rattle.std.specs.Prelude.{slice_get, List, [], ◌∷◌, ◌++◌, map, filter, length, get_or, Option, Some, None}
+use Rattle.std.specs.Prelude.{is_none}
 use Rattle.std.specs.Int.{int_min}
 use Rattle.std.specs.List.{range_with_len, flat_map}
 use Rattle.dp_base.specs.Sums.{int_sum, greatest, numbers_below}
@@ -12,8 +13,8 @@ use Rattle.dp_spec.specs.Merge.{merged_front}
 use Rattle.dp_spec.specs.Pairs.{HasNoPair}
 use Rattle.dp_spec.specs.Arithmetic.{Arithmetic}
 use Rattle.dp_spec.specs.Quantities.{class_weight_in}
-use Rattle.dp_spec.specs.BoundTree.{BoundTree, BoundTrees, leaf, branch, merge, no_bound_trees, more_bound_trees,
-    LeavesAtMost}
+use Rattle.dp_spec.specs.BoundTree.{BoundTree, BoundTrees, leaf, branch, merge, no_bound_trees, more_bound_trees}
+use Rattle.dp_spec.specs.BoundTree.{LeavesAtMost}
 use Rattle.dp_spec.specs.Wide.{is_wide}
 use Rattle.dp_spec.specs.Fitting.{front_bound}
 use Rattle.dp_spec.specs.Certificate.{Certificate, arithmetic_for}
@@ -33,18 +34,23 @@ abbrev mutual
   pub nodes_of : Arithmetic → Model → ℕ → ℕ → ℕ → BoundTree → Front → ℤ → List Node
   nodes_of A m h look above (leaf x) F cap = record { tree = leaf x; above = above; front = F; cap = cap } ∷ []
   nodes_of A m h look above (branch i c ks) F cap =
-      record { tree = branch i c ks; above = above; front = F; cap =
-          cap } ∷ nodes_of_choices A m h look (suc above) ks F i c 0 cap
+      record {
+        tree = branch i c ks;
+        above = above;
+        front = F;
+        cap =
+            cap;
+      } ∷ nodes_of_choices A m h look (suc above) ks F i c 0 cap
   nodes_of A m h look above (merge i a b k) F cap =
       record { tree = merge i a b k; above = above; front = F; cap = cap }
       ∷ nodes_of A m h look (suc above) k (merged_front F i a b)
-          (int_min cap (front_bound A m h look (merged_front F i a b)))
+      (int_min cap (front_bound A m h look (merged_front F i a b)))
 
   pub nodes_of_choices : Arithmetic → Model → ℕ → ℕ → ℕ → BoundTrees → Front → ℕ → ℕ → ℕ → ℤ → List Node
   nodes_of_choices A m h look above no_bound_trees F i c a cap = []
   nodes_of_choices A m h look above (more_bound_trees k ks) F i c a cap =
       nodes_of A m h look above k (front_after_choice m F i c a)
-          (int_min cap (front_bound A m h look (front_after_choice m F i c a)))
+      (int_min cap (front_bound A m h look (front_after_choice m F i c a)))
       ++ nodes_of_choices A m h look above ks F i c (suc a) cap
 
 -- the nodes of a certificate's tree, from the root front
@@ -94,7 +100,7 @@ IsLean m c =
 abbrev pub IsRefined : Model → Certificate → Type 0
 IsRefined m c =
     All (λ n. IfOpenLeaf c.horizon n (λ x. c.lower <ℤ x → is_wide m c.horizon n.above n.front ≡ true))
-        (certificate_nodes m c)
+    (certificate_nodes m c)
 
 -- no two unassigned classes of one agent are equivalent
 abbrev pub HasNoEquivalent : Model → Front → Type 0
@@ -134,8 +140,13 @@ chosen_of F i = (get_or F.agents i root_agent).chosen
 -- the places of a front, by agent and then by class
 abbrev pub places_of : Arithmetic → Model → ℕ → ℕ → Front → List Place
 places_of A m h look F =
-    flat_map (λ i. map (λ c. record { agent = i; class = c; weight = upper_weight A m F i c; spread =
-        spread_of A m h look F i c })
+    flat_map (λ i. map (λ c. record {
+      agent = i;
+      class = c;
+      weight = upper_weight A m F i c;
+      spread =
+          spread_of A m h look F i c;
+    })
     (filter (λ c. is_none (get_or (chosen_of F i) c None)) (range_with_len 0 (length (chosen_of F i)))))
     (range_with_len 0 (length F.agents))
 
@@ -146,4 +157,4 @@ IsRuled May m c =
     All (λ n. IfBranch n.tree (λ i k.
     let places = places_of (arithmetic_for m c) m c.horizon c.look n.front in
     (x : ℕ) × May places x × ((p : Place) × (slice_get places x ≡ Some p) × (p.agent ≡ i) × (p.class ≡ k))))
-        (certificate_nodes m c)
+    (certificate_nodes m c)

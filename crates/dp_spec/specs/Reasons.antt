@@ -1,7 +1,7 @@
 -- The first reason why a certificate is not valid, in the order in which it is checked: mode, unit, lower end, the
 -- nodes of the tree in preorder, the number of inner nodes, upper end. (Own.)
-use Rattle.std.specs.Prelude.{ℕ, zero, suc, Bool, true, not, ◌&&◌, ◌==◌, nat_lt, cond, ℤ, pos, List, [], ◌∷◌, ◌++◌,
-    length, get_or, Option, Some, None, is_none}
+use Rattle.std.specs.Prelude.{ℕ, zero, suc, Bool, true, not, ◌&&◌, ◌==◌, nat_lt, cond, ℤ, pos, List, [], ◌∷◌, ◌++◌}
+use Rattle.std.specs.Prelude.{length, get_or, Option, Some, None, is_none}
 use Rattle.std.specs.Bool.{beq}
 use Rattle.std.specs.Ordering.{int_eq}
 use Rattle.std.specs.Option.{option_or}
@@ -64,7 +64,7 @@ may_branch m h n i c = may_refine m h n && is_unassigned i c n.front.agents
 abbrev pub may_merge : Arithmetic → Model → ℕ → Node → ℕ → ℕ → ℕ → Bool
 may_merge A m h n i a b =
     A.is_exact && (may_refine m h n && (nat_lt a b && (is_unassigned i a n.front.agents && is_unassigned i b
-        n.front.agents)))
+    n.front.agents)))
 
 -- the reason at a place where two classes differ
 abbrev pub unequal_reason : ℕ → Option ℕ → Option Reason

@@ -1,6 +1,6 @@
 -- Shared forms: shared policies with one row for each different tree that remains after own histories. (Own.)
-use Rattle.std.specs.Prelude.{ℕ, suc, ◌<◌, ◌≤◌, ◌^◌, ◌≡◌, max, ◌++◌, get_or, Bool, true, false, ◌&&◌, not, cond, ◌==◌,
-    List, [], ◌∷◌, map, filter}
+use Rattle.std.specs.Prelude.{ℕ, suc, ◌<◌, ◌≤◌, ◌^◌, ◌≡◌, max, ◌++◌, get_or, Bool, true, false, ◌&&◌, not, cond, ◌==◌}
+use Rattle.std.specs.Prelude.{List, [], ◌∷◌, map, filter}
 use Rattle.std.specs.List.{AllByRecursion, range_with_len}
 use Rattle.dp_spec.specs.Model.{Model}
 use Rattle.dp_spec.specs.PolicyTree.{PolicyTree, PolicyTrees, node, no_trees, more_trees, root_action, subtree}

@@ -1,7 +1,7 @@
 -- The rows of a shared policy in the text of a certificate of version 2: a line with the counts of the stages, and
 -- one line for each row. (Own.)
-use Rattle.std.specs.Prelude.{ℕ, zero, suc, ◌-◌, ◌*◌, ◌^◌, nat_lt, if◌then◌else◌, Option, Some, None, pos, List, [],
-    ◌∷◌, ◌++◌, map, length, replicate, codes}
+use Rattle.std.specs.Prelude.{ℕ, zero, suc, ◌-◌, ◌*◌, ◌^◌, nat_lt, if◌then◌else◌, Option, Some, None, pos, List, []}
+use Rattle.std.specs.Prelude.{◌∷◌, ◌++◌, map, length, replicate, codes}
 use Rattle.dp_spec.specs.SharedPolicy.{PolicyRow, AgentRows, SharedPolicy, first_count, next_count}
 use Rattle.dp_spec.specs.TextLines.{Item, fixed, plain, Line}
 
@@ -24,8 +24,11 @@ counts_line stages = record { form = counts_form (length stages); numbers = map 
 
 -- the line of a row
 abbrev pub shared_row_line : ℕ → ℕ → ℕ → PolicyRow → Line
-shared_row_line b nexts count row = record { form = shared_row_form b nexts count; numbers =
-    pos row.action ∷ map pos row.next }
+shared_row_line b nexts count row = record {
+  form = shared_row_form b nexts count;
+  numbers =
+      pos row.action ∷ map pos row.next;
+}
 
 -- the lines of all rows, stage after stage, for an agent with b actions and n observations
 abbrev pub stage_lines : ℕ → ℕ → AgentRows → List Line

@@ -3,8 +3,8 @@
 use Rattle.std.specs.Prelude.{Bool, true, false, ℕ, suc, ◌+◌, ◌*◌, ◌^◌, ◌<◌, ◌≤◌, ◌≡◌, pos, ◌≤ℤ◌}
 use Rattle.dp_spec.specs.declared.span.Span.{Span}
 use Rattle.dp_base.specs.Sums.{nat_sum}
-use Rattle.dp_spec.specs.Model.{Model, joint_actions, joint_observations, obs_at, reward_at, start_at, step_scale,
-    trans_at}
+use Rattle.dp_spec.specs.Model.{Model, joint_actions, joint_observations, obs_at, reward_at, start_at, step_scale}
+use Rattle.dp_spec.specs.Model.{trans_at}
 use Rattle.dp_spec.specs.Arithmetic.{Arithmetic}
 use Rattle.dp_spec.specs.Quantities.{weights_after_in}
 use Rattle.dp_spec.specs.Calls.{Calls, IsPoint, size}

@@ -20,7 +20,7 @@ earned_size A m act h zero = 0
 earned_size A m act h (suc f) =
     earned_size A m act h f
     + nat_history_sum (joint_observations m) f (λ H. reward_size A m (h - suc f) (history_weight_in A m act H)
-        (act H))
+    (act H))
 
 -- the magnitudes of all parts of the worth of a joint policy of r steps together, from weights ws
 abbrev pub worth_size : Arithmetic → Model → ℕ → (ℕ → Span) → List PolicyTree → ℕ

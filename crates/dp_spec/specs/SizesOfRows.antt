@@ -21,7 +21,7 @@ rows_earn_size A m p h zero = 0
 rows_earn_size A m p h (suc f) =
     rows_earn_size A m p h f
     + nat_sum (joint_row_count p f) (λ j. reward_size A m (h - suc f) (row_weight_in A m p f j)
-        (joint_row_action m p f j))
+    (joint_row_action m p f j))
 
 -- The worth of a shared policy of h steps can be computed, stage by stage.
 pub record CanShare (A : Arithmetic) (m : Model) (h : ℕ) : Type 0 where

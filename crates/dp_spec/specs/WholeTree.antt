@@ -1,7 +1,7 @@
 -- An arena is one tree: each number stands in it once.
 use Rattle.std.specs.Prelude.{ℕ, suc, ◌+◌, ◌<◌, ◌≤◌, ◌≡◌, ◌==◌, cond, List, length}
-use Rattle.dp_spec.specs.BoundTree.{BoundTree, BoundTrees, leaf, branch, merge, no_bound_trees, more_bound_trees,
-    inner_count}
+use Rattle.dp_spec.specs.BoundTree.{BoundTree, BoundTrees, leaf, branch, merge, no_bound_trees, more_bound_trees}
+use Rattle.dp_spec.specs.BoundTree.{inner_count}
 use Rattle.dp_spec.specs.declared.step.Step.{Step}
 use Rattle.dp_spec.specs.declared.step.Step.TheVariants.{Branch, Merge}
 use Rattle.dp_spec.specs.declared.node.NodeKind.{NodeKind}

@@ -1,6 +1,6 @@
 -- The cells of a table as its statements are written one after the other.
-use Rattle.std.proofs.Common.{◌≡◌, ℕ, zero, suc, ◌+◌, ◌%◌, ◌<◌, ◌≤◌, Bool, true, false, cond, List, [], ◌∷◌, ◌++◌,
-    length, get_or, map, take, drop, refl, sym, ap, subst, ◌∙◌, arith}
+use Rattle.std.proofs.Common.{◌≡◌, ℕ, zero, suc, ◌+◌, ◌%◌, ◌<◌, ◌≤◌, Bool, true, false, cond, List, [], ◌∷◌, ◌++◌}
+use Rattle.std.proofs.Common.{length, get_or, map, take, drop, refl, sym, ap, subst, ◌∙◌, arith}
 use Rattle.std.specs.Prelude.{replicate}
 use Rattle.std.specs.List.{range_with_len}
 use Rattle.std.proofs.lemmas.List.{append-nil, take_more, length-replicate}
@@ -74,7 +74,7 @@ statement_for text table items i s said are h is same =
     let numbers = subst (λ l. AreNumbersOf l.table l.value) (sym there)
     (all_from_each _ text.statements (said_is text said).statements i s within) in
     let here : IsStatementOver (axes_of text.header table) s =
-        subst (λ b. IsStatementOver (axes_of text.header b) s) t over in
+    subst (λ b. IsStatementOver (axes_of text.header b) s) t over in
     record {
       over = here;
       fills = subst (λ b. Fills b (drop (length s.fields) (axes_of text.header table)) s.value) t here.value;
@@ -149,21 +149,21 @@ more_cells : (T : Type 0) (none : T) (axes : List Axis) (before given after : Ce
     → AreFieldsOf axes fields → AreCells T none axes before cells → length new ≡ length cells
     → AreWritten (list_sizes axes) (list_parts fields) block cells new
     → ((k : ℕ) → k < product (map axis_size axes) → get_or block (k % length block) none
-        ≡ given (parts_of (map axis_size axes) k))
+    ≡ given (parts_of (map axis_size axes) k))
     → ((cell : Cell) → covers axes fields cell ≡ true → after cell ≡ given cell)
     → ((cell : Cell) → covers axes fields cell ≡ false → after cell ≡ before cell)
     → AreCells T none axes after new
 more_cells T none axes before given after fields block cells new are so_far long written gives covered others =
     record {
-  count = long ∙ so_far.count;
-  cell = cell;
-}
+      count = long ∙ so_far.count;
+      cell = cell;
+    }
   where
     cell : (k : ℕ) → k < product (list_sizes axes) → get_or new k none ≡ after (parts_of (map axis_size axes) k)
     cell k h =
         written k none (subst (λ n. k < n) (sym so_far.count) h)
         ∙ ap (λ b. cond b (get_or block (k % length block) none) (get_or cells k none))
-            (covered_by_lists axes fields k are h)
+        (covered_by_lists axes fields k are h)
         ∙ by (covers axes fields (parts_of (map axis_size axes) k)) refl
       where
         by : (b : Bool) → covers axes fields (parts_of (map axis_size axes) k) ≡ b
@@ -181,7 +181,7 @@ pub cells_taken : (T : Type 0) (none : T) (axes : List Axis) (value : List State
     → ((k : ℕ) → k < product (map axis_size axes)
     → get_or block (k % length block) none ≡ given (parts_of (map axis_size axes) k))
     → ((before : List Statement) (cell : Cell) → covers axes s.fields cell ≡ true
-        → value (before ++ s ∷ []) cell ≡ given cell)
+    → value (before ++ s ∷ []) cell ≡ given cell)
     → ((before : List Statement) (cell : Cell) → covers axes s.fields cell ≡ false
     → value (before ++ s ∷ []) cell ≡ value (before ++ []) cell)
     → i < length items → s ≡ get_or items i s → is_same_table table s.table ≡ true
@@ -194,7 +194,7 @@ cells_taken T none axes value given table items i s block cells new old sizes ar
     let before = statements_for table (take i items) in
     subst (λ ss. AreCells T none axes (value ss) new) (sym (taken table items i s h at same))
     (more_cells T none axes (value before) given (value (before ++ s ∷ [])) s.fields block cells new are so_far (long
-        ∙ ap length f)
+    ∙ ap length f)
     (subst (λ ns. AreWritten ns (list_parts s.fields) block cells new) e
     (subst (λ ns. AreWritten sizes (list_parts s.fields) block ns new) f written))
     gives (covered before) (λ cell not. others before cell not ∙ ap (λ ss. value ss cell) (append-nil before)))

@@ -1,6 +1,6 @@
 -- What a statement gives the chances that it covers.
-use Rattle.std.proofs.Common.{◌≡◌, ◌⊎◌, inl, inr, ℕ, zero, suc, ◌*◌, ◌/◌, ◌%◌, ◌<◌, true, cond, List, [], ◌∷◌, length,
-    get_or, map, drop, refl, sym, ap, subst, ◌∙◌, arith}
+use Rattle.std.proofs.Common.{◌≡◌, ◌⊎◌, inl, inr, ℕ, zero, suc, ◌*◌, ◌/◌, ◌%◌, ◌<◌, true, cond, List, [], ◌∷◌, length}
+use Rattle.std.proofs.Common.{get_or, map, drop, refl, sym, ap, subst, ◌∙◌, arith}
 use Rattle.std.specs.Prelude.{◌==◌}
 use Rattle.std.specs.List.{range_with_len}
 use Rattle.std.proofs.lemmas.Bool.{and_parts}
@@ -75,7 +75,7 @@ of_identity scale actions len k some =
     ∙ ap (λ n. cond (k % (len * len) / n == k % (len * len) % n) scale 0) single
     ∙ ap (λ n. cond (k % n / (len * 1) == k % n % (len * 1)) scale 0) double
     ∙ ap (λ n. cond (k % (len * (len * 1)) / (len * 1) == n) scale 0)
-        (sym (over_one (k % (len * (len * 1)) % (len * 1))))
+    (sym (over_one (k % (len * (len * 1)) % (len * 1))))
   where
     single : len ≡ len * 1
     single = omega arith
@@ -113,7 +113,7 @@ value_at scale actions states len k f table axes Uniform is fills h =
     ∙ ap (λ ns. given_chance scale ns f (parts_of (map axis_size axes) k) Uniform) (sym is.sizes)
 value_at scale actions states len k f table axes (Numbers ns) is fills h =
     of_numbers ℕ 0 (chance_over scale) k f (map axis_size axes) ns h (fills
-        ∙ ap product (sym (drop-map axis_size f axes)))
+    ∙ ap product (sym (drop-map axis_size f axes)))
 value_at scale actions states len k f table axes Identity is fills h =
     let w = is_square table axes actions states len f is fills in
     let sizes : map axis_size axes ≡ actions ∷ len ∷ len ∷ [] = is.sizes ∙ ap (λ n. actions ∷ n ∷ len ∷ []) w.0 in

@@ -1,6 +1,6 @@
 -- The chances of a table as its statements are written one after the other.
-use Rattle.std.proofs.Common.{◌≡◌, ◌⊎◌, ℕ, ◌+◌, ◌*◌, ◌<◌, ◌≤◌, true, false, List, [], ◌∷◌, length, get_or, map, take,
-    drop, refl, sym, ap, subst, ◌∙◌, arith}
+use Rattle.std.proofs.Common.{◌≡◌, ◌⊎◌, ℕ, ◌+◌, ◌*◌, ◌<◌, ◌≤◌, true, false, List, [], ◌∷◌, length, get_or, map, take}
+use Rattle.std.proofs.Common.{drop, refl, sym, ap, subst, ◌∙◌, arith}
 use Rattle.std.specs.Prelude.{replicate}
 use Rattle.std.specs.List.{range_with_len}
 use Rattle.dp_spec.specs.JointNumbers.{product, parts_of}
@@ -23,8 +23,8 @@ use Rattle.dp_tables.specs.Blocks.{chance_block, IsChanceValue}
 use Rattle.dp_tables.specs.Tables.{row_length}
 use Rattle.dp_tables.specs.Writing.{AreWritten, list_sizes, list_parts}
 use Rattle.dp_tables.proofs.ChanceLemmas.{IsTableOver, block_fits, value_at}
-use Rattle.dp_tables.proofs.CellTables.{AreCells, no_cells, all_cells, one_list, some_cells, IsStatementFor,
-    IsWritable, cells_taken}
+use Rattle.dp_tables.proofs.CellTables.{AreCells, no_cells, all_cells, one_list, some_cells, IsStatementFor}
+use Rattle.dp_tables.proofs.CellTables.{IsWritable, cells_taken}
 use Rattle.dp_tables.proofs.FlatCells.{product_of_lists}
 
 -- ---- the table of a text
@@ -59,7 +59,7 @@ pub table_over_len : (text : Text) (table : Table) (len : ℕ) → IsSaid text �
     → IsTableOver table (axes_of text.header table) (joint_actions_in text) (states_in text) len
 table_over_len text table len said e is =
     subst (IsTableOver table (axes_of text.header table) (joint_actions_in text) (states_in text)) (sym is)
-        (table_over text table said e)
+    (table_over text table said e)
 
 -- ---- the statements of the table
 
@@ -77,7 +77,7 @@ pub chances_fit : (scale actions states len : ℕ) (table : Table) (axes : List 
     ⊎ (length (chance_block scale len s.value) ≡ product (drop (length (list_parts s.fields)) sizes))
 chances_fit scale actions states len table axes s sizes over is fits =
     subst (λ n. (length (chance_block scale len s.value) ≡ 1) ⊎ (length (chance_block scale len s.value) ≡ n))
-        (sym fits.width)
+    (sym fits.width)
     (block_fits scale actions states len (length s.fields) table axes s.value over is.fills)
 
 -- ---- the cells

@@ -1,6 +1,6 @@
 -- Which statements cover a row.
-use Rattle.std.proofs.Common.{◌≡◌, ℕ, zero, suc, ◌+◌, ◌-◌, ◌*◌, ◌<◌, ◌≤◌, Bool, true, false, List, [], ◌∷◌, length,
-    get_or, map, take, drop, subst, refl, sym, ap, ◌∙◌, arith}
+use Rattle.std.proofs.Common.{◌≡◌, ℕ, zero, suc, ◌+◌, ◌-◌, ◌*◌, ◌<◌, ◌≤◌, Bool, true, false, List, [], ◌∷◌, length}
+use Rattle.std.proofs.Common.{get_or, map, take, drop, subst, refl, sym, ap, ◌∙◌, arith}
 use Rattle.std.specs.Prelude.{◌||◌, ◌&&◌, None}
 use Rattle.std.specs.List.{list_any, range_with_len}
 use Rattle.std.proofs.lemmas.Nat.{mul-le}
@@ -31,8 +31,11 @@ pub record IsSmallRest (n p : ℕ) : Type 0 where
 pub small_rest : (n p : ℕ) → 0 < n * p → IsSmallRest n p
 small_rest zero p h = absurd (omega arith)
 small_rest (suc n) zero h = absurd (omega arith)
-small_rest (suc n) (suc p) h = record { some = omega arith; limit =
-    (let h = mul-le 1 (suc p) (suc n) (suc p) (omega arith) (omega arith) in omega arith) }
+small_rest (suc n) (suc p) h = record {
+  some = omega arith;
+  limit =
+      (let h = mul-le 1 (suc p) (suc n) (suc p) (omega arith) (omega arith) in omega arith);
+}
 
 -- the parts of no lists
 allow_nothing : (parts : List Part) → allow parts [] ≡ true
@@ -53,7 +56,7 @@ small_others (l ∷ lists) h k =
     let same : take (suc (length lists) - 1) lists ≡ lists = take_all (suc (length lists) - 1) lists (omega arith) in
     let rest = small_rest (size_of l) (product (map size_of lists)) h in
     subst (λ ls. (0 < product (map size_of ls)) × (product (map size_of ls) ≤ size_of l
-        * product (map size_of lists))) (sym same)
+    * product (map size_of lists))) (sym same)
     (rest.some, rest.limit)
 
 -- the numbers from one on, of which that one fails
@@ -62,7 +65,7 @@ pub none_here : (p : ℕ → Bool) (i n : ℕ) → i < n → p i ≡ false
 none_here p i n h e =
     let more : n - i ≡ suc (n - (i + 1)) = omega arith in
     sym (ap (λ k. list_any p (range_with_len i k)) more
-        ∙ ap (λ b. b || list_any p (range_with_len (i + 1) (n - (i + 1)))) e)
+    ∙ ap (λ b. b || list_any p (range_with_len (i + 1) (n - (i + 1)))) e)
 
 -- ---- the axes of a text
 
@@ -104,7 +107,7 @@ small_axes text said within =
 covers_by_field : (x y z : Axis) (rest : List Axis) (fields : List (List Part)) (a s n : ℕ)
     → covers (x ∷ y ∷ z ∷ rest) fields (a ∷ s ∷ n ∷ [])
     ≡ ((allow (get_or fields 0 []) (parts_of (map size_of x) a) && allow (get_or fields 1 [])
-        (parts_of (map size_of y) s))
+    (parts_of (map size_of y) s))
     && allow (get_or fields 2 []) (parts_of (map size_of z) n))
 covers_by_field x y z rest [] a s n = refl
 covers_by_field x y z rest (p ∷ []) a s n = one (allow p (parts_of (map size_of x) a))
@@ -121,7 +124,7 @@ covers_by_field x y z rest (p ∷ q ∷ []) a s n = two (allow p (parts_of (map 
     two false c = refl
 covers_by_field x y z rest (p ∷ q ∷ r ∷ fields) a s n =
     three (allow p (parts_of (map size_of x) a)) (allow q (parts_of (map size_of y) s))
-        (allow r (parts_of (map size_of z) n)) _ (no_cell rest fields)
+    (allow r (parts_of (map size_of z) n)) _ (no_cell rest fields)
   where
     no_cell : (axes : List Axis) (fields : List (List Part)) → covers axes fields [] ≡ true
     no_cell [] fields = refl
@@ -159,14 +162,14 @@ pub covers_some : (header : Header) (table : Table) (fields : List (List Part)) 
     → list_any (covers (axes_of header table) fields) (row_cells (a ∷ s ∷ []) len)
     ≡ (is_row_allowed header fields a s
     && list_any (λ n. allow (get_or fields 2 []) (parts_of (map size_of (get_or (axes_of header table) 2 [])) n))
-        (range_with_len 0 len))
+    (range_with_len 0 len))
 covers_some header table fields a s len =
     any_of_map (covers (axes_of header table) fields) (λ n. a ∷ s ∷ n ∷ []) 0 len
     ∙ any_same _ _ (by table) 0 len ∙ some_of_row (is_row_allowed header fields a s) _ 0 len
   where
     by : (t : Table) (n : ℕ) → covers (axes_of header t) fields (a ∷ s ∷ n ∷ [])
         ≡ (is_row_allowed header fields a s && allow (get_or fields 2 [])
-            (parts_of (map size_of (get_or (axes_of header t) 2 [])) n))
+        (parts_of (map size_of (get_or (axes_of header t) 2 [])) n))
     by Trans n = covers_by_field header.actions (header.states ∷ []) (header.states ∷ []) [] fields a s n
     by Obs n = covers_by_field header.actions (header.states ∷ []) header.observations [] fields a s n
     by Reward n = covers_by_field header.actions (header.states ∷ []) (header.states ∷ [])
@@ -177,7 +180,7 @@ pub row_not_allowed : (header : Header) (table : Table) (fields : List (List Par
     → false ≡ list_any (covers (axes_of header table) fields) (row_cells (a ∷ s ∷ []) len)
 row_not_allowed header table fields a s len e =
     let some : ℕ → Bool = λ n. allow (get_or fields 2 [])
-        (parts_of (map size_of (get_or (axes_of header table) 2 [])) n) in
+    (parts_of (map size_of (get_or (axes_of header table) 2 [])) n) in
     let both : Bool → Bool = λ b. b && list_any some (range_with_len 0 len) in
     sym (covers_some header table fields a s len ∙ ap both e)
 
@@ -189,7 +192,7 @@ pub row_allowed : (header : Header) (table : Table) (fields : List (List Part)) 
     ≡ list_any (covers (axes_of header table) fields) (row_cells (a ∷ s ∷ []) len)
 row_allowed header table fields a s len e lists parts el ep =
     let some : List GivenList → List Part → Bool = λ ls ps.
-        list_any (λ n. allow ps (parts_of (map size_of ls) n)) (range_with_len 0 len) in
+    list_any (λ n. allow ps (parts_of (map size_of ls) n)) (range_with_len 0 len) in
     let both : Bool → Bool = λ b. b && some (get_or (axes_of header table) 2 []) (get_or fields 2 []) in
     ap (λ ls. some ls parts) el ∙ ap (some (get_or (axes_of header table) 2 [])) ep
     ∙ sym (covers_some header table fields a s len ∙ ap both e)

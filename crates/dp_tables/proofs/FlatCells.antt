@@ -1,6 +1,6 @@
 -- The cells of a table by one digit for each list of its axes.
-use Rattle.std.proofs.Common.{◌≡◌, ℕ, suc, ◌*◌, ◌/◌, ◌%◌, ◌<◌, ◌&&◌, List, [], ◌∷◌, ◌++◌, length, map, drop, refl,
-    sym, ap, subst, ◌∙◌, arith}
+use Rattle.std.proofs.Common.{◌≡◌, ℕ, suc, ◌*◌, ◌/◌, ◌%◌, ◌<◌, ◌&&◌, List, [], ◌∷◌, ◌++◌, length, map, drop, refl}
+use Rattle.std.proofs.Common.{sym, ap, subst, ◌∙◌, arith}
 use Rattle.std.proofs.lemmas.Nat.{mod_below}
 use Rattle.std.proofs.Math.Bool.{and_assoc}
 use Rattle.dp_spec.specs.JointNumbers.{product, parts_of}
@@ -22,7 +22,7 @@ pub product_of_lists : (axes : List Axis) → product (list_sizes axes) ≡ prod
 product_of_lists [] = refl
 product_of_lists (axis ∷ axes) =
     product-append (map size_of axis) (list_sizes axes)
-        ∙ ap (λ n. product (map size_of axis) * n) (product_of_lists axes)
+    ∙ ap (λ n. product (map size_of axis) * n) (product_of_lists axes)
 
 one_each : (axis : Axis) (parts : List Part) → ArePartsOf axis parts → length parts ≡ length (map size_of axis)
 one_each [] [] are = refl
@@ -98,7 +98,7 @@ covered_by_lists (axis ∷ axes) [] k are h = refl
 covered_by_lists [] (parts ∷ fields) k are h = absurd are
 covered_by_lists (axis ∷ axes) (parts ∷ fields) k are h =
     let some : 0 < product (list_sizes axes) = positive_right (product (map size_of axis))
-        (product (list_sizes axes)) k
+    (product (list_sizes axes)) k
     (subst (λ n. k < n) (product-append (map size_of axis) (list_sizes axes)) h) in
     ap (allow (parts ++ list_parts fields)) (parts_of-append (map size_of axis) (list_sizes axes) k h)
     ∙ allow_append parts (list_parts fields) (parts_of (map size_of axis) (k / product (list_sizes axes)))
@@ -106,7 +106,7 @@ covered_by_lists (axis ∷ axes) (parts ∷ fields) k are h =
     (one_each axis parts are.0 ∙ sym (length-parts_of (map size_of axis) (k / product (list_sizes axes))))
     ∙ ap (λ b. allow parts (parts_of (map size_of axis) (k / product (list_sizes axes))) && b)
     (covered_by_lists axes fields (k % product (list_sizes axes)) are.1
-        (mod_below k (product (list_sizes axes)) some))
+    (mod_below k (product (list_sizes axes)) some))
     ∙ ap (λ n. allow parts (parts_of (map size_of axis) (k / n)) && covers axes fields
-        (parts_of (map axis_size axes) (k % n)))
+    (parts_of (map axis_size axes) (k % n)))
     (product_of_lists axes)

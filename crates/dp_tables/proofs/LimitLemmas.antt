@@ -40,7 +40,7 @@ reward_lines_of text = passed_by limits.RewardLines (length (statements_for Rewa
 abbrev pub scales_with : Text → JointSizes → List (Option TooLarge)
 scales_with text sizes =
     scale_limits (start_scale text.header.start sizes.states)
-        (table_scale (statements_for Trans text.statements) sizes.states)
+    (table_scale (statements_for Trans text.statements) sizes.states)
     (table_scale (statements_for Obs text.statements) sizes.joint_observations)
 
 -- the limits in their groups
@@ -57,8 +57,12 @@ in_groups text sizes of =
     ap (λ s. first_passed (size_limits text ++ (cells_of s ++ reward_lines_of text ∷ scales_with text s))) (sym same)
   where
     given : JointSizes
-    given = record { states = states_in text; joint_actions = joint_actions_in text; joint_observations =
-        joint_observations_in text }
+    given = record {
+      states = states_in text;
+      joint_actions = joint_actions_in text;
+      joint_observations =
+          joint_observations_in text;
+    }
 
 pub passed_size : (text : Text) (passed : TooLarge) → first_passed (size_limits text) ≡ Some passed
     → passed_limit text ≡ Some passed

@@ -1,6 +1,6 @@
 -- The rewards as their statements are written one after the other.
-use Rattle.std.proofs.Common.{◌≡◌, ℕ, ◌+◌, ◌*◌, ◌%◌, ◌^◌, ◌<◌, ◌≤◌, Bool, true, List, [], ◌∷◌, length, get_or, map,
-    take, drop, refl, sym, ap, subst, ◌∙◌, arith, ℤ, pos}
+use Rattle.std.proofs.Common.{◌≡◌, ℕ, ◌+◌, ◌*◌, ◌%◌, ◌^◌, ◌<◌, ◌≤◌, Bool, true, List, [], ◌∷◌, length, get_or, map}
+use Rattle.std.proofs.Common.{take, drop, refl, sym, ap, subst, ◌∙◌, arith, ℤ, pos}
 use Rattle.std.specs.Prelude.{replicate}
 use Rattle.std.proofs.lemmas.List.{drop-map, length-map}
 use Rattle.dp_base.proofs.SignificandLaws.{tens_up}
@@ -23,8 +23,8 @@ use Rattle.dp_meaning.proofs.ReadStatements.{AreNumbersOf}
 use Rattle.dp_meaning.proofs.SaidTexts.{rewards_digits}
 use Rattle.dp_tables.specs.Blocks.{reward_block, IsRewardValue}
 use Rattle.dp_tables.specs.Writing.{AreWritten, list_sizes, list_parts}
-use Rattle.dp_tables.proofs.CellTables.{AreCells, no_cells, all_cells, one_list, IsStatementFor, IsWritable,
-    cells_taken}
+use Rattle.dp_tables.proofs.CellTables.{AreCells, no_cells, all_cells, one_list, IsStatementFor, IsWritable}
+use Rattle.dp_tables.proofs.CellTables.{cells_taken}
 use Rattle.dp_tables.proofs.ChanceLemmas.{of_numbers}
 use Rattle.dp_tables.proofs.FlatCells.{product_of_lists}
 
@@ -48,7 +48,7 @@ pub reward_scale_limit : (text : Text) (scale : ℕ) → IsSaid text → scale �
 unfolding scales_of
 reward_scale_limit text scale said e =
     let most = tens_up (digits_of_statements (statements_for Reward text.statements)) 9 (rewards_digits text said) in
-        omega arith
+    omega arith
 
 -- ---- the statements of the rewards
 
@@ -73,7 +73,7 @@ reward_value_at cost scale k f axes Uniform fills h = absurd (cc)
 reward_value_at cost scale k f axes Identity fills h = absurd (cc)
 reward_value_at cost scale k f axes (Numbers ns) fills h =
     of_numbers ℤ (pos 0) (reward_over cost scale) k f (map axis_size axes) ns h (fills
-        ∙ ap product (sym (drop-map axis_size f axes)))
+    ∙ ap product (sym (drop-map axis_size f axes)))
 
 pub rewards_fit : (cost : Bool) (scale : ℕ) (axes : List Axis) (s : Statement) (sizes : List ℕ)
     → IsStatementFor Reward axes s → IsWritable axes sizes s
@@ -94,7 +94,7 @@ pub no_rewards : (text : Text) (scale : ℕ) (cells : List ℤ) (n : ℕ) → ce
 no_rewards text scale cells n e long =
     no_cells ℤ (pos 0) (reward_axes text) (reward_of_cell text.header.cost scale (reward_axes text) []) cells n e
     (long ∙ sym (rewards_count text)) (λ cell. reward_uncovered text.header.cost scale
-        (reward_axes text) [] cell refl)
+    (reward_axes text) [] cell refl)
 
 -- a statement of the rewards is written
 pub rewards_taken : (text : Text) (scale : ℕ) (items : List Statement) (i : ℕ) (s : Statement) (cells new : List ℤ)
@@ -126,4 +126,4 @@ all_rewards text scale cells e are =
     (statements_for Reward text.statements)) cells (reward_sizes text)
     (joint_actions_in text * states_in text * states_in text * joint_observations_in text)
     (subst (λ n. AreRewardsBy text n (statements_for Reward text.statements) cells) e are) (reward_sizes_are text)
-        (omega arith)
+    (omega arith)

@@ -1,6 +1,7 @@
 -- Rows that are repaired one after the other.
-use Rattle.std.proofs.Common.{◌≡◌, ℕ, zero, suc, ◌+◌, ◌*◌, ◌-◌, ◌<◌, ◌≤◌, true, List, [], ◌∷◌, ◌++◌, length, get_or,
-    take, drop, refl, sym, ap, subst, ◌∙◌, arith, append_assoc, add-one, length-drop, length-take-le}
+use Rattle.std.proofs.Common.{◌≡◌, ℕ, zero, suc, ◌+◌, ◌*◌, ◌-◌, ◌<◌, ◌≤◌, true, List, [], ◌∷◌, ◌++◌, length, get_or}
+use Rattle.std.proofs.Common.{take, drop, refl, sym, ap, subst, ◌∙◌, arith, append_assoc, add-one, length-drop}
+use Rattle.std.proofs.Common.{length-take-le}
 use Rattle.std.specs.Prelude.{sum, Option, Some, None, Result, Ok, Err}
 use Rattle.std.proofs.lemmas.Bool.Decides.{nat_tests}
 use Rattle.std.proofs.lemmas.List.{append-nil, take_all, drop-drop}
@@ -34,7 +35,7 @@ row_done : (end : ℕ) (cells : List ℕ) (scale : ℕ) (o : Option ℕ) (x : Re
 row_done end cells scale (Some at) x some missing h = placed end cells scale at x (h at)
 row_done end cells scale None x some missing h =
     absurd (none_near scale (sum cells) (missing refl) some
-        (repair_ok end _ x (placed end cells scale 0 x (h 0))).near)
+    (repair_ok end _ x (placed end cells scale 0 x (h 0))).near)
 
 row_failed : (end : ℕ) (cells : List ℕ) (scale : ℕ) (o : Option ℕ)
     → ((at : ℕ) → repair_at at scale cells ≡ fault RowSum at)
@@ -113,7 +114,7 @@ none_done scale count len given = record {
   rest = refl;
   front = λ end rows are.
       no_rows end ∙ ap done (same_rows _ _ (let none : 0 ≡ 0 * len = omega arith in
-          ap (λ n. take n given) none) refl);
+      ap (λ n. take n given) none) refl);
 }
 
 row_at : (end scale count len : ℕ) (given : List ℕ) (rows : List Row) (i : ℕ) (d : Row) (x : Result Repaired Fault)
@@ -129,7 +130,7 @@ row_at end scale count len given rows i d x are h e =
     same r cells scale e f =
         let with_cells : List ℕ → Row = λ c. record { cells = c; scale = r.scale; at = r.at } in
         let with_scale : ℕ → Row = λ n. record { cells = cells; scale = n; at = r.at } in
-            ap with_cells e ∙ ap with_scale f
+        ap with_cells e ∙ ap with_scale f
 
 -- what a step reads and what it leaves
 part : (len i : ℕ) (given cells : List ℕ) → drop (i * len) cells ≡ drop (i * len) given
@@ -156,14 +157,14 @@ one_done scale count len given i cells repaired row n before h size some same lo
       ∙ further;
   front = λ end rows are.
       let is_row = row_done end (take len (drop (i * len) given)) scale (get_or rows i some_row).at
-          (record { cells = row; repaired = n }) some
+      (record { cells = row; repaired = n }) some
       (λ o. ap sum (sym (are.each i some_row (here rows are))) ∙ are.missing i some_row (here rows are) o)
       (λ at. ap (repair_at at scale) (sym (part len i given cells before.rest)) ∙ is at) in
       ap (λ k. repair_all end (take k rows)) (add-one i)
       ∙ one_more end rows i some_row _ _ (here rows are) (before.front end rows are)
       (row_at end scale count len given rows i some_row _ are (here rows are) is_row)
       ∙ ap done (same_rows _ _ (sym (take-put_mid (i * len) (i * len + len - i * len) cells row ((i + 1) * len)
-          (let h = row_length in omega arith) within)) refl);
+      (let h = row_length in omega arith) within)) refl);
 }
   where
     some_row : Row
@@ -185,13 +186,13 @@ one_done scale count len given i cells repaired row n before h size some same lo
     row_length =
         let h = fits in
         let rest : i * len + len - i * len ≤ length (drop (i * len) cells) =
-            omega (arith, length-drop (i * len) cells) in
+        omega (arith, length-drop (i * len) cells) in
         long ∙ length-take-le (i * len + len - i * len) (drop (i * len) cells) rest ∙ sym length_is
 
     further : drop ((i + 1) * len) cells ≡ drop ((i + 1) * len) given
     further = let n : (i + 1) * len ≡ i * len + len = omega arith in
         ap (λ k. drop k cells) n ∙ sym (drop-drop len (i * len) cells) ∙ ap (drop len) before.rest
-            ∙ drop-drop len (i * len) given ∙ ap (λ k. drop k given) (sym n)
+        ∙ drop-drop len (i * len) given ∙ ap (λ k. drop k given) (sym n)
 
 pub one_failed : (scale count len : ℕ) (given : List ℕ) (i : ℕ) (cells : List ℕ) (repaired : ℕ)
     → RowsDone scale count len given i cells repaired → i < count
@@ -210,4 +211,4 @@ pub all_done : (scale count len : ℕ) (given : List ℕ) (i : ℕ) (cells : Lis
 all_done scale count len given i cells repaired before end_is size same end rows are =
     ap (repair_all end) (sym (take_all i rows (let n = are.size in omega arith))) ∙ before.front end rows are
     ∙ ap done (same_rows _ _ (ap (λ n. take (n * len) cells) end_is
-        ∙ take_all (count * len) cells (omega arith)) refl)
+    ∙ take_all (count * len) cells (omega arith)) refl)

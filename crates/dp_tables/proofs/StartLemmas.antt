@@ -1,6 +1,6 @@
 -- The row of the start.
-use Rattle.std.proofs.Common.{◌≡◌, ℕ, zero, suc, ◌+◌, ◌*◌, ◌<◌, true, List, [], ◌∷◌, ◌++◌, length, get_or, map, take,
-    drop, refl, sym, ap, subst, ◌∙◌, arith}
+use Rattle.std.proofs.Common.{◌≡◌, ℕ, zero, suc, ◌+◌, ◌*◌, ◌<◌, true, List, [], ◌∷◌, ◌++◌, length, get_or, map, take}
+use Rattle.std.proofs.Common.{drop, refl, sym, ap, subst, ◌∙◌, arith}
 use Rattle.std.specs.Prelude.{sum, Option, Some, None, Result, Ok, Err}
 use Rattle.std.specs.List.{range_with_len}
 use Rattle.std.proofs.lemmas.List.{take_all}
@@ -53,7 +53,7 @@ pub start_size : (text : Text) (states : ℕ) (given : List ℕ) → states ≡ 
 unfolding start_row
 start_size text states given f g =
     let len = ap length g ∙ length-map-range_with_len (start_chance (scales_of text).start
-        (states_in text) text.header.start) 0 (states_in text) in
+    (states_in text) text.header.start) 0 (states_in text) in
     omega arith
 
 one_row : (scale len : ℕ) (given : List ℕ) (row : Row) → row.cells ≡ given → row.scale ≡ scale → length given ≡ len
@@ -108,7 +108,7 @@ pub start_failed : (text : Text) (scale states : ℕ) (given cells : List ℕ) (
 start_failed text scale states given cells zero e f g h is end =
     let fault : Option ℕ → Result Repaired Fault = λ o. Err (fault_of_row end o) in
     is end (start_row text ∷ []) (start_row text) (start_is_row text scale states given e f g)
-        ∙ ap fault (start_place text)
+    ∙ ap fault (start_place text)
 start_failed text scale states given cells (suc r) e f g h is end = absurd (omega arith)
 
 abbrev pub row_sum : ℕ → Result Repaired Fault
@@ -122,4 +122,4 @@ pub one_more_chance : (f : ℕ → ℕ) (cells more : List ℕ) (n x : ℕ) → 
     → more ≡ map f (range_with_len 0 (n + 1))
 one_more_chance f cells more n x e h m =
     m ∙ ap (λ c. c ++ x ∷ []) e ∙ ap (λ y. map f (range_with_len 0 n) ++ y ∷ []) h
-        ∙ sym (map-range_with_len_more f 0 n n (omega arith))
+    ∙ sym (map-range_with_len_more f 0 n n (omega arith))

@@ -1,7 +1,7 @@
 -- The rows of a table, from its cells one after the other.
-use Rattle.std.proofs.Common.{◌≡◌, ℕ, zero, suc, ◌+◌, ◌*◌, ◌/◌, ◌%◌, ◌<◌, ◌≤◌, Bool, true, false, cond, List, [], ◌∷◌,
-    ◌++◌, length, get_or, take, drop, refl, sym, ap, subst, ◌∙◌, arith, length-drop, length-take-le, get_or-take,
-    get_or-drop, ext_get_or}
+use Rattle.std.proofs.Common.{◌≡◌, ℕ, zero, suc, ◌+◌, ◌*◌, ◌/◌, ◌%◌, ◌<◌, ◌≤◌, Bool, true, false, cond, List, [], ◌∷◌}
+use Rattle.std.proofs.Common.{◌++◌, length, get_or, take, drop, refl, sym, ap, subst, ◌∙◌, arith, length-drop}
+use Rattle.std.proofs.Common.{length-take-le, get_or-take, get_or-drop, ext_get_or}
 use Rattle.std.specs.Prelude.{◌||◌, sum, reverse, Option, Some, None, Result, Ok, Err}
 use Rattle.std.specs.List.{find, list_any}
 use Rattle.std.proofs.lemmas.Nat.{div_below, div-add-mod'}
@@ -23,8 +23,8 @@ use Rattle.dp_meaning.specs.Scales.{scales_of}
 use Rattle.dp_meaning.proofs.ModelLaws.{text_is, scales_are}
 use Rattle.dp_meaning.proofs.TextLimits.{small}
 use Rattle.dp_spec.specs.Model.{AreScales}
-use Rattle.dp_meaning.specs.Rows.{Row, Repaired, row_cells, last_of_row, statement_at, table_row, table_rows,
-    trans_rows, obs_rows, repair_all}
+use Rattle.dp_meaning.specs.Rows.{Row, Repaired, row_cells, last_of_row, statement_at, table_row, table_rows}
+use Rattle.dp_meaning.specs.Rows.{trans_rows, obs_rows, repair_all}
 use Rattle.dp_meaning.proofs.TableRows.{length_of_table_row, cell_of_table_row, scale_of_table_row}
 use Rattle.dp_spec.proofs.JointNumberLaws.{parts_of-joint_number}
 use Rattle.dp_meaning.proofs.CellNumbers.{parts_of_row}
@@ -77,7 +77,7 @@ row_missing scale axes statements len row e =
     sum_of_none (table_row scale axes statements len row).cells (λ j h.
     let within : j < len = subst (λ n. j < n) (length_of_table_row scale axes statements len row) h in
     let none = none_at (λ (s : Statement) (cell : Cell). covers axes s.fields cell) (reverse statements)
-        (row_cells row len) j []
+    (row_cells row len) j []
     (subst (λ n. j < n) (sym (length-map-range_with_len (λ n. row ++ n ∷ []) 0 len)) within) (at_none _ e) in
     let same : get_or (row_cells row len) j [] ≡ row ++ j ∷ [] =
     get_or-map-range_with_len (λ n. row ++ n ∷ []) 0 len j j [] within (omega arith) in
@@ -107,7 +107,7 @@ cell_of_row actions states len r j h k =
     let w = row_parts actions states r h in
     let number : (r / states * states + r % states) * len + j
     ≡ joint_number (actions ∷ states ∷ len ∷ []) (r / states ∷ r % states ∷ j ∷ []) =
-        joined actions states len (r / states) (r % states) j in
+    joined actions states len (r / states) (r % states) j in
     ap (λ n. parts_of (actions ∷ states ∷ len ∷ []) (n * len + j)) w.2
     ∙ ap (parts_of (actions ∷ states ∷ len ∷ [])) number
     ∙ parts_of-joint_number (actions ∷ states ∷ len ∷ []) (r / states ∷ r % states ∷ j ∷ []) (w.0, (w.1, (k, tt)))
@@ -123,7 +123,7 @@ cell_of_row actions states len r j h k =
 row_of_cells : (text : Text) (table : Table) (scale len r : ℕ) → r < joint_actions_in text * states_in text
     → (table_row scale (axes_of text.header table) (statements_for table text.statements) len
     (parts_of (joint_actions_in text ∷ states_in text ∷ []) r)).cells
-        ≡ take len (drop (r * len) (given_cells text table scale len))
+    ≡ take len (drop (r * len) (given_cells text table scale len))
 row_of_cells text table scale len r h = ext_get_or 0 row part (row_len
     ∙ sym part_len) (λ j k. at j (subst (λ n. j < n) row_len k))
   where
@@ -155,7 +155,7 @@ row_of_cells text table scale len r h = ext_get_or 0 row part (row_len
         let fit = fits in
         let all = all_len in
         length-take-le len (drop (r * len) (given_cells text table scale len))
-            (omega (arith, length-drop (r * len) (given_cells text table scale len)))
+        (omega (arith, length-drop (r * len) (given_cells text table scale len)))
 
     at : (j : ℕ) → j < len → get_or row j 0 ≡ get_or part j 0
     at j k =
@@ -178,7 +178,7 @@ row_of_table text table scale len r d h = get_or-map-range_with_len _ 0
 
 pub rows_of_table : (text : Text) (table : Table) (scale len : ℕ)
     → AreRows scale (joint_actions_in text * states_in text) len (given_cells text table scale len)
-        (table_rows text table scale len)
+    (table_rows text table scale len)
 rows_of_table text table scale len = record {
   size = count;
   each = λ i d h. ap (λ r. r.cells) (row_of_table text table scale len i d (below i h))
@@ -209,7 +209,7 @@ rows_by_count : (text : Text) (table : Table) (scale len count : ℕ) (given : L
 rows_by_count text table scale len count given e g =
     subst (λ n. AreRows scale n len given (table_rows text table scale len)) (sym e)
     (subst (λ cells. AreRows scale (joint_actions_in text * states_in text) len cells
-        (table_rows text table scale len)) (sym g)
+    (table_rows text table scale len)) (sym g)
     (rows_of_table text table scale len))
 
 pub rows_fit : (text : Text) (table : Table) (scale len count : ℕ) (given : List ℕ)
@@ -217,13 +217,13 @@ pub rows_fit : (text : Text) (table : Table) (scale len count : ℕ) (given : Li
     → given ≡ given_cells text table scale len → count * len ≡ length given
 rows_fit text table scale len count given e g =
     ap (λ n. n * len) e ∙ sym (ap length g ∙ length-map-range_with_len _ 0
-        (joint_actions_in text * states_in text * len))
+    (joint_actions_in text * states_in text * len))
 
 pub rows_done : (text : Text) (table : Table) (scale len count : ℕ) (given cells : List ℕ) (repaired : ℕ)
     → count ≡ joint_actions_in text * states_in text → given ≡ given_cells text table scale len
     → RepairsRows scale count len given cells (Ok repaired)
     → (end : ℕ) → repair_all end (table_rows text table scale len)
-        ≡ Ok (record { cells = cells; repaired = repaired })
+    ≡ Ok (record { cells = cells; repaired = repaired })
 rows_done text table scale len count given cells repaired e g is end =
     is end (table_rows text table scale len) (rows_by_count text table scale len count given e g)
 
@@ -232,14 +232,14 @@ pub rows_failed : (text : Text) (table : Table) (scale len count : ℕ) (given c
     → RepairsRows scale count len given cells (Err r) → (end : ℕ)
     → repair_all end (table_rows text table scale len)
     ≡ Err (fault_of_row end (statement_at (last_of_row (axes_of text.header table)
-        (statements_for table text.statements)
+    (statements_for table text.statements)
     (row_cells (parts_of (joint_actions_in text ∷ states_in text ∷ []) r) len))))
 rows_failed text table scale len count given cells r e g h is end =
     let d : Row = record { cells = []; scale = 0; at = None } in
     let fault : Option ℕ → Result Repaired Fault = λ o. Err (fault_of_row end o) in
     is end (table_rows text table scale len) d (rows_by_count text table scale len count given e g)
     ∙ ap fault (ap (λ row. row.at) (row_of_table text table scale len r d (subst (λ n. r < n) e h))
-        ∙ at_of_row scale _ _ len _)
+    ∙ at_of_row scale _ _ len _)
 
 pub both_sizes : (text : Text) (actions states : ℕ) → actions ≡ joint_actions_in text → states ≡ states_in text
     → actions * states ≡ joint_actions_in text * states_in text

@@ -1,11 +1,12 @@
 -- What is written to the cells of a table.
-use Rattle.std.proofs.Common.{◌≡◌, ◌⊎◌, inl, inr, ℕ, suc, ◌+◌, ◌-◌, ◌*◌, ◌/◌, ◌%◌, ◌<◌, ◌≤◌, Bool, true, cond, nat_le,
-    nat_lt, ◌&&◌, List, [], ◌∷◌, ◌++◌, length, get_or, take, drop, refl, sym, ap, subst, ◌∙◌, arith}
+use Rattle.std.proofs.Common.{◌≡◌, ◌⊎◌, inl, inr, ℕ, suc, ◌+◌, ◌-◌, ◌*◌, ◌/◌, ◌%◌, ◌<◌, ◌≤◌, Bool, true, cond, nat_le}
+use Rattle.std.proofs.Common.{nat_lt, ◌&&◌, List, [], ◌∷◌, ◌++◌, length, get_or, take, drop, refl, sym, ap, subst}
+use Rattle.std.proofs.Common.{◌∙◌, arith}
 use Rattle.std.specs.Int.{◌∣◌}
 use Rattle.std.proofs.lemmas.Bool.{lt-ltb, le-ltb, le-leb, cases_order}
 use Rattle.std.proofs.Math.Bool.{and-false}
-use Rattle.std.proofs.lemmas.List.{get_or-take, get_or-drop, get_or_append_left, get_or-append_right, length-take-le,
-    length-drop}
+use Rattle.std.proofs.lemmas.List.{get_or-take, get_or-drop, get_or_append_left, get_or-append_right, length-take-le}
+use Rattle.std.proofs.lemmas.List.{length-drop}
 use Rattle.std.proofs.lemmas.Slice.{first_rest}
 use Rattle.std.proofs.lemmas.Nat.{div-mul-add, mod_below}
 use Rattle.std.proofs.Math.Nat.{div-add-mod, mod-mod_of_dvd, mul-le-mul_right, mul_comm, one-dvd}
@@ -54,7 +55,7 @@ pub one_more : {T : Type 0} (step first i : ℕ) (sizes : List ℕ) (parts : Lis
     → length block ∣ step
     → AreWrittenUpTo step first i sizes parts block before now
     → ((k : ℕ) (d : T) → k < step → get_or new k d ≡ cond (is_covered sizes parts k)
-        (get_or block (k % length block) d)
+    (get_or block (k % length block) d)
     (get_or now (i * step + k) d))
     → AreWrittenUpTo step first (i + 1) sizes parts block before (put_mid (i * step) step now new)
 one_more {T} step first i sizes parts block before now new some from same fits long whole up written k d h =
@@ -78,7 +79,7 @@ one_more {T} step first i sizes parts block before now new some from same fits l
         let at : i * step + k % step ≡ k = omega arith in
         let inner : get_or now k d ≡ get_or before k d = up k d h ∙ ap value (le-ltb (k / step) i (omega arith))
         ∙ ap (λ b. cond (b && is_covered sizes parts (k % step)) (get_or block (k % length block) d)
-            (get_or before k d))
+        (get_or before k d))
         (and-false (nat_le first (k / step))) in
         ap (λ n. get_or (put_mid (i * step) step now new) n d) (sym at)
         ∙ put_within (i * step) step now new (k % step) d (omega arith) (omega arith)
@@ -88,7 +89,7 @@ one_more {T} step first i sizes parts block before now new some from same fits l
         ∙ ap (λ n. cond (is_covered sizes parts (k % step)) (get_or block (k % length block) d) (get_or now n d)) at
         ∙ ap (λ x. cond (is_covered sizes parts (k % step)) (get_or block (k % length block) d) x) inner
         ∙ ap (λ b. cond (b && is_covered sizes parts (k % step)) (get_or block (k % length block) d)
-            (get_or before k d)) (sym both)
+        (get_or before k d)) (sym both)
       where
         both : (nat_le first (k / step) && nat_lt (k / step) (i + 1)) ≡ true
         both = ap (λ b. b && nat_lt (k / step) (i + 1)) (le-leb first (k / step) (omega arith))
@@ -119,7 +120,7 @@ all_written size sizes part parts step first end block before after e long withi
     ∙ ap (λ s. cond ((nat_le first (k / s) && nat_lt (k / s) end) && is_covered sizes parts (k % s))
     (get_or block (k % length block) d) (get_or before k d)) e
     ∙ ap (λ b. cond (b && is_covered sizes parts (k % product sizes)) (get_or block (k % length block) d)
-        (get_or before k d))
+    (get_or before k d))
     (sym (within (k / product sizes) below))
 
 -- ---- the lists of a call
@@ -143,8 +144,11 @@ pub record IsStep (sizes : List ℕ) (parts : List Part) (size : ℕ) (inner : L
 
 pub step_of : (sizes : List ℕ) (parts : List Part) (d : Part) → 1 ≤ length sizes → 1 ≤ length parts
     → IsStep sizes parts (get_or sizes 0 0) (behind_first sizes) (get_or parts 0 d) (behind_first parts)
-step_of sizes parts d some_size some_part = record { sizes_are = first_rest sizes 0 some_size; parts_are =
-    first_rest parts d some_part }
+step_of sizes parts d some_size some_part = record {
+  sizes_are = first_rest sizes 0 some_size;
+  parts_are =
+      first_rest parts d some_part;
+}
 
 -- how long a stretch is
 pub step_is : (sizes : List ℕ) (size : ℕ) (inner : List ℕ) (count : ℕ) → sizes ≡ size ∷ inner → count ≡ product sizes
@@ -194,7 +198,7 @@ pub next_written : {T : Type 0} (size : ℕ) (inner : List ℕ) (others : List P
     → AreWrittenUpTo step first i inner others block before now
     → AreWritten inner others block (take ((i + 1) * step - i * step) (drop (i * step) now)) new
     → AreWrittenUpTo step first (i + 1) inner others block before
-        (put_mid (i * step) ((i + 1) * step - i * step) now new)
+    (put_mid (i * step) ((i + 1) * step - i * step) now new)
 next_written {T} size inner others block before now new step first i some long below from same as_long whole up
     written =
     let times = mul-le-mul_right step below in
@@ -202,10 +206,10 @@ next_written {T} size inner others block before now new step first i some long b
     let width : (i + 1) * step - i * step ≡ step = omega arith in
     let rest = length-drop (i * step) now in
     let mid : length (take step (drop (i * step) now)) ≡ step =
-        length-take-le step (drop (i * step) now) (omega arith) in
+    length-take-le step (drop (i * step) now) (omega arith) in
     let long_new : length new ≡ step = as_long ∙ ap (λ m. length (take m (drop (i * step) now))) width ∙ mid in
     subst (λ m. AreWrittenUpTo step first (i + 1) inner others block before (put_mid (i * step) m now new))
-        (sym width)
+    (sym width)
     (one_more step first i inner others block before now new some from same fits long_new whole up
     (λ k d h. written k d (subst (λ n. k < n) (sym as_new) h)
     ∙ ap (λ x. cond (is_covered inner others k) (get_or block (k % length block) d) x) (held k d h)))
@@ -238,7 +242,7 @@ written_whole sizes parts size inner part others step first end block before aft
     subst (λ ns. AreWritten ns parts block before after) (sym is.sizes_are)
     (subst (λ ps. AreWritten (size ∷ inner) ps block before after) (sym is.parts_are)
     (all_written size inner part others step first end block before after e (long
-        ∙ ap product is.sizes_are) within up))
+    ∙ ap product is.sizes_are) within up))
 
 -- ---- last parts that allow all
 

@@ -1,6 +1,6 @@
 -- What the repair of rows in place leaves.
-use Rattle.std.specs.Prelude.{◌≡◌, ℕ, ◌*◌, ◌<◌, List, length, take, drop, get_or, sum, Option, Some, None, Result, Ok,
-    Err}
+use Rattle.std.specs.Prelude.{◌≡◌, ℕ, ◌*◌, ◌<◌, List, length, take, drop, get_or, sum, Option, Some, None, Result, Ok}
+use Rattle.std.specs.Prelude.{Err}
 use Rattle.dp_meaning.specs.declared.why.Fault.{Fault}
 use Rattle.dp_meaning.specs.declared.why.Why.TheVariants.{RowSum, MissingRow}
 use Rattle.dp_meaning.specs.Faults.{fault}

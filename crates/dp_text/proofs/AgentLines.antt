@@ -1,6 +1,6 @@
 -- One list for each agent, read line by line.
-use Rattle.std.proofs.Common.{◌≡◌, ℕ, suc, ◌+◌, ◌-◌, ◌<◌, ◌≤◌, List, [], ◌∷◌, ◌++◌, drop, Some, None, Result, Ok, Err,
-    refl, ap, ◌∙◌, sym, subst, arith}
+use Rattle.std.proofs.Common.{◌≡◌, ℕ, suc, ◌+◌, ◌-◌, ◌<◌, ◌≤◌, List, [], ◌∷◌, ◌++◌, drop, Some, None, Result, Ok, Err}
+use Rattle.std.proofs.Common.{refl, ap, ◌∙◌, sym, subst, arith}
 use Rattle.std.specs.Prelude.{slice_get}
 use Rattle.dp_items.proofs.Places.{drop_at, drop_none}
 use Rattle.dp_meaning.specs.declared.given_list.GivenList.{GivenList}
@@ -48,7 +48,7 @@ module _ (next : ℕ) where
   line_one all lists agents i lines line list some is read h =
       let steps : from_agent agents i lines ≡ (from_agent agents (i + 1) lines >>= λ others. Ok (list ∷ others)) =
       at_agent agents i lines line some is ∙ ap (λ (x : Result GivenList Fault). x >>= λ first.
-          from_agent agents (i + 1)
+      from_agent agents (i + 1)
       lines >>= λ others. Ok (first ∷ others)) read in
       continues_one all lists list (from_agent agents (i + 1) lines)
       (subst (λ (x : Result (List GivenList) Fault). Continues all lists x) steps h)
@@ -70,7 +70,7 @@ module _ (next : ℕ) where
       let steps = h.is ∙ ap (behind lists) (at_agent agents i lines line some is) in
       subst (λ (x : Result (List GivenList) Fault). Reads x (Err wrong)) (sym steps)
       (wrong_behind lists (name_list next line) (λ first. from_agent agents (i + 1) lines >>= λ others.
-          Ok (first ∷ others)) wrong read)
+      Ok (first ∷ others)) wrong read)
 
   missing : (n : ℕ) → name_lists next (suc n) [] ≡ fault Expected next
   unfolding name_lists
@@ -82,7 +82,7 @@ module _ (next : ℕ) where
       → all ≡ fault Expected next
   line_missing all lists agents i lines some is h =
       let steps : from_agent agents i lines ≡ fault Expected next =
-          rw (left agents i some, drop_none lines i (sym is))
+      rw (left agents i some, drop_none lines i (sym is))
       (missing (agents - (i + 1))) in
       h.is ∙ ap (behind lists) steps
 
@@ -101,15 +101,19 @@ module _ (next : ℕ) where
       (lines : List (List Piece))
       → agents ≤ i → None ≡ slice_get lines i → Continues all lists (from_agent agents i lines) → all ≡ Ok lists
   lines_end all lists agents i lines none is h =
-      let steps : from_agent agents i lines ≡ Ok [] = rw (none_left agents i none,
-          drop_none lines i (sym is)) all_lines in
+      let steps : from_agent agents i lines ≡ Ok [] = rw (
+        none_left agents i none,
+        drop_none lines i (sym is),
+      ) all_lines in
       continues_none all lists (subst (λ (x : Result (List GivenList) Fault). Continues all lists x) steps h)
 
   one_beyond : (agents i : ℕ) (lines : List (List Piece)) (line : List Piece) → agents ≤ i
       → Some line ≡ slice_get lines i
       → from_agent agents i lines ≡ ended [] line
-  one_beyond agents i lines line none is = rw (none_left agents i none,
-      drop_at lines i line (sym is)) (too_many line (drop (i + 1) lines))
+  one_beyond agents i lines line none is = rw (
+    none_left agents i none,
+    drop_at lines i line (sym is),
+  ) (too_many line (drop (i + 1) lines))
 
   pub empty_line : (all : Result (List GivenList) Fault) (lists : List GivenList) (agents i : ℕ)
       (lines : List (List Piece))
@@ -118,7 +122,7 @@ module _ (next : ℕ) where
       → Continues all lists (from_agent agents i lines) → all ≡ Ok lists
   empty_line all lists agents i lines line none is at_end h =
       let steps : from_agent agents i lines ≡ Ok [] = one_beyond agents i lines line none is
-          ∙ ended_ok {A = List GivenList} [] line
+      ∙ ended_ok {A = List GivenList} [] line
       at_end in
       continues_none all lists (subst (λ (x : Result (List GivenList) Fault). Continues all lists x) steps h)
 
@@ -129,6 +133,6 @@ module _ (next : ℕ) where
       → Continues all lists (from_agent agents i lines) → all ≡ Err e
   line_beyond all lists agents i lines line e none is goes_on h =
       let steps : from_agent agents i lines ≡ Err e = one_beyond agents i lines line none is
-          ∙ ended_fault {A = List GivenList} [] line e
+      ∙ ended_fault {A = List GivenList} [] line e
       goes_on in
       h.is ∙ ap (behind lists) steps

@@ -1,6 +1,6 @@
 -- The fields of a line, read one by one along axes.
-use Rattle.std.proofs.Common.{◌≡◌, ℕ, ◌+◌, ◌-◌, ◌<◌, ◌≤◌, List, [], ◌∷◌, ◌++◌, length, get_or, drop, Result, Ok, Err,
-    refl, ap, ◌∙◌, arith, length-append, length-drop}
+use Rattle.std.proofs.Common.{◌≡◌, ℕ, ◌+◌, ◌-◌, ◌<◌, ◌≤◌, List, [], ◌∷◌, ◌++◌, length, get_or, drop, Result, Ok, Err}
+use Rattle.std.proofs.Common.{refl, ap, ◌∙◌, arith, length-append, length-drop}
 use Rattle.std.proofs.lemmas.List.{drop_all, drop-drop}
 use Rattle.dp_meaning.specs.declared.why.Fault.{Fault}
 use Rattle.dp_meaning.specs.declared.why.Why.TheVariants.{Expected}
@@ -41,7 +41,7 @@ left_behind : (line left : List Piece) (n : ℕ) → n ≤ length left → lengt
     → left ≡ drop (length line - length left) line → drop n left ≡ drop (length line - length (drop n left)) line
 left_behind line left n within shorter behind =
     let len : length line - length left + n ≡ length line - length (drop n left) =
-        omega (arith, length-drop {A = Piece}) in
+    omega (arith, length-drop {A = Piece}) in
     ap (drop n) behind ∙ drop-drop n (length line - length left) line ∙ ap (λ k. drop k line) len
 
 module _ {axes : List Axis} {line : List Piece} {parts : List (List Part)} {left : List Piece}
@@ -50,7 +50,7 @@ module _ {axes : List Axis} {line : List Piece} {parts : List (List Part)} {left
       → axis ≡ get_or axes (length parts) []
       → Continues (all_of axes line) parts
       (field_parts axis field >>= λ first. all_of (drop (length parts + 1) axes)
-          (drop (length field.pieces + 1) left) >>= λ others. Ok (first ∷ others))
+      (drop (length field.pieces + 1) left) >>= λ others. Ok (first ∷ others))
   unfolding all_parts
   at_field field axis f within a =
       let here = drop_item axes (length parts) [] within in rw (ap (λ fs. fs.fields) f, here, ← a) at h.is
@@ -73,7 +73,7 @@ module _ {axes : List Axis} {line : List Piece} {parts : List (List Part)} {left
   pub field_fault : (field : Field) (axis : Axis) (e : TextFault) → IsFirstField field left
       → length parts < length axes
       → axis ≡ get_or axes (length parts) [] → Reads (field_parts axis field) (Err e)
-          → Reads (all_of axes line) (Err e)
+      → Reads (all_of axes line) (Err e)
   field_fault field axis (At e) f within a read =
       let stops : Continues (all_of axes line) parts (Err e) = rw read at (at_field field axis f within a) in stops.is
   field_fault field axis Memory f within a read = tt
@@ -85,7 +85,7 @@ module _ {axes : List Axis} {line : List Piece} {parts : List (List Part)} {left
   too_many field f e =
       let none = drop_all (length parts) axes (omega arith) in
       let stops : Continues (all_of axes line) parts (fault Expected field.colon) =
-          rw (ap (λ fs. fs.fields) f, none) at h.is in stops.is
+      rw (ap (λ fs. fs.fields) f, none) at h.is in stops.is
 
   -- no Colon is left
   pub fields_end : HasNoField left

@@ -1,6 +1,6 @@
 -- The first field of a line is what stands before its first Colon.
-use Rattle.std.proofs.Common.{◌≡◌, ℕ, zero, suc, ◌+◌, ◌<◌, Bool, true, false, cond, List, [], ◌∷◌, length, take, drop,
-    refl, sym, ap, ◌∙◌, arith, add-one, length-take}
+use Rattle.std.proofs.Common.{◌≡◌, ℕ, zero, suc, ◌+◌, ◌<◌, Bool, true, false, cond, List, [], ◌∷◌, length, take, drop}
+use Rattle.std.proofs.Common.{refl, sym, ap, ◌∙◌, arith, add-one, length-take}
 use Rattle.std.specs.Prelude.{not, Some, None}
 use Rattle.std.proofs.lemmas.List.{drop_all}
 use Rattle.std.proofs.lemmas.Option.{slice_get_within}
@@ -58,11 +58,11 @@ pub first_field_is : (line : List Piece) (c : ℕ) (colon : Piece) → c ≡ pre
     → Some colon ≡ slice_get line c
     → fields_of line
     ≡ with_field (record { pieces = take c line; colon = colon.at })
-        (fields_of (drop (length (take c line) + 1) line))
+    (fields_of (drop (length (take c line) + 1) line))
 first_field_is line c colon e h =
     let within = slice_get_within line c colon (sym h) in
     let len : length (take c line) + 1 ≡ suc c = omega (arith, length-take {A = Piece}) in
-        rw len (first_colon line c colon (sym e) (sym h))
+    rw len (first_colon line c colon (sym e) (sym h))
 
 -- ---- the place of the first Colon
 

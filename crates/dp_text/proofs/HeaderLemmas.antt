@@ -1,6 +1,6 @@
 -- The header, read entry by entry.
-use Rattle.std.proofs.Common.{◌≡◌, ℕ, ◌+◌, ◌≤◌, List, [], ◌∷◌, length, drop, Some, Result, Ok, Err, refl, ap, ◌∙◌,
-    sym, subst, arith}
+use Rattle.std.proofs.Common.{◌≡◌, ℕ, ◌+◌, ◌≤◌, List, [], ◌∷◌, length, drop, Some, Result, Ok, Err, refl, ap, ◌∙◌}
+use Rattle.std.proofs.Common.{sym, subst, arith}
 use Rattle.std.specs.Prelude.{slice_get}
 use Rattle.std.proofs.Math.ListN.{drop_of_length-le}
 use Rattle.dp_meaning.specs.declared.header.Entries.{Entries}
@@ -73,7 +73,7 @@ module _ (end : ℕ) (entries : Entries) where
         → all ≡ header_and (item_at item) entries (drop place items)
     statement_one table kind =
         at_place ∙ (first_item item (drop (place + 1) items) (StatementOf table) (sym kind)
-            ∙ ap (header_and (item_at item) entries)
+        ∙ ap (header_and (item_at item) entries)
         (sym (drop_at items place item here)))
 
     pub no_item : NoItem ≡ kind_of item → all ≡ fault Expected (item_at item)
@@ -84,7 +84,7 @@ module _ (end : ℕ) (entries : Entries) where
   header_last all items place past so_far =
       let none : drop (length items) items ≡ [] = drop_of_length-le items (omega arith) in
       so_far ∙ (ap (header_of end entries) (drop_of_length-le items past)
-          ∙ (no_more ∙ ap (header_and end entries) (sym none)))
+      ∙ (no_more ∙ ap (header_and end entries) (sym none)))
 
 -- what is read is the same along equal meanings
 pub reads_header_along : (items : List Item) (all rest : Result (Header × List Item) Fault)

@@ -1,6 +1,6 @@
 -- Lists of names, read name by name, and lists of them, read line by line.
-use Rattle.std.proofs.Common.{◌≡◌, ℕ, ◌+◌, ◌≤◌, Bool, true, false, not, List, [], ◌∷◌, ◌++◌, length, drop, Result, Ok,
-    Err, refl, ap, ◌∙◌, sym, length-append}
+use Rattle.std.proofs.Common.{◌≡◌, ℕ, ◌+◌, ◌≤◌, Bool, true, false, not, List, [], ◌∷◌, ◌++◌, length, drop, Result, Ok}
+use Rattle.std.proofs.Common.{Err, refl, ap, ◌∙◌, sym, length-append}
 use Rattle.std.specs.Prelude.{if◌then◌else◌}
 use Rattle.std.proofs.Math.ListN.{drop_of_length-le}
 use Rattle.dp_base.specs.Names.{is_name}
@@ -56,7 +56,7 @@ pub name_wrong : (all : Result (List (List ℕ)) Fault) (names : List (List ℕ)
 name_wrong all names piece pieces rest wrong is one h =
     let first = with_new_name names piece in
     let steps : all ≡ (first >>= λ more. names_after more pieces) =
-        h ∙ (ap (names_after names) is ∙ name_first names piece pieces) in
+    h ∙ (ap (names_after names) is ∙ name_first names piece pieces) in
     reads_same (Err wrong) steps
     (reads_on first (λ more. names_after more pieces) wrong one)
 
@@ -72,5 +72,5 @@ unfolding with_new_name
 one_more names piece now h =
     let is : now ≡ names ++ piece.text ∷ [] = chosen_is (not (is_name piece.text)) (has_name names piece.text)
     (record { at = piece.at; why = Expected }) (record { at = piece.at; why = DoubleName })
-        (names ++ piece.text ∷ []) now (sym h) in
+    (names ++ piece.text ∷ []) now (sym h) in
     rw (is, length-append) refl

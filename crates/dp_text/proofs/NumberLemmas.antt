@@ -1,6 +1,6 @@
 -- Exactly so many Numbers, read one by one.
-use Rattle.std.proofs.Common.{◌≡◌, ℕ, zero, suc, ◌-◌, ◌<◌, ◌≤◌, Bool, List, [], ◌∷◌, ◌++◌, length, Result, Ok, Err,
-    refl, arith}
+use Rattle.std.proofs.Common.{◌≡◌, ℕ, zero, suc, ◌-◌, ◌<◌, ◌≤◌, Bool, List, [], ◌∷◌, ◌++◌, length, Result, Ok, Err}
+use Rattle.std.proofs.Common.{refl, arith}
 use Rattle.dp_base.specs.declared.decimal.Decimal.{Decimal}
 use Rattle.dp_meaning.specs.declared.why.Fault.{Fault}
 use Rattle.dp_meaning.specs.declared.why.Why.TheVariants.{Expected}
@@ -41,7 +41,7 @@ module _ (f : Decimal → Bool) (next : ℕ) where
       → Continues all (items ++ d ∷ []) (numbers f next (left - 1) pieces)
   numbers_one all items left piece pieces rest d some is read h =
       continues_one all items d (numbers f next (left - 1) pieces)
-          (rw (is, first_of left piece pieces some, ← read) at h)
+      (rw (is, first_of left piece pieces some, ← read) at h)
 
   pub numbers_fault : (all : Result (List Decimal) Fault) (items : List Decimal) (left : ℕ) (piece : Piece)
       (pieces rest : List Piece)
@@ -77,8 +77,10 @@ module _ (f : Decimal → Bool) (next : ℕ) where
       (e : Fault)
       → left ≤ 0 → ends rest ≡ Err e → Continues all items (numbers f next left rest) → all ≡ Err e
   numbers_more all items left rest e none goes_on h =
-      let stops : Continues all items (Err e) = rw (last left rest none,
-          ended_fault {A = List Decimal} [] rest e goes_on) at h in
+      let stops : Continues all items (Err e) = rw (
+        last left rest none,
+        ended_fault {A = List Decimal} [] rest e goes_on,
+      ) at h in
       stops.is
 
   -- where more are wanted than there are tokens, it is all one how many

@@ -26,7 +26,7 @@ module _ {axis : Axis} {field : Field} {parts : List Part} {k : ℕ} (h : PartsR
       → Some piece ≡ slice_get field.pieces k
       → Continues (parts_in axis field field.pieces) parts
       (part_of list piece >>= λ first. parts_in (drop (k + 1) axis) field (drop (k + 1) field.pieces) >>= λ others.
-          Ok (first ∷ others))
+      Ok (first ∷ others))
   unfolding parts_in
   at_token list piece within l p =
       let lists = drop_item axis k list within in
@@ -44,7 +44,7 @@ module _ {axis : Axis} {field : Field} {parts : List Part} {k : ℕ} (h : PartsR
       → Some piece ≡ slice_get field.pieces k → Err e ≡ part_of list piece → parts_in axis field field.pieces ≡ Err e
   part_fault list piece e within l p read =
       let stops : Continues (parts_in axis field field.pieces) parts (Err e) =
-          rw (← read) at (at_token list piece within l p) in stops.is
+      rw (← read) at (at_token list piece within l p) in stops.is
 
   -- the field ends too early
   pub part_missing : (list : GivenList) → k < length axis → list ≡ get_or axis k list
@@ -55,7 +55,7 @@ module _ {axis : Axis} {field : Field} {parts : List Part} {k : ℕ} (h : PartsR
       let lists = drop_item axis k list within in
       let pieces = drop_none field.pieces k (sym p) in
       let stops : Continues (parts_in axis field field.pieces) parts (fault Expected field.colon) =
-          rw (lists, ← l, pieces) at h.is in stops.is
+      rw (lists, ← l, pieces) at h.is in stops.is
 
   -- the field ends in time
   pub parts_end : k ≡ length axis → None ≡ slice_get field.pieces k → parts_in axis field field.pieces ≡ Ok parts
@@ -72,4 +72,4 @@ module _ {axis : Axis} {field : Field} {parts : List Part} {k : ℕ} (h : PartsR
       let lists = drop_all k axis (omega arith) in
       let pieces = drop_at field.pieces k piece (sym p) in
       let stops : Continues (parts_in axis field field.pieces) parts (fault Expected piece.at) =
-          rw (lists, pieces) at h.is in stops.is
+      rw (lists, pieces) at h.is in stops.is

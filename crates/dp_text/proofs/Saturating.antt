@@ -1,6 +1,6 @@
 -- Products of which only the part up to a limit is kept.
-use Rattle.std.proofs.Common.{◌≡◌, ℕ, zero, suc, ◌+◌, ◌*◌, ◌≤◌, List, sym, ap, ◌∙◌, arith, mul_assoc, mul_comm, inl,
-    inr, ◌<◌, length, map, drop, get_or}
+use Rattle.std.proofs.Common.{◌≡◌, ℕ, zero, suc, ◌+◌, ◌*◌, ◌≤◌, List, sym, ap, ◌∙◌, arith, mul_assoc, mul_comm, inl}
+use Rattle.std.proofs.Common.{inr, ◌<◌, length, map, drop, get_or}
 use Rattle.std.specs.Prelude.{min}
 use Rattle.std.proofs.lemmas.Bool.{cases_lt}
 use Rattle.std.proofs.Math.Nat.{mul-le-mul_right}

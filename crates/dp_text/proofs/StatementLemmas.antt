@@ -1,6 +1,6 @@
 -- A statement, by its fields and its value.
-use Rattle.std.proofs.Common.{◌≡◌, ℕ, ◌+◌, ◌<◌, ◌≤◌, true, false, List, [], ◌∷◌, ◌++◌, length, drop, Result, Ok, Err,
-    refl, sym, ap, ◌∙◌, arith}
+use Rattle.std.proofs.Common.{◌≡◌, ℕ, ◌+◌, ◌<◌, ◌≤◌, true, false, List, [], ◌∷◌, ◌++◌, length, drop, Result, Ok, Err}
+use Rattle.std.proofs.Common.{refl, sym, ap, ◌∙◌, arith}
 use Rattle.std.specs.Prelude.{nat_lt, Some}
 use Rattle.std.specs.List.{flat_map, slice_get}
 use Rattle.std.proofs.lemmas.Bool.Decides.{nat_tests}
@@ -48,7 +48,7 @@ module _ (header : Header) (table : Table) (item : Item) where
 
   module _ (parts : List (List Part)) (taken : ℕ) (h : fields_read ≡ Ok parts) (l : least_fields table ≤ length parts)
       (within : taken ≤ length (after_colon item)) (rest : (fields_of (after_colon item)).rest
-          ≡ drop taken (after_colon item)) where
+      ≡ drop taken (after_colon item)) where
     -- what is left of the item
     left : (fields_of (after_colon item)).rest ++ flat_map pieces_of item.more ≡ drop taken (value_pieces item)
     left = ap (λ ps. ps ++ flat_map pieces_of item.more) rest
@@ -63,13 +63,18 @@ module _ (header : Header) (table : Table) (item : Item) where
     pub right_statement : (value : Value)
         → value_of table (drop (length parts) (axes_of header table)) item.next (drop taken (value_pieces item))
         ≡ Ok value
-        → statement header table item ≡ Ok (record { at = item_at item; table = table; fields = parts; value =
-            value })
+        → statement header table item ≡ Ok (record {
+          at = item_at item;
+          table = table;
+          fields = parts;
+          value =
+              value;
+        })
     right_statement value v = by_value ∙ rw v refl
 
     pub wrong_value : (e : TextFault)
         → Reads (value_of table (drop (length parts) (axes_of header table)) item.next
-            (drop taken (value_pieces item))) (Err e)
+        (drop taken (value_pieces item))) (Err e)
         → Reads (statement header table item) (Err e)
     wrong_value (At e) v = by_value ∙ rw v refl
     wrong_value Memory v = tt
@@ -89,7 +94,7 @@ module _ {header : Header} {items : List Item} {first : ℕ} {statements : List 
   at_item : (item : Item) → slice_get items k ≡ Some item
       → Continues (statements_of header (drop first items)) statements
       (statement_of_kind header item (kind_of item) >>= λ one. statements_of header (drop (k + 1) items) >>= λ others.
-          Ok (one ∷ others))
+      Ok (one ∷ others))
   unfolding statements_of
   at_item item e = let here = drop_at items k item e in rw here at h.is
 
@@ -103,7 +108,7 @@ module _ {header : Header} {items : List Item} {first : ℕ} {statements : List 
       → Reads (statements_of header (drop first items)) (Err e)
   statement_fault item (At e) s read =
       let stops : Continues (statements_of header (drop first items)) statements (Err e) =
-          rw read at (at_item item s) in stops.is
+      rw read at (at_item item s) in stops.is
   statement_fault item Memory s read = tt
 
   pub statements_end : length items ≤ k → statements_of header (drop first items) ≡ Ok statements

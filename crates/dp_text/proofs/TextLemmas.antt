@@ -35,4 +35,4 @@ pub by_items : (bytes : List ℕ) (tokens : List Token) → AreTokensOf bytes to
 unfolding text_of_items
 by_items bytes tokens are =
     by_steps bytes ∙ ap (λ (r : Result (List Token) ℕ). steps bytes (pieces_of_tokens bytes r))
-        ((tokens_are_of_text bytes tokens).1 are)
+    ((tokens_are_of_text bytes tokens).1 are)

@@ -1,6 +1,6 @@
 -- The value of a statement, by its first token.
-use Rattle.std.proofs.Common.{◌≡◌, ℕ, ◌+◌, Bool, true, false, cond, List, [], ◌∷◌, length, map, Result, Ok, refl, sym,
-    ap, ◌∙◌, arith, inl, inr}
+use Rattle.std.proofs.Common.{◌≡◌, ℕ, ◌+◌, Bool, true, false, cond, List, [], ◌∷◌, length, map, Result, Ok, refl, sym}
+use Rattle.std.proofs.Common.{ap, ◌∙◌, arith, inl, inr}
 use Rattle.std.specs.Prelude.{◌==◌, ◌&&◌, codes, min, nat_lt, not}
 use Rattle.std.proofs.lemmas.Bool.{cases_lt}
 use Rattle.std.proofs.Math.Bool.{and_assoc}
@@ -15,8 +15,8 @@ use Rattle.dp_meaning.specs.Items.{Piece}
 use Rattle.dp_meaning.specs.Numbers.{numbers, ended}
 use Rattle.dp_meaning.specs.NameLists.{says}
 use Rattle.dp_meaning.specs.Fields.{Axis}
-use Rattle.dp_meaning.specs.Statements.{axis_size, allows_uniform, allows_identity, is_trans, is_reward_table,
-    is_number_of, value_of}
+use Rattle.dp_meaning.specs.Statements.{axis_size, allows_uniform, allows_identity, is_trans, is_reward_table}
+use Rattle.dp_meaning.specs.Statements.{is_number_of, value_of}
 use Rattle.dp_text.specs.GivenNumbers.{given_numbers}
 use Rattle.dp_text.proofs.NumberLemmas.{numbers_beyond}
 
@@ -76,4 +76,4 @@ pub identity_test : (table : Table) (rest : List Axis) (left : ℕ) (says_so b :
     → b ≡ (is_trans table && (left == 2 && says_so)) → (allows_identity table rest && says_so) ≡ b
 identity_test table rest left says_so b len e =
     and_assoc (is_trans table) (length rest == 2) says_so ∙ ap (λ n. is_trans table && (n == 2 && says_so)) (sym len)
-        ∙ sym e
+    ∙ sym e

@@ -1,6 +1,6 @@
 -- Tokens are texts, and names are words but two.
-use Rattle.std.proofs.Common.{◌≡◌, ◌≢◌, ℕ, zero, suc, ◌<◌, true, false, not, ◌&&◌, List, [], ◌∷◌, length, refl, ap,
-    ◌∙◌, sym, arith, Result, Ok, Err, ◌^◌}
+use Rattle.std.proofs.Common.{◌≡◌, ◌≢◌, ℕ, zero, suc, ◌<◌, true, false, not, ◌&&◌, List, [], ◌∷◌, length, refl, ap}
+use Rattle.std.proofs.Common.{◌∙◌, sym, arith, Result, Ok, Err, ◌^◌}
 use Rattle.std.specs.Prelude.{nat_lt, slice_index}
 use Rattle.std.specs.List.{list_all}
 use Rattle.std.specs.Option.{SomeIff}
@@ -36,7 +36,7 @@ unfolding is_word
 text_of_kind Word bytes h =
     let run = (and_parts (nat_lt 0 (length bytes) && list_all is_name_byte bytes) (not (is_decimal bytes)) h).0 in
     IsUtf8-from_ascii bytes (bytes_low bytes (and_parts (nat_lt 0 (length bytes))
-        (list_all is_name_byte bytes) run).1)
+    (list_all is_name_byte bytes) run).1)
 text_of_kind Number bytes h = IsUtf8-from_ascii bytes (bytes_low bytes h.0)
 text_of_kind Colon bytes h = rw h (IsUtf8-from_ascii (58 ∷ []) (mark_low 58 (omega arith)))
 text_of_kind Star bytes h = rw h (IsUtf8-from_ascii (42 ∷ []) (mark_low 42 (omega arith)))

@@ -1,6 +1,6 @@
 -- The first field of a line.
-use Rattle.std.specs.Prelude.{◌≡◌, ℕ, Bool, false, not, ◌+◌, List, [], ◌∷◌, length, drop, Option, Some, None,
-    slice_get}
+use Rattle.std.specs.Prelude.{◌≡◌, ℕ, Bool, false, not, ◌+◌, List, [], ◌∷◌, length, drop, Option, Some, None}
+use Rattle.std.specs.Prelude.{slice_get}
 use Rattle.dp_meaning.specs.Items.{Piece, is_colon}
 use Rattle.dp_meaning.specs.Fields.{Field, Fields, fields_of}
 

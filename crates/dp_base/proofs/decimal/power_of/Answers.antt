@@ -8,6 +8,10 @@ loop-digit-preserved c =
     record {
       is = rw c.from.ensures (more_value c.args.digits.now c.loop-digit.power c.loop-digit.digit-index
           c.loop-digit-test.true digit c.loop-digit.invariant.is);
-      below = omega (arith, more_below c.args.digits.now c.loop-digit.power c.loop-digit.digit-index digit
-          c.loop-digit.invariant.below, c.from.ensures);
+      below = omega (
+        arith,
+        more_below c.args.digits.now c.loop-digit.power c.loop-digit.digit-index digit
+            c.loop-digit.invariant.below,
+        c.from.ensures,
+      );
     }

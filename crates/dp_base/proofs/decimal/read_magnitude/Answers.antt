@@ -11,7 +11,7 @@ begins c = record { count_is = c.scan-whole.ensures.count; rest_is = c.split_at.
 pub returns-else-not-is_exponent : goal.returns-else-not-is_exponent
 returns-else-not-is_exponent c =
     let behind : Behind c.split_at.result.1.now c.skip_one-after.result.now c.split_at-then-byte_at-eq46.result.1.now
-        c.scan-fraction.result.1 =
+    c.scan-fraction.result.1 =
     record {
       point_is = sym c.byte_at.ensures ∙ c.if-byte_at-eq46.true;
       after_is = c.skip_one-after.ensures;
@@ -20,16 +20,16 @@ returns-else-not-is_exponent c =
     }
     in
     let seen = c.scan-fraction.ensures.seen (take_while is_ascii_digit c.args.number.now)
-        (c.scan-whole.ensures.seen [] c.new.ensures.seen) in
+    (c.scan-whole.ensures.seen [] c.new.ensures.seen) in
     c.scaled.ensures (take_while is_ascii_digit c.args.number.now
-        ++ take_while is_ascii_digit c.skip_one-after.result.now) seen
+    ++ take_while is_ascii_digit c.skip_one-after.result.now) seen
     ∙ same_pointed _ _ _ _ _ _ _ (begins (goal.at.returns-else-not-is_exponent c).After-split_at) behind
-        c.if-whole-fraction-eq0.false (sym c.is_exponent.ensures ∙ c.if-not-is_exponent.false)
+    c.if-whole-fraction-eq0.false (sym c.is_exponent.ensures ∙ c.if-not-is_exponent.false)
 
 pub returns-else-not-is_exponent-2 : goal.returns-else-not-is_exponent-2
 returns-else-not-is_exponent-2 c =
     let seen = c.scan-whole.ensures.seen [] c.new.ensures.seen in
     c.scaled-else-byte_at-eq46.ensures (take_while is_ascii_digit c.args.number.now) seen
     ∙ same_plain _ _ _ _ (begins (goal.at.returns-else-not-is_exponent-2 c).After-split_at)
-        (λ e. c.if-byte_at-eq46.false (c.byte_at.ensures ∙ e)) c.if-whole-eq0.false
-        (sym c.is_exponent-else-whole-eq0.ensures ∙ c.if-not-is_exponent-2.false)
+    (λ e. c.if-byte_at-eq46.false (c.byte_at.ensures ∙ e)) c.if-whole-eq0.false
+    (sym c.is_exponent-else-whole-eq0.ensures ∙ c.if-not-is_exponent-2.false)

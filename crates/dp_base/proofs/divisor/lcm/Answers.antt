@@ -9,8 +9,11 @@ past : (c : goal.Joined-then-a-gt-MOST) → 2 ^ 62 < lcm_of c.args.a c.args.b
 past c =
     let is = lcm_of-IsLcm c.args.a c.args.b c.requires.some_left in
     let least = lcm_at_least c.args.a c.args.b _ c.requires.some_left c.requires.some_right is in
-    elim c.then-a-gt-MOST.either [ inl over ↦ omega (arith, least.0) | inr over ↦
-        (let b = over.1 in omega (arith, least.1)) ]
+    elim c.then-a-gt-MOST.either [
+      | inl over ↦ omega (arith, least.0)
+      | inr over ↦
+          (let b = over.1 in omega (arith, least.1))
+    ]
 
 pub returns-then-a-gt-MOST-clause-none : goal.returns-then-a-gt-MOST-clause-none
 returns-then-a-gt-MOST-clause-none c = (

@@ -17,4 +17,4 @@ returns-clause-least c = is_lcm (goal.at.returns-clause-least c).After-gcd
 pub returns-clause-computed : goal.returns-clause-computed
 returns-clause-computed c =
     same_from_IsLcm c.args.a c.args.b _ _ (is_lcm (goal.at.returns-clause-computed c).After-gcd)
-        (lcm_of-IsLcm c.args.a c.args.b c.requires.some)
+    (lcm_of-IsLcm c.args.a c.args.b c.requires.some)

@@ -21,7 +21,7 @@ between-own-requires-clause-in_order c =
     let in_order = c.loop-at.invariant.in_order in
     let here : c.loop-at.at - 1 < length c.args.lines.now = omega arith in
     let line = run_at 0 c.args.lines.now (length c.args.pieces.now)
-        (c.loop-at.at - 1) no_line c.requires.one_run here in omega arith
+    (c.loop-at.at - 1) no_line c.requires.one_run here in omega arith
 
 pub between-own-requires-clause-within : goal.between-own-requires-clause-within
 between-own-requires-clause-within c =
@@ -33,20 +33,20 @@ between-own-requires-clause-within c =
 pub loop-at-preserved-then-begins_item : goal.loop-at-preserved-then-begins_item
 loop-at-preserved-then-begins_item c =
     let so_far = one_back c.args.end c.args.pieces.now c.args.lines.now c.loop-at.at c.loop-at.before c.loop-at.past
-        c.loop-at.next
+    c.loop-at.next
     c.loop-at.items.items c.loop-at-test.true c.loop-at.invariant in
     let next = c.first_at-next.ensures.is ∙ ap (first_at c.args.end) c.between-own.ensures in
     let limit = rw next at (c.first_at-next.ensures.limit c.requires.end) in
     rw (c.in_ok-push.ensures.items, next)
     (begins c.args.end c.args.pieces.now c.args.lines.now c.requires.one_run (c.loop-at.at - 1)
     (inside (goal.at.loop-at-preserved-then-begins_item c).After-begins_item) c.loop-at.before c.loop-at.past
-        c.loop-at.next
+    c.loop-at.next
     c.loop-at.items.items so_far (sym (c.if-begins_item.ensures ∙ ap begins_item c.between-own.ensures)) limit)
 
 pub loop-at-preserved : goal.loop-at-preserved
 loop-at-preserved c =
     let so_far = one_back c.args.end c.args.pieces.now c.args.lines.now c.loop-at.at c.loop-at.before c.loop-at.past
-        c.loop-at.next
+    c.loop-at.next
     c.loop-at.items.items c.loop-at-test.true c.loop-at.invariant in
     goes_on c.args.end c.args.pieces.now c.args.lines.now c.requires.one_run (c.loop-at.at - 1)
     (inside (goal.at.loop-at-preserved c).After-begins_item) c.loop-at.before c.loop-at.past c.loop-at.next

@@ -31,15 +31,19 @@ loop-piece-preserved c =
     let found = here (goal.at.loop-piece-preserved c).After-kind in
     elim c.match-kind.branch [
       | in-LineEnd+in_ok-add_unless_empty w ↦
-          let range : LineRange = record { first = c.loop-piece.first; past = c.loop-piece.past; ends =
-              w.at.result } in
+          let range : LineRange = record {
+            first = c.loop-piece.first;
+            past = c.loop-piece.past;
+            ends =
+                w.at.result;
+          } in
           rw (w.lines-is, w.in_ok-add_unless_empty.ensures, w.first-is, w.past-is)
           (ends_line c.args.end c.args.pieces.now c.loop-piece.lines.items range c.loop-piece.at c.in-Some.piece
-              c.loop-piece.invariant found
+          c.loop-piece.invariant found
           (sym c.kind.ensures ∙ w.in-LineEnd.is) w.at.ensures w.invariant-in-LineEnd.ensures.at)
       | in_default-kind w ↦ rw (w.lines-is, w.first-is, w.past-is)
           (goes_on c.args.end c.args.pieces.now c.loop-piece.lines.items c.loop-piece.first c.loop-piece.past
-              c.loop-piece.at c.in-Some.piece
+          c.loop-piece.at c.in-Some.piece
           c.loop-piece.invariant found (λ e. w.in_default-kind.not-LineEnd (c.kind.ensures ∙ e)))
     ]
 

@@ -6,15 +6,15 @@ use Rattle.dp_model.proofs.horizon.joint_histories.Goals as goal
 pub pow-requires : goal.pow-requires
 pow-requires c =
     let count : c.from.result ≡ joint_observations c.args.model.now.model =
-        c.from.ensures ∙ c.joint_observations.ensures.is in
+    c.from.ensures ∙ c.joint_observations.ensures.is in
     let few = joint_histories_few c.args.model.now.model c.invariant.ensures.model c.args.horizon c.requires.some
-        c.requires.few in
+    c.requires.few in
     rw count (omega arith)
 
 pub returns-clause-limit : goal.returns-clause-limit
 returns-clause-limit c =
     let count : c.from.result ≡ joint_observations c.args.model.now.model =
-        c.from.ensures ∙ c.joint_observations.ensures.is in
+    c.from.ensures ∙ c.joint_observations.ensures.is in
     let few = joint_histories_few c.args.model.now.model c.invariant.ensures.model c.args.horizon c.requires.some
-        c.requires.few in
+    c.requires.few in
     rw (c.pow.ensures, count) few

@@ -6,4 +6,4 @@ pub histories_of-count-requires-clause-few : goal.histories_of-count-requires-cl
 histories_of-count-requires-clause-few c =
     let alike = c.invariant.ensures.model.sizes.alike in
     rw c.observations.ensures (observations_few c.args.model.now.model c.invariant.ensures.model c.loop-agent.agent
-        (omega arith))
+    (omega arith))

@@ -16,6 +16,6 @@ returns-in_err-seen c =
 pub returns : goal.returns
 returns c =
     all_three c.args.scale c.args.scales.now.trans c.args.scales.now.obs c.args.scales.now.discount _ _ _ _ _ _
-        c.product_within-3.result
+    c.product_within-3.result
     c.from.ensures c.from-2.ensures c.from-3.ensures c.in_ok-arrived.ensures.1 c.in_ok-seen.ensures.1
-        c.product_within-3.ensures
+    c.product_within-3.ensures

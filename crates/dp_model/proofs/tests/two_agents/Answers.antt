@@ -16,7 +16,7 @@ build-requires-clause-model c =
     let is : model_of_tables (record { states = 1; actions = c.of.result; observations = c.of-2.result })
     (record { start = 1; trans = 1; obs = 2; reward = 1; discount = 1; gain = 1 })
     (record { start = c.of-3.result; trans = c.of-4.result; obs = c.of-5.result; reward = c.of-6.result })
-        ≡ two_agents =
+    ≡ two_agents =
     λ i. record {
       states = 1;
       actions = actions i;
@@ -32,11 +32,11 @@ build-requires-clause-model c =
 pub returns-clause-are_actions : goal.returns-clause-are_actions
 returns-clause-are_actions c =
     let actions : c.build.result.model.actions ≡ 2 ∷ 3 ∷ [] =
-        (λ i. (c.build.ensures i).model.actions) ∙ c.of.ensures ∙ c.in_ok-vec.ensures.items in
+    (λ i. (c.build.ensures i).model.actions) ∙ c.of.ensures ∙ c.in_ok-vec.ensures.items in
     subst (λ ns. AreParts ns (1 ∷ 2 ∷ [])) (sym actions) are_actions
 
 pub returns-clause-are_observations : goal.returns-clause-are_observations
 returns-clause-are_observations c =
     let observations : c.build.result.model.observations ≡ 1 ∷ 2 ∷ [] =
-        (λ i. (c.build.ensures i).model.observations) ∙ c.of-2.ensures ∙ c.in_ok-vec-2.ensures.items in
+    (λ i. (c.build.ensures i).model.observations) ∙ c.of-2.ensures ∙ c.in_ok-vec-2.ensures.items in
     subst (λ ns. AreParts ns (0 ∷ 1 ∷ [])) (sym observations) are_observations

@@ -1,12 +1,13 @@
-use Rattle.std.proofs.Common.{◌≡◌, ◌+◌, ◌*◌, ◌^◌, ◌++◌, [], ◌∷◌, pos, not, IsTrue, string_bytes, unsigned_abs, ap,
-    subst, ◌∙◌}
+use Rattle.std.proofs.Common.{◌≡◌, ◌+◌, ◌*◌, ◌^◌, ◌++◌, [], ◌∷◌, pos, not, IsTrue, string_bytes, unsigned_abs, ap}
+use Rattle.std.proofs.Common.{subst, ◌∙◌}
 use mathlib.Core.Bool.{beq}
 use Rattle.std.proofs.lemmas.Int.{to_z-of_z}
 use Rattle.std.specs.Int.{w128, is_negative}
 use Rattle.dp_num.specs.FractionTexts.{millionths, millionths_text}
 use Rattle.dp_num.proofs.Fractions.{IsMagnitude, unsigned_text, zero_text, signed_text}
-use Rattle.dp_num.proofs.fraction.fraction_text.Goals.{then-below+then-not-is_zero+in_ok-push_str, else-below,
-    else-below-via-then-below+else-not-is_zero, else-below-via-else-below}
+use Rattle.dp_num.proofs.fraction.fraction_text.Goals.{then-below+then-not-is_zero+in_ok-push_str, else-below}
+use Rattle.dp_num.proofs.fraction.fraction_text.Goals.{else-below-via-then-below+else-not-is_zero}
+use Rattle.dp_num.proofs.fraction.fraction_text.Goals.{else-below-via-else-below}
 use Rattle.dp_num.proofs.fraction.fraction_text.Goals as goal
 
 pub returns : goal.returns

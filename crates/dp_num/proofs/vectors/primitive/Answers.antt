@@ -1,5 +1,5 @@
-use Rattle.std.proofs.Common.{◌≡◌, ◌≤◌, ◌/◌, ℕ, List, map, length, get_or, set, ℤ, pos, unsigned_abs, refl, sym, ap,
-    subst, ◌∙◌, rules, arith, add-one}
+use Rattle.std.proofs.Common.{◌≡◌, ◌≤◌, ◌/◌, ℕ, List, map, length, get_or, set, ℤ, pos, unsigned_abs, refl, sym, ap}
+use Rattle.std.proofs.Common.{subst, ◌∙◌, rules, arith, add-one}
 use Rattle.std.proofs.lemmas.Int.{to_z-of_z}
 use mir.Syntax.{w128}
 use Rattle.dp_spec.specs.Primitive.{IsGcdOf}

@@ -10,16 +10,16 @@ returns-in_err-start c =
 pub returns-in_err-transitions : goal.returns-in_err-transitions
 returns-in_err-transitions c =
     let exit = err_from_is_err_and c.from_residual-in_err-transitions.result
-        c.from_residual-in_err-transitions.ensures.1 in
+    c.from_residual-in_err-transitions.ensures.1 in
     rw (exit.1, exit.2)
     (trans_stops c.args.end c.args.text.now _ c.in_err-transitions.field-0.0 c.in_ok-start.ensures.is
-        c.in_err-transitions.ensures)
+    c.in_err-transitions.ensures)
 
 pub returns-in_err-observations : goal.returns-in_err-observations
 returns-in_err-observations c =
     let exit = err_from_is_err_and c.from_residual-in_err-observations.result
-        c.from_residual-in_err-observations.ensures.1 in
+    c.from_residual-in_err-observations.ensures.1 in
     rw (exit.1, exit.2)
     (obs_stops c.args.end c.args.text.now _ _ c.in_err-observations.field-0.0 c.in_ok-start.ensures.is
-        c.in_ok-transitions.ensures.is
+    c.in_ok-transitions.ensures.is
     c.in_err-observations.ensures)

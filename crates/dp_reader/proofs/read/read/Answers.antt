@@ -7,7 +7,7 @@ pub returns-in_err-tokens : goal.returns-in_err-tokens
 returns-in_err-tokens c =
     let exit = err_from_is_err_and c.from_residual.result c.from_residual.ensures.1 in
     rw (exit.1, exit.2) (lexer_fault c.args.bytes.now c.in_err-tokens.field-0.0
-        c.in_err-tokens.ensures.first_bad_byte)
+    c.in_err-tokens.ensures.first_bad_byte)
 
 pub returns : goal.returns
 returns c =

@@ -8,5 +8,5 @@ pub loop-j-preserved : goal.loop-j-preserved
 loop-j-preserved c =
     c.in_ok-push.ensures.items ∙ ap (λ xs. xs ++ c.identity_at.result ∷ []) c.loop-j.invariant
     ∙ ap (λ n. map (identity_at c.args.scale c.args.len) (range_with_len 0 c.loop-j.j) ++ n ∷ [])
-        c.identity_at.ensures
+    c.identity_at.ensures
     ∙ sym (map-range_with_len_more (identity_at c.args.scale c.args.len) 0 c.loop-j.j c.loop-j.j (omega arith))

@@ -31,7 +31,7 @@ returns-then-cost c =
 pub returns-else-cost : goal.returns-else-cost
 returns-else-cost c =
     kept_small c.times-over.result c.times-over.ensures.limit
-        ∙ reward_is c.args.scale c.args.reward c.pow.result c.times-over.result
+    ∙ reward_is c.args.scale c.args.reward c.pow.result c.times-over.result
     c.requires.range
     (c.pow.ensures ∙ ap (λ n. 10 ^ n) c.from.ensures) c.times-over.ensures.value
     ∙ ap (λ b. reward_over b c.args.scale c.args.reward) (sym c.if-cost.false)

@@ -7,4 +7,4 @@ use Rattle.dp_tables.proofs.chance_table.chances.Given as goal
 abbrev pub invariant-loop-statement : goal.invariant-loop-statement
 invariant-loop-statement l =
     AreChancesBy l.scale (axes_of l.text.header l.table)
-        (statements_for l.table (take l.statement-index l.statement-items)) l.cells.items
+    (statements_for l.table (take l.statement-index l.statement-items)) l.cells.items

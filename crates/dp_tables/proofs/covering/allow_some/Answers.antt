@@ -8,5 +8,5 @@ use Rattle.dp_tables.proofs.covering.allow_some.Goals as goal
 pub loop-number-preserved : goal.loop-number-preserved
 loop-number-preserved c =
     none_here (λ n. allow c.args.parts.now (parts_of (map size_of c.args.lists.now) n)) c.loop-number.number
-        c.args.count c.loop-number-test.true
+    c.args.count c.loop-number-test.true
     (sym c.allow.ensures ∙ c.if-allow.false) ∙ c.loop-number.invariant

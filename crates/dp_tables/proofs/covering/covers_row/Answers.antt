@@ -8,7 +8,7 @@ use Rattle.dp_tables.proofs.covering.covers_row.Goals as goal
 pub returns-then-not-allow_row : goal.returns-then-not-allow_row
 returns-then-not-allow_row c =
     row_not_allowed c.args.text.now.header c.args.table c.args.fields.now c.args.row.action c.args.row.state
-        c.args.len
+    c.args.len
     (sym c.if-not-allow_row.ensures)
 
 pub allow_some-requires-clause-some : goal.allow_some-requires-clause-some

@@ -11,23 +11,23 @@ returns-in_err-sizes-clause-passed c =
 pub returns-in_err-check_cells-clause-passed : goal.returns-in_err-check_cells-clause-passed
 returns-in_err-check_cells-clause-passed c =
     let p = err_from_is_err_and c.from_residual-in_err-check_cells.result
-        c.from_residual-in_err-check_cells.ensures.1 in
+    c.from_residual-in_err-check_cells.ensures.1 in
     rw (p.1, p.2)
     (passed_cells c.args.text.now c.in_ok-sizes.sizes c.in_ok-sizes.ensures.sizes c.in_ok-sizes.ensures.passed _
-        c.in_err-check_cells.ensures)
+    c.in_err-check_cells.ensures)
 
 pub returns-in_err-check_reward_lines-clause-passed : goal.returns-in_err-check_reward_lines-clause-passed
 returns-in_err-check_reward_lines-clause-passed c =
     let p = err_from_is_err_and c.from_residual-in_err-check_reward_lines.result
-        c.from_residual-in_err-check_reward_lines.ensures.1 in
+    c.from_residual-in_err-check_reward_lines.ensures.1 in
     rw (p.1, p.2)
     (passed_lines c.args.text.now c.in_ok-sizes.sizes c.in_ok-sizes.ensures.sizes c.in_ok-sizes.ensures.passed _
-        c.in_ok-check_cells.ensures
+    c.in_ok-check_cells.ensures
     (sym c.in_err-check_reward_lines.ensures))
 
 pub returns-clause-passed : goal.returns-clause-passed
 returns-clause-passed c =
     passed_scales c.args.text.now c.in_ok-sizes.sizes c.in_ok-sizes.ensures.sizes c.in_ok-sizes.ensures.passed
-        c.in_ok-check_cells.ensures
+    c.in_ok-check_cells.ensures
     (sym c.in_ok-check_reward_lines.ensures)
     ∙ c.check_scales.ensures.passed

@@ -3,8 +3,8 @@ use Rattle.std.proofs.lemmas.List.{take_all, with_items_is}
 use Rattle.dp_meaning.specs.declared.statement.Table.TheVariants.{Reward}
 use Rattle.dp_meaning.specs.Cells.{statements_for}
 use Rattle.dp_tables.proofs.CellTables.{IsStatementFor, IsWritable, statement_for, writable, passed_over}
-use Rattle.dp_tables.proofs.RewardTables.{AreRewardsBy, reward_axes, reward_scale_limit, reward_numbers, rewards_fit,
-    no_rewards, rewards_taken, all_rewards}
+use Rattle.dp_tables.proofs.RewardTables.{AreRewardsBy, reward_axes, reward_scale_limit, reward_numbers, rewards_fit}
+use Rattle.dp_tables.proofs.RewardTables.{no_rewards, rewards_taken, all_rewards}
 use Rattle.dp_tables.proofs.reward_table.rewards.Goals as goal
 use Rattle.dp_tables.proofs.reward_table.rewards.Goals.{then-is_same+in_ok-write_rewards, else-is_same}
 
@@ -17,7 +17,7 @@ is_statement : (c : goal.After-deref) → IsStatementFor Reward (reward_axes c.a
 is_statement c = statement_for c.args.text.now Reward c.as_slice-statement-items.result.now
     c.loop-statement.statement-index
     c.statement-item.result c.requires.said c.as_slice-statement-items.ensures c.loop-statement-test.true
-        c.statement-item.is
+    c.statement-item.is
     (sym c.if-is_same.ensures)
 
 is_writable : (c : goal.After-deref)
@@ -42,7 +42,7 @@ write_rewards-requires-clause-parts c = (is_writable c).parts
 pub write_rewards-requires-clause-block : goal.write_rewards-requires-clause-block
 write_rewards-requires-clause-block c =
     rewards_fit c.args.text.now.header.cost c.args.scale
-        (reward_axes c.args.text.now) c.statement-item.result c.deref.result.now
+    (reward_axes c.args.text.now) c.statement-item.result c.deref.result.now
     (is_statement c) (is_writable c)
 
 pub returns : goal.returns
@@ -61,20 +61,20 @@ loop-statement-preserved c = elim c.if-is_same.branch [
       (sym (ap (λ v. v.items) w.cells-is ∙ with_items_is c.loop-statement.cells w.write_rewards.new.cells
       (w.write_rewards.auto.cells ∙ w.deref_mut.ensures.len)))
       (rewards_taken c.args.text.now c.args.scale c.as_slice-statement-items.result.now
-          c.loop-statement.statement-index
+      c.loop-statement.statement-index
       c.statement-item.result
       c.loop-statement.cells.items w.write_rewards.new.cells w.deref.result.now w.deref_mut.result.now
       (statement_for c.args.text.now Reward c.as_slice-statement-items.result.now c.loop-statement.statement-index
-          c.statement-item.result
+      c.statement-item.result
       c.requires.said c.as_slice-statement-items.ensures c.loop-statement-test.true c.statement-item.is
-          (sym w.if-is_same.ensures))
+      (sym w.if-is_same.ensures))
       c.loop-statement-test.true c.statement-item.is (sym w.if-is_same.ensures) c.loop-statement.invariant
       (w.deref.ensures.value ∙ c.in_ok-sizes.ensures) w.deref_mut.ensures.value w.write_rewards.auto.cells
-          w.in_ok-write_rewards.ensures)
+      w.in_ok-write_rewards.ensures)
   | else-is_same w ↦
       subst (λ v. AreRewardsBy c.args.text.now c.args.scale
       (statements_for Reward (take (c.loop-statement.statement-index + 1) c.as_slice-statement-items.result.now))
-          v.items)
+      v.items)
       (sym w.cells-is)
       (passed_over (λ ss. AreRewardsBy c.args.text.now c.args.scale ss c.loop-statement.cells.items) Reward
       c.as_slice-statement-items.result.now c.loop-statement.statement-index c.statement-item.result

@@ -12,7 +12,7 @@ units c =
     let most = tens_up text.header.discount.digits 18 (discount_digits text c.requires) in
     let small = discount_units text c.requires in
     c.unsigned_abs.ensures.value ∙ ap unsigned_abs (to_z-of_z w128 text.header.discount.units
-        (fits_signed_from_abs w128 _ (omega arith)))
+    (fits_signed_from_abs w128 _ (omega arith)))
 
 pub overflow_cast-result : goal.overflow_cast-result
 overflow_cast-result c =

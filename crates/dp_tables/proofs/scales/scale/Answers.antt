@@ -13,4 +13,4 @@ least_common_multiple-requires-clause-room c =
     let tens : c.pow-tens.result ≤ 10 ^ 18 = omega arith in
     let len : c.from-then-uniform.result ≤ 2 ^ 32 = omega arith in
     let product : c.pow-tens.result * c.from-then-uniform.result ≤ 10 ^ 18 * 2 ^ 32 = mul-le-mul tens len in
-        omega arith
+    omega arith

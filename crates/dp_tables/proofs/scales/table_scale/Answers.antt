@@ -8,4 +8,4 @@ pub scale-requires : goal.scale-requires
 scale-requires c =
     let few = statement_digits c.args.text.now c.args.table c.requires in
     let same = ap (λ ss. digits_of_statements (statements_for c.args.table ss)) c.as_slice-statements.ensures in
-        omega arith
+    omega arith

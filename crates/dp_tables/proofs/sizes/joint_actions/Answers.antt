@@ -15,5 +15,5 @@ returns c =
     let fits = small c.args.text.now c.requires.within in
     let is : c.first_product_past_most.result ≡ joint_actions_in c.args.text.now =
     c.first_product_past_most.ensures ∙ ap (λ lists. product_past 256 1 (map size_of lists)) c.as_slice.ensures
-        ∙ fits.counted_actions in
+    ∙ fits.counted_actions in
     record { is = is; limit = (let most = fits.actions in omega (arith, is)) }

@@ -13,12 +13,12 @@ repair_rows-requires-clause-scale c = some_start c.args.text.now c.args.scale c.
 pub returns-in-Ok-clause-is : goal.returns-in-Ok-clause-is
 returns-in-Ok-clause-is c =
     start_done c.args.text.now c.args.scale c.states.result c.args.cells.now _ _ c.requires.scale c.states.ensures.is
-        c.requires.given c.in-Ok.ensures.is
+    c.requires.given c.in-Ok.ensures.is
     c.args.end
 
 pub returns-in-Err-clause-is : goal.returns-in-Err-clause-is
 returns-in-Err-clause-is c =
     start_failed c.args.text.now c.args.scale c.states.result c.args.cells.now c.args.cells.now _ c.requires.scale
-        c.states.ensures.is c.requires.given
+    c.states.ensures.is c.requires.given
     c.in-Err.ensures.row c.in-Err.ensures.is c.args.end
-        ∙ start_fault _ c.args.text.now.header.start c.offset_of_start.ensures
+    ∙ start_fault _ c.args.text.now.header.start c.offset_of_start.ensures

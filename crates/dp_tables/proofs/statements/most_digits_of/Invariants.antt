@@ -8,5 +8,5 @@ use Rattle.dp_tables.proofs.statements.most_digits_of.Given as goal
 abbrev pub invariant-loop-statement : goal.invariant-loop-statement
 invariant-loop-statement l =
     fold (λ most s. max most (digits_of_value s.value)) l.most
-        (statements_for l.table (drop l.statement-index l.statements))
+    (statements_for l.table (drop l.statement-index l.statements))
     ≡ digits_of_statements (statements_for l.table l.statements)

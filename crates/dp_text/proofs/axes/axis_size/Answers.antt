@@ -6,4 +6,4 @@ pub loop-list-preserved : goal.loop-list-preserved
 loop-list-preserved c =
     let here = product_at size_of c.args.axis.now c.loop-list.list-index c.list-item.result c.loop-list-test.true in
     rw (c.times-size.ensures, c.from.ensures, c.size.ensures)
-        (one_more _ _ c.loop-list.invariant (rw (← c.list-item.is) at here))
+    (one_more _ _ c.loop-list.invariant (rw (← c.list-item.is) at here))

@@ -13,10 +13,10 @@ loop-agent-preserved c =
     let lines = agent_lines item in
     rw c.in_ok-push.ensures.items
     (line_one item.next (spec.name_lists item.next c.args.agents lines) c.loop-agent.lists.items c.args.agents
-        c.loop-agent.agent lines
+    c.loop-agent.agent lines
     c.in-Some.line c.in_ok-list.list
     c.loop-agent-test.true c.in-Some.ensures (rw c.next-in-loop-agent.ensures at c.in_ok-list.ensures)
-        c.loop-agent.invariant)
+    c.loop-agent.invariant)
 
 pub returns-in-None : goal.returns-in-None
 returns-in-None c =
@@ -24,7 +24,7 @@ returns-in-None c =
     let lines = agent_lines item in
     rw (c.fault.ensures, c.next.ensures)
     (line_missing item.next (spec.name_lists item.next c.args.agents lines) c.loop-agent.lists.items c.args.agents
-        c.loop-agent.agent
+    c.loop-agent.agent
     lines c.loop-agent-test.true c.in-None.ensures c.loop-agent.invariant)
 
 pub returns-in_err-list : goal.returns-in_err-list
@@ -35,10 +35,10 @@ returns-in_err-list c =
     let exit = err_from_is_err_and c.from_residual.result c.from_residual.ensures.1 in
     rw (exit.1, exit.2)
     (line_wrong item.next (spec.name_lists item.next c.args.agents lines) c.loop-agent.lists.items c.args.agents
-        c.loop-agent.agent lines
+    c.loop-agent.agent lines
     c.in-Some.line fault c.loop-agent-test.true c.in-Some.ensures
     (subst (λ (next : ℕ). Reads (spec.name_list next c.in-Some.line) (Err fault)) c.next-in-loop-agent.ensures
-        c.in_err-list.ensures)
+    c.in_err-list.ensures)
     c.loop-agent.invariant)
 
 pub returns-in_err-ended : goal.returns-in_err-ended
@@ -49,10 +49,10 @@ returns-in_err-ended c =
     let exit = err_from_is_err_and c.from_residual-in_err-ended.result c.from_residual-in_err-ended.ensures.1 in
     rw (exit.1, exit.2)
     (line_beyond item.next (spec.name_lists item.next c.args.agents lines) c.loop-agent.lists.items c.args.agents
-        c.loop-agent.agent lines
+    c.loop-agent.agent lines
     c.in-Some-agent_line.line c.in_err-ended.field-0.0
     c.loop-agent-test.false (rw at_end c.in-Some-agent_line.ensures)
-        (sym c.in_err-ended.ensures) c.loop-agent.invariant)
+    (sym c.in_err-ended.ensures) c.loop-agent.invariant)
 
 pub returns : goal.returns
 returns c =
@@ -63,10 +63,10 @@ returns c =
     rw c.of.ensures
     (elim c.match-agent_line-2.branch [
       | in-Some-agent_line+in_ok-ended w ↦ empty_line item.next all c.loop-agent.lists.items c.args.agents
-            c.loop-agent.agent lines
+          c.loop-agent.agent lines
           w.in-Some-agent_line.line
           c.loop-agent-test.false (rw at_end w.in-Some-agent_line.ensures)
-              (sym w.in_ok-ended.ensures) c.loop-agent.invariant
+          (sym w.in_ok-ended.ensures) c.loop-agent.invariant
       | in_default w ↦ lines_end item.next all c.loop-agent.lists.items c.args.agents c.loop-agent.agent lines
           c.loop-agent-test.false (rw at_end w.in_default.ensures) c.loop-agent.invariant
     ])

@@ -23,7 +23,7 @@ returns-in_err-names c =
     let exit = err_from_is_err_and c.from_residual.result c.from_residual.ensures.1 in
     rw (exit.1, exit.2)
     (name_wrong (names_after [] pieces) c.loop-place.names c.piece_at-piece.result (drop (place + 1) pieces)
-        (drop place pieces)
+    (drop place pieces)
     c.in_err-names.field-0.0 c.piece_at-piece.ensures c.in_err-names.ensures c.loop-place.invariant.is)
 
 pub returns : goal.returns

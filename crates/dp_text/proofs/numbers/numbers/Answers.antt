@@ -10,7 +10,7 @@ loop-left-preserved c =
     let in_range = is_in c.args.range in
     rw c.in_ok-push.ensures.items
     (numbers_one in_range c.args.next (spec.numbers in_range c.args.next c.args.count c.args.pieces.now)
-        c.loop-left.values.items
+    c.loop-left.values.items
     c.loop-left.left c.in-Some.parts.0 c.in-Some.parts.1 c.loop-left.rest c.in_ok-value.value
     c.loop-left-test.true c.in-Some.ensures c.in_ok-value.ensures c.loop-left.invariant)
 
@@ -19,7 +19,7 @@ returns-in-None c =
     let in_range = is_in c.args.range in
     rw c.fault.ensures
     (numbers_missing in_range c.args.next (spec.numbers in_range c.args.next c.args.count c.args.pieces.now)
-        c.loop-left.values.items
+    c.loop-left.values.items
     c.loop-left.left c.loop-left.rest
     c.loop-left-test.true c.in-None.ensures c.loop-left.invariant)
 
@@ -29,7 +29,7 @@ returns-in_err-value c =
     let exit = err_from_is_err_and c.from_residual.result c.from_residual.ensures.1 in
     rw (exit.1, exit.2)
     (numbers_fault in_range c.args.next (spec.numbers in_range c.args.next c.args.count c.args.pieces.now)
-        c.loop-left.values.items
+    c.loop-left.values.items
     c.loop-left.left c.in-Some.parts.0 c.in-Some.parts.1 c.loop-left.rest c.in_err-value.field-0.0
     c.loop-left-test.true c.in-Some.ensures c.in_err-value.ensures c.loop-left.invariant)
 
@@ -38,7 +38,7 @@ returns c =
     let in_range = is_in c.args.range in
     rw c.of.ensures
     (numbers_end in_range c.args.next (spec.numbers in_range c.args.next c.args.count c.args.pieces.now)
-        c.loop-left.values.items
+    c.loop-left.values.items
     c.loop-left.left c.loop-left.rest c.loop-left-test.false (sym c.in_ok-ended.ensures) c.loop-left.invariant)
 
 pub returns-in_err-ended : goal.returns-in_err-ended
@@ -47,6 +47,6 @@ returns-in_err-ended c =
     let exit = err_from_is_err_and c.from_residual-in_err-ended.result c.from_residual-in_err-ended.ensures.1 in
     rw (exit.1, exit.2)
     (numbers_more in_range c.args.next (spec.numbers in_range c.args.next c.args.count c.args.pieces.now)
-        c.loop-left.values.items
+    c.loop-left.values.items
     c.loop-left.left c.loop-left.rest c.in_err-ended.field-0.0 c.loop-left-test.false
-        (sym c.in_err-ended.ensures) c.loop-left.invariant)
+    (sym c.in_err-ended.ensures) c.loop-left.invariant)

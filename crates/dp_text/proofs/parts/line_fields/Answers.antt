@@ -15,7 +15,7 @@ loop-field-preserved c =
     let axis = rw len at c.axis_at.ensures in
     rw (c.in_ok-push.ensures.items, c.from-rest-in-Some.ensures, c.len-in-Some-2.ensures.is, c.pieces.ensures)
     (field_read c.loop-field.invariant c.in-Some.field c.axis_at.result.now c.in_ok-of_field.of_field
-        c.in-Some.ensures.is c.in-Some.ensures.within within axis c.in_ok-of_field.ensures)
+    c.in-Some.ensures.is c.in-Some.ensures.within within axis c.in_ok-of_field.ensures)
 
 pub returns-in_err-of_field : goal.returns-in_err-of_field
 returns-in_err-of_field c =
@@ -26,14 +26,14 @@ returns-in_err-of_field c =
     let exit = err_from_is_err_and c.from_residual.result c.from_residual.ensures.1 in
     rw (exit.1, exit.2)
     (field_fault c.loop-field.invariant c.in-Some.field c.axis_at.result.now c.in_err-of_field.field-0.0
-        c.in-Some.ensures.is within axis
+    c.in-Some.ensures.is within axis
     c.in_err-of_field.ensures)
 
 pub returns-then-len-axis_count : goal.returns-then-len-axis_count
 returns-then-len-axis_count c =
     let count = c.axis_count.ensures.is c.args.header.now in
     rw (c.fault.ensures, c.colon.ensures) (too_many c.loop-field.invariant c.in-Some.field c.in-Some.ensures.is
-        (omega arith))
+    (omega arith))
 
 pub returns : goal.returns
 returns c = rw (c.of.ensures, c.len-2.ensures.is, c.len-3.ensures.is)

@@ -10,14 +10,14 @@ pub loop-place-preserved : goal.loop-place-preserved
 loop-place-preserved c =
     rw c.in_ok-push.ensures.items
     (statement_read c.loop-place.invariant c.item.result c.in_ok-statement.statement c.item.ensures
-        c.in_ok-statement.ensures)
+    c.in_ok-statement.ensures)
 
 pub returns-in_err-statement : goal.returns-in_err-statement
 returns-in_err-statement c =
     let exit = err_from_is_err_and c.from_residual.result c.from_residual.ensures.1 in
     rw (exit.1, exit.2)
     (statement_fault c.loop-place.invariant c.item.result c.in_err-statement.field-0.0 c.item.ensures
-        c.in_err-statement.ensures)
+    c.in_err-statement.ensures)
 
 pub returns : goal.returns
 returns c = rw c.of.ensures (statements_end c.loop-place.invariant (omega arith))

@@ -10,4 +10,4 @@ pub returns : goal.returns
 returns c =
     let P : Result Text Fault → Type 0 = λ meant. Reads meant c.read_items.result in
     subst P (ap text_of_items c.in_ok-document.ensures
-        ∙ sym (by_items c.args.bytes.now c.args.tokens.now c.requires.tokens)) c.read_items.ensures
+    ∙ sym (by_items c.args.bytes.now c.args.tokens.now c.requires.tokens)) c.read_items.ensures

@@ -4,8 +4,8 @@ use Rattle.dp_meaning.specs.NameLists.{says}
 use Rattle.dp_meaning.specs.Fields.{Axis}
 use Rattle.dp_meaning.specs.Statements.{axes_of, allows_uniform, allows_identity}
 use Rattle.dp_text.proofs.ReadingLemmas.{reads_same}
-use Rattle.dp_text.proofs.ValueLemmas.{no_value, uniform_value, identity_value, numbers_value, uniform_test,
-    identity_test}
+use Rattle.dp_text.proofs.ValueLemmas.{no_value, uniform_value, identity_value, numbers_value, uniform_test}
+use Rattle.dp_text.proofs.ValueLemmas.{identity_test}
 use Rattle.dp_text.proofs.values.value_of.Goals as goal
 use Rattle.dp_text.proofs.values.value_of.Goals.{After-is_uniform, After-is_identity}
 
@@ -19,13 +19,13 @@ left c = let count = c.axis_count.ensures.is c.args.header.now in omega (arith, 
 
 uniform : (c : After-is_uniform)
     → (allows_uniform c.args.table (drop c.args.fields (axes_of c.args.header.now c.args.table)) && says
-        (codes "uniform") c.in-Some.parts.0)
+    (codes "uniform") c.in-Some.parts.0)
     ≡ c.is_uniform.result
 uniform c = uniform_test c.args.table _ _ _ _ (left c) c.is_uniform.ensures
 
 identity : (c : After-is_identity)
     → (allows_identity c.args.table (drop c.args.fields (axes_of c.args.header.now c.args.table)) && says
-        (codes "identity") c.in-Some.parts.0)
+    (codes "identity") c.in-Some.parts.0)
     ≡ c.is_identity.result
 identity c = identity_test c.args.table _ _ _ _ (left (goal.at.After-is_identity c).After-is_uniform)
     c.is_identity.ensures
@@ -35,7 +35,7 @@ returns-then-is_uniform c =
     let u = uniform (goal.at.returns-then-is_uniform c).After-is_uniform in
     reads_same c.alone.result
     (uniform_value c.args.table _ c.args.next c.args.pieces.now c.in-Some.parts.0 c.in-Some.parts.1 c.in-Some.ensures
-        (u ∙ c.if-is_uniform.true)) c.alone.ensures
+    (u ∙ c.if-is_uniform.true)) c.alone.ensures
 
 pub returns-then-is_identity : goal.returns-then-is_identity
 returns-then-is_identity c =
@@ -43,7 +43,7 @@ returns-then-is_identity c =
     let i = identity (goal.at.returns-then-is_identity c).After-is_identity in
     reads_same c.alone-then-is_identity.result
     (identity_value c.args.table _ c.args.next c.args.pieces.now c.in-Some.parts.0 c.in-Some.parts.1 c.in-Some.ensures
-        (u ∙ c.if-is_uniform.false) (i ∙ c.if-is_identity.true))
+    (u ∙ c.if-is_uniform.false) (i ∙ c.if-is_identity.true))
     c.alone-then-is_identity.ensures
 
 pub returns : goal.returns
@@ -52,5 +52,5 @@ returns c =
     let i = identity (goal.at.returns c).After-is_identity in
     reads_same c.given.result
     (numbers_value c.args.table _ c.args.next c.args.pieces.now c.in-Some.parts.0 c.in-Some.parts.1 c.in-Some.ensures
-        (u ∙ c.if-is_uniform.false) (i ∙ c.if-is_identity.false))
+    (u ∙ c.if-is_uniform.false) (i ∙ c.if-is_identity.false))
     (rw (← c.len.ensures.is, ← c.sizes_from-count.ensures) c.given.ensures)

@@ -5,4 +5,4 @@ pub returns : goal.returns
 returns c =
     let text = c.args.piece.now.text in
     rw c.ok.ensures.value (index_parsed text c.parse.result c.requires
-        (rw c.text_of.ensures at c.parse.ensures.value.0))
+    (rw c.text_of.ensures at c.parse.ensures.value.0))

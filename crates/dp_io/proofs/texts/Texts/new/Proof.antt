@@ -36,7 +36,7 @@ new_spec 𝓤 𝓛 𝓜 𝓡 wired =
     sets ! (agg ! (no_more !)) refl (tt, tt) $
     nothing ! $ nothing ! $ feq_i ! (List Val) (made ∷ []) (made ∷ []) refl $ fjoin ! $
     fpack ! (Valss []) (within (record { name = []; args = []; types = []; fields = [] }) tt (made ∷ [])) tt $ fjoin !
-        $
+    $
     returns ! (look_at ! 0 refl) $ free_all ! refl $
     suffices ! _ (ends_at 𝓛 f.ended stayed c y made texts tt tt) $ says ! refl $
     nothing ! $ move ! (2 ∷ 0 ∷ 1 ∷ []) $ done !))

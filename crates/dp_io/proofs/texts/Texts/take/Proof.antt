@@ -5,8 +5,8 @@ use base.Fml.{ftrue, flft}
 use base.Logic.{id⊢}
 use mir.Syntax.{named}
 use mir.Val.{Val, vunit, vptr}
-use types.Kit.{‵, ◌⊛◌, ◌$◌, ◌∵◌, !, qed, move, keep, drop, use1, split, join, fsplit, fsplit3, fjoin, fjoin3, feq_i,
-    frame, suffices, done}
+use types.Kit.{‵, ◌⊛◌, ◌$◌, ◌∵◌, !, qed, move, keep, drop, use1, split, join, fsplit, fsplit3, fjoin, fjoin3, feq_i}
+use types.Kit.{frame, suffices, done}
 use types.Run.{enter, returns, unit_lit, of_opd}
 use types.ByLocal.{alloc_all, pass_all, free_all, look_at, sets}
 use denote.Builtin.{u8}
@@ -39,17 +39,19 @@ take_spec 𝓤 𝓛 𝓜 𝓡 wired =
     let y : W.Ghost = ((κs, qs, bounds, a, at), tt) in
     let more : Texts = record { items = r.now.items ++ s.now ∷ [] } in
     qed 𝓛 (((‵ (flft κ q) ⊛ (‵ (flft κs.1.0 qs.1.0) ⊛ ‵ ftrue)) ⊛ ‵
-        (owns (MutRef (named 0) κ T.the_row ∷ ShrSlice (named 1) κs.1.0 u8 ∷ []) a at)) ∷ ‵ ftrue ∷ []) ∵
+    (owns (MutRef (named 0) κ T.the_row ∷ ShrSlice (named 1) κs.1.0 u8 ∷ []) a at)) ∷ ‵ ftrue ∷ []) ∵
     keep ! (0 ∷ []) $ split ! $ split ! $ move ! (2 ∷ []) $ fsplit ! $ fsplit3 ! $ drop ! $ move ! (0 ∷ 1 ∷ 3 ∷ []) $
     -- [the value; the borrow; the token of κ; the slice; the other tokens]
-    enter ! _ _ _ _ _ $ alloc_all ! (λ l. pass_all ! refl ((tt, tt),
-        ((tt, (tt, (record { fits = are.1.0.0.1.0 }, tt))), tt)) $
+    enter ! _ _ _ _ _ $ alloc_all ! (λ l. pass_all ! refl (
+      (tt, tt),
+      ((tt, (tt, (record { fits = are.1.0.0.1.0 }, tt))), tt),
+    ) $
     opens ! tt T.the_row {h = r.now} b o (λ vs.
     sets ! (of_opd ! (unit_lit !)) refl (tt, tt) $
     move ! (1 ∷ []) $ use1 𝓛 (‵ (T.the_row.own_val more vs)) (id⊢ 𝓤 _) $ move !
-        (1 ∷ 0 ∷ []) $ closes ! tt T.the_row more vs b o $
+    (1 ∷ 0 ∷ []) $ closes ! tt T.the_row more vs b o $
     returns ! (look_at ! 0 refl) $ free_all ! refl $ keep ! (0 ∷ 1 ∷ 2 ∷ 3 ∷ 4 ∷ []) $
     suffices ! _ (ends_at 𝓛 f.ended stayed c y vunit tt (more, (tt, tt)) (tt, (tt, tt))) $ says ! refl $
     move ! (2 ∷ 4 ∷ []) $ join ! $ frame ! $ feq_i ! (List Val) (vptr b o ∷ [])
-        (vptr b o ∷ []) refl $ fjoin3 ! $ fjoin ! $
+    (vptr b o ∷ []) refl $ fjoin3 ! $ fjoin ! $
     feq_i ! (List Val) (vunit ∷ []) (vunit ∷ []) refl $ move ! (1 ∷ 0 ∷ []) $ done !)))

@@ -12,7 +12,7 @@ between-pieces-requires-clause-within c =
     let before = c.self.invariant.before in
     let inside : 0 < length c.self.inside.lines.items = omega arith in
     let line = run_at 0 c.self.inside.lines.items (length
-        (pieces_of_text c.self.inside.bytes.now c.self.inside.tokens.items)) 0
+    (pieces_of_text c.self.inside.bytes.now c.self.inside.tokens.items)) 0
     c.index-line.result.now c.self.invariant.one_run inside in
     rw (c.of.ensures, c.deref.ensures.value, c.index-line.ensures) line.1
 
@@ -20,5 +20,5 @@ pub returns : goal.returns
 returns c =
     rw (c.first_at.ensures.is, c.between-pieces.ensures, c.of.ensures, c.deref.ensures.value, c.index-line.ensures)
     (sym (first_line_stands c.self.inside.end _ c.self.inside.lines.items c.self.inside.items.before
-        c.index-line.result.now c.if-self-eq0.false c.self.invariant.before)
+    c.index-line.result.now c.if-self-eq0.false c.self.invariant.before)
     ∙ ap (λ (v : ItemsOfText). unless_lines v.end v.before) c.self.view_is)

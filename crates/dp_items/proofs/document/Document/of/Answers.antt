@@ -15,16 +15,24 @@ items_of-requires-clause-one_run c =
 pub invariant_of-result : goal.invariant_of-result
 invariant_of-result c =
     let lines = rw c.of.ensures at c.in_ok-lines.ensures in
-    let items = rw (c.of-2.ensures, c.deref.ensures.value, c.in_ok-kept.ensures,
-        c.deref-2.ensures.value) at c.in_ok-items.ensures in
+    let items = rw (
+      c.of-2.ensures,
+      c.deref.ensures.value,
+      c.in_ok-kept.ensures,
+      c.deref-2.ensures.value,
+    ) at c.in_ok-items.ensures in
     rw c.in_ok-kept.ensures (is_document c.args.bytes.now c.args.tokens.now c.in_ok-lines.lines.items
-        c.in_ok-items.items lines items
+    c.in_ok-items.items lines items
     c.requires.tokens c.requires.limit)
 
 pub returns : goal.returns
 returns c =
     let lines = rw c.of.ensures at c.in_ok-lines.ensures in
-    let items = rw (c.of-2.ensures, c.deref.ensures.value, c.in_ok-kept.ensures,
-        c.deref-2.ensures.value) at c.in_ok-items.ensures in
+    let items = rw (
+      c.of-2.ensures,
+      c.deref.ensures.value,
+      c.in_ok-kept.ensures,
+      c.deref-2.ensures.value,
+    ) at c.in_ok-items.ensures in
     rw c.in_ok-kept.ensures (means_items c.args.bytes.now c.args.tokens.now c.in_ok-lines.lines.items
-        c.in_ok-items.items lines items)
+    c.in_ok-items.items lines items)

@@ -11,11 +11,11 @@ overflow_mul-result c =
     let m : Model = c.args.self.now.model in
     let ok : IsModel m = subst (λ n. IsModel n.model) now c.self.invariant.named.model in
     let below : ((c.args.a * m.states + c.args.s) * m.states + c.args.t) * joint_observations m + c.args.o
-        < length m.reward =
+    < length m.reward =
     reward_place m ok c.args.a c.args.s c.args.t c.args.o c.requires.action c.requires.state c.requires.next
-        c.requires.observation in
+    c.requires.observation in
     let here = subst (λ n. ((c.args.a * n.model.states + c.args.s) * n.model.states + c.args.t)
-        * joint_observations n.model + c.args.o < length n.model.reward) (sym now) below in
+    * joint_observations n.model + c.args.o < length n.model.reward) (sym now) below in
     let cells = c.self.invariant.named.model.tables.reward in
     let limit = c.self.invariant.named.model.sizes.reward_cells_limit in
     rw c.count.ensures.is (omega (arith, here, cells, limit))
@@ -27,11 +27,11 @@ overflow_add-result c =
     let m : Model = c.args.self.now.model in
     let ok : IsModel m = subst (λ n. IsModel n.model) now c.self.invariant.named.model in
     let below : ((c.args.a * m.states + c.args.s) * m.states + c.args.t) * joint_observations m + c.args.o
-        < length m.reward =
+    < length m.reward =
     reward_place m ok c.args.a c.args.s c.args.t c.args.o c.requires.action c.requires.state c.requires.next
-        c.requires.observation in
+    c.requires.observation in
     let here = subst (λ n. ((c.args.a * n.model.states + c.args.s) * n.model.states + c.args.t)
-        * joint_observations n.model + c.args.o < length n.model.reward) (sym now) below in
+    * joint_observations n.model + c.args.o < length n.model.reward) (sym now) below in
     let cells = c.self.invariant.named.model.tables.reward in
     let limit = c.self.invariant.named.model.sizes.reward_cells_limit in
     rw c.count.ensures.is (omega (arith, here, cells, limit))
@@ -43,11 +43,11 @@ offset_bounds-as_slice-row c =
     let m : Model = c.args.self.now.model in
     let ok : IsModel m = subst (λ n. IsModel n.model) now c.self.invariant.named.model in
     let below : ((c.args.a * m.states + c.args.s) * m.states + c.args.t) * joint_observations m + c.args.o
-        < length m.reward =
+    < length m.reward =
     reward_place m ok c.args.a c.args.s c.args.t c.args.o c.requires.action c.requires.state c.requires.next
-        c.requires.observation in
+    c.requires.observation in
     let here = subst (λ n. ((c.args.a * n.model.states + c.args.s) * n.model.states + c.args.t)
-        * joint_observations n.model + c.args.o < length n.model.reward) (sym now) below in
+    * joint_observations n.model + c.args.o < length n.model.reward) (sym now) below in
     let cells = c.self.invariant.named.model.tables.reward in
     let limit = c.self.invariant.named.model.sizes.reward_cells_limit in
     rw c.count.ensures.is (omega (arith, here, cells, limit))
@@ -59,11 +59,11 @@ bounds-as_slice-row c =
     let m : Model = c.args.self.now.model in
     let ok : IsModel m = subst (λ n. IsModel n.model) now c.self.invariant.named.model in
     let below : ((c.args.a * m.states + c.args.s) * m.states + c.args.t) * joint_observations m + c.args.o
-        < length m.reward =
+    < length m.reward =
     reward_place m ok c.args.a c.args.s c.args.t c.args.o c.requires.action c.requires.state c.requires.next
-        c.requires.observation in
+    c.requires.observation in
     let here = subst (λ n. ((c.args.a * n.model.states + c.args.s) * n.model.states + c.args.t)
-        * joint_observations n.model + c.args.o < length n.model.reward) (sym now) below in
+    * joint_observations n.model + c.args.o < length n.model.reward) (sym now) below in
     rw (c.count.ensures.is, c.as_slice.ensures) here
 
 pub returns : goal.returns
@@ -72,8 +72,8 @@ returns c =
     let m : Model = c.args.self.now.model in
     let ok : IsModel m = subst (λ n. IsModel n.model) c.self.view_is c.self.invariant.named.model in
     let read : get_or c.as_slice.result.now (((c.args.a * c.self.inside.states + c.args.s) * c.self.inside.states
-        + c.args.t) * c.count.result + c.args.o) (pos 0) ≡ reward_at m c.args.a c.args.s c.args.t c.args.o =
+    + c.args.t) * c.count.result + c.args.o) (pos 0) ≡ reward_at m c.args.a c.args.s c.args.t c.args.o =
     (λ i. get_or (c.as_slice.ensures i) (((c.args.a * c.self.inside.states + c.args.s) * c.self.inside.states
-        + c.args.t) * c.count.ensures.is i + c.args.o) (pos 0))
+    + c.args.t) * c.count.ensures.is i + c.args.o) (pos 0))
     ∙ ap (λ n. reward_at n.model c.args.a c.args.s c.args.t c.args.o) c.self.view_is in
     rw read (to_z-of_z w64 _ (fits_signed_from_abs w64 _ (reward_small m ok _)))

@@ -6,5 +6,5 @@ pub returns : goal.returns
 unfolding trans_at
 returns c =
     ap (λ l. get_or l ((c.args.a * c.self.inside.states + c.args.s) * c.self.inside.states + c.args.t) 0)
-        c.as_slice.ensures
+    c.as_slice.ensures
     ∙ ap (λ n. trans_at n.model c.args.a c.args.s c.args.t) c.self.view_is

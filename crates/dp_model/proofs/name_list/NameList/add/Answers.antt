@@ -7,26 +7,26 @@ pub returns-clause-is_new : goal.returns-clause-is_new
 returns-clause-is_new c =
     c.in_ok-is_new.ensures.added
     ∙ ap not (has_name-texts string_bytes c.self.inside.names.keys c.args.self.now _ c.args.name.now c.self.view_is
-        c.in_ok-name.ensures.ok)
+    c.in_ok-name.ensures.ok)
 
 pub returns-clause-added : goal.returns-clause-added
 returns-clause-added c =
     ap (map string_bytes) c.in_ok-is_new.ensures.keys
     ∙ with_name-texts string_bytes c.self.inside.names.keys c.in_ok-name.name c.args.self.now c.args.name.now
-        c.self.view_is c.in_ok-name.ensures.ok
+    c.self.view_is c.in_ok-name.ensures.ok
 
 pub invariant_of-self-2 : goal.invariant_of-self-2
 invariant_of-self-2 c =
     let kept = with_name-kept c.args.self.now c.args.name.now
-        (subst IsNameList c.self.view_is c.self.invariant) c.requires.name c.requires.room in
+    (subst IsNameList c.self.view_is c.self.invariant) c.requires.name c.requires.room in
     subst IsNameList
     (sym (ap (map string_bytes) c.in_ok-is_new.ensures.keys
     ∙ with_name-texts string_bytes c.self.inside.names.keys c.in_ok-name.name c.args.self.now c.args.name.now
-        c.self.view_is c.in_ok-name.ensures.ok))
+    c.self.view_is c.in_ok-name.ensures.ok))
     kept
 
 pub returns-clause-kept : goal.returns-clause-kept
 returns-clause-kept c =
     subst IsNameList (sym (returns-clause-added c))
     (with_name-kept c.args.self.now c.args.name.now (subst IsNameList c.self.view_is c.self.invariant) c.requires.name
-        c.requires.room)
+    c.requires.room)

@@ -11,4 +11,4 @@ returns-in_err-place c =
 pub returns : goal.returns
 returns c =
     c.in_ok-place.ensures.index ∙ place_of-texts string_bytes c.self.inside.names.keys c.args.self.now c.args.name.now
-        c.self.view_is
+    c.self.view_is

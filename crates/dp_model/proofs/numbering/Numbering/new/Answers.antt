@@ -11,9 +11,9 @@ overflow_mul-count c =
     let there : c.loop-agent.agent - 1 < length ns = omega arith in
     let is : c.loop-agent.count * get_or ns (c.loop-agent.agent - 1) 0 ≡ product (drop (c.loop-agent.agent - 1) ns) =
     back-count ns (c.loop-agent.agent - 1) c.loop-agent.agent c.loop-agent.count back there
-        c.loop-agent.invariant.counted in
+    c.loop-agent.invariant.counted in
     let limit : product (drop (c.loop-agent.agent - 1) ns) ≤ product ns =
-        product-drop_le ns (c.loop-agent.agent - 1) c.requires.some in
+    product-drop_le ns (c.loop-agent.agent - 1) c.requires.some in
     rw c.as_slice.ensures (omega arith)
 
 pub loop-agent-preserved : goal.loop-agent-preserved
@@ -22,4 +22,4 @@ loop-agent-preserved c =
     let back : c.loop-agent.agent ≡ suc (c.loop-agent.agent - 1) = omega arith in
     let there : c.loop-agent.agent - 1 < length ns = omega arith in
     rw c.as_slice.ensures (back-steps ns (c.loop-agent.agent - 1) c.loop-agent.agent c.loop-agent.count
-        c.loop-agent.steps back there c.loop-agent.invariant)
+    c.loop-agent.steps back there c.loop-agent.invariant)

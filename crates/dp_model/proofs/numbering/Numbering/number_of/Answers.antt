@@ -14,11 +14,11 @@ overflow_mul-number c =
     let alike = parts.alike in
     let there : i < length ns = omega arith in
     let split : joint_number (drop i ns) (drop i ps) ≡ get_or ps i 0 * product (drop (suc i) ns)
-        + joint_number (drop (suc i) ns) (drop (suc i) ps) = joint_number-drop ns ps i alike there in
+    + joint_number (drop (suc i) ns) (drop (suc i) ps) = joint_number-drop ns ps i alike there in
     let below : joint_number ns ps < product ns = joint_number_below ns ps (are_below ns ps parts) in
     let limit : product ns ≤ 256 = c.self.invariant.limit in
     let step : get_or c.self.inside.steps i 0 ≡ product (drop (suc i) ns) =
-        c.self.invariant.counts.stepped i (omega arith) there in
+    c.self.invariant.counts.stepped i (omega arith) there in
     rw step (omega arith)
 
 pub overflow_add-number : goal.overflow_add-number
@@ -30,9 +30,9 @@ overflow_add-number c =
     let alike = parts.alike in
     let there : i < length ns = omega arith in
     let split : joint_number (drop i ns) (drop i ps) ≡ get_or ps i 0 * product (drop (suc i) ns)
-        + joint_number (drop (suc i) ns) (drop (suc i) ps) = joint_number-drop ns ps i alike there in
+    + joint_number (drop (suc i) ns) (drop (suc i) ps) = joint_number-drop ns ps i alike there in
     let below : joint_number ns ps < product ns = joint_number_below ns ps (are_below ns ps parts) in
     let limit : product ns ≤ 256 = c.self.invariant.limit in
     let step : get_or c.self.inside.steps i 0 ≡ product (drop (suc i) ns) =
-        c.self.invariant.counts.stepped i (omega arith) there in
+    c.self.invariant.counts.stepped i (omega arith) there in
     rw step (omega arith)
