@@ -78,7 +78,7 @@ options_for job = record { version = job.version; nodes = job.nodes; look = job.
 -- of a tree can be numbered.
 pub record CanPlan (m : Model) (fit : Fit) (options : PlanOpts) : Type 0 where
   pub within : IsWithinVersion m fit.horizon options.version
-  pub fit : fit ≡ fit_of m fit.horizon
+  pub fits : fit ≡ fit_of m fit.horizon
   pub some_look : 1 ≤ options.look
   pub look : options.look ≤ 16
   pub nodes : options.nodes ≤ 1000000
