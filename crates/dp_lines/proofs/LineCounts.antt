@@ -1,7 +1,28 @@
 -- How many numbers a line has.
-use Rattle.std.proofs.Common.{◌≡◌, ℕ, suc, ◌+◌, ◌≤◌, Bool, true, false, subst, List, [], ◌∷◌, length, get_or, map, Ok,
-    refl, sym, ap, ◌∙◌, arith}
-use Rattle.std.specs.Prelude.{ℤ, pos, Option, Some, None}
+use Rattle.std.proofs.Common.{
+  ◌≡◌,
+  ℕ,
+  suc,
+  ◌+◌,
+  ◌≤◌,
+  Bool,
+  true,
+  false,
+  subst,
+  List,
+  [],
+  ◌∷◌,
+  length,
+  get_or,
+  map,
+  Ok,
+  refl,
+  sym,
+  ap,
+  ◌∙◌,
+  arith,
+}
+use Rattle.std.specs.Prelude.{ℤ, pos, unsigned_abs, Option, Some, None}
 use Rattle.std.proofs.lemmas.List.{length-append}
 use Rattle.dp_spec.specs.TextLines.{Item, fixed, plain, signed}
 use Rattle.dp_lines.specs.Forms.{AreSpelled, AreInRange}
@@ -55,6 +76,11 @@ line_count form bytes zs more e = by_numbers (numbers_at form bytes) refl e
 map_length : (xs : List ℕ) → length (map pos xs) ≡ length xs
 map_length [] = refl
 map_length (x ∷ xs) = ap suc (map_length xs)
+
+-- plain numbers, read back
+pub numbers_back : (xs : List ℕ) → map unsigned_abs (map pos xs) ≡ xs
+numbers_back [] = refl
+numbers_back (x ∷ xs) = ap (λ l. x ∷ l) (numbers_back xs)
 
 -- a line of three plain numbers has three
 pub three_numbers : (word : List ℕ) (a b c d e f : ℕ) (bytes xs more : List ℕ)
