@@ -22,6 +22,7 @@ use dp_base::Memory;
 use dp_cert::Certificate;
 use dp_mdp::MdpTable;
 use dp_model::{Fit, Model, fits_two};
+use dp_pomdp::LookRoom;
 use dp_value::{SharedRoom, worth_shared};
 use std::alloc::Global;
 
@@ -105,8 +106,9 @@ fn walk_tree(
         look: c.look,
         table,
     };
-    let root = Node::root(alloc, m, &bounds)?;
-    let found = walk(alloc, m, &bounds, &c.tree, &root, tally)?;
+    let mut room = LookRoom::new(alloc, m, c.look)?;
+    let root = Node::root(alloc, m, &bounds, &mut room)?;
+    let found = walk(alloc, m, &bounds, &c.tree, &root, tally, &mut room)?;
     Ok(found)
 }
 

@@ -21,7 +21,7 @@ use Rattle.dp_policy.specs.TreeValue.{policy_tree, policy_tree_node, policy_tree
 use Rattle.dp_cluster.specs.declared.part.PastStage.{PastStage}
 use Rattle.dp_cluster.specs.AgentParts.{ArePastStages, IsReached, OwnPart, action_after, actions_after, class_after,
     class_led_to, part_of}
-use Rattle.dp_cluster.proofs.OwnParts.{made_at}
+use Rattle.dp_cluster.proofs.OwnParts.{made_at, own_part}
 
 -- ---- trees of a list
 
@@ -77,7 +77,7 @@ as_many n (s ∷ ss) =
     omega arith
 
 -- the actions of a stage that others are behind
-stage_actions : (n r : ℕ) (ss ss' : List PastStage) (s : PastStage) → drop r ss ≡ s ∷ ss'
+pub stage_actions : (n r : ℕ) (ss ss' : List PastStage) (s : PastStage) → drop r ss ≡ s ∷ ss'
     → get_or (actions_after n ss) (length ss') []
     ≡ map (λ x. get_or s.actions.items (class_after n ss' x) 0) (range_with_len 0 (n ^ length ss'))
 stage_actions n zero ss ss' s e =
@@ -202,7 +202,7 @@ module _ (n : ℕ) (ss : List PastStage) (past : ArePastStages n ss) (left : ℕ
 -- ---- the whole tree of a part
 
 module _ (n : ℕ) (ss : List PastStage) (k : ℕ) (cs : List (Option ℕ)) (v : OwnPart)
-    (is : record { observations = n; front = part_of n ss k cs } ≡ v) where
+    (is : own_part n ss k cs ≡ v) where
   pub stages_counted : length ss ≡ length v.front.fixed
   unfolding part_of
   stages_counted = sym (as_many n ss) ∙ ap (λ (p : OwnPart). length p.front.fixed) is

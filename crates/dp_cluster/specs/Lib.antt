@@ -1,6 +1,7 @@
 pub mod Advances
 pub mod AgentParts
 pub mod EqualClasses
+pub mod FullRows
 pub mod Joins
 pub mod KeepingPolicies
 pub mod KeptFronts
@@ -8,4 +9,5 @@ pub mod Merging
 pub mod OwnPlaces
 pub mod OwnWeights
 pub mod Pairs
+pub mod PastClasses
 pub mod Rewards

@@ -82,6 +82,7 @@ pub looking_next : (A : Arithmetic) (C : Calls) (m : Model) (r : ℕ) (ws next :
     → IsLooking A C m r next
 looking_next A C m r ws next a o is pa po len same = record {
   zero = is.zero;
+  scales = is.scales;
   horizon = is.horizon;
   push = is.push;
   reward = is.reward;

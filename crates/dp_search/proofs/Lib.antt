@@ -15,3 +15,4 @@ pub mod BranchPlaces
 pub mod Expansions
 pub mod PlannerFronts
 pub mod PlannedCertificates
+pub mod UnderwayFronts

@@ -13,7 +13,7 @@ use Rattle.dp_game.specs.Kept.{IsKept, game_with, greatest_in, rows_of}
 use Rattle.dp_game.proofs.Bounds.{bounds_keepers}
 use Rattle.dp_game.proofs.Made.{cells, choices_small, few_front, game, kept, parts_fit, table_rows, wanted_rows}
 use Rattle.dp_game.proofs.OwnChoices.{counts_of}
-use Rattle.dp_game.proofs.game.Game.of.Goals as goal
+use Rattle.dp_game.proofs.game.Game.with_room.Goals as goal
 
 pub choices_of-requires-clause-agents : goal.choices_of-requires-clause-agents
 choices_of-requires-clause-agents c = c.agents.ensures.is ∙ sym (agents_of c.requires.of_model.front.agents)
@@ -74,7 +74,7 @@ pub greatest_entries-requires-clause-table : goal.greatest_entries-requires-clau
 greatest_entries-requires-clause-table c =
     ap (λ (l : List ℤ). length l) c.deref-4.ensures.value
     ∙ table_rows _ c.args.model.now.model _ _ c.joint_count-count.result _ c.in_ok-actions.actions
-    c.in_ok-table.table.items c.in_ok-actions.ensures c.in_ok-table.ensures
+    c.in_ok-table.table.items c.in_ok-actions.ensures c.in_ok-table.ensures.rows
 
 pub greatest_entries-requires-clause-wanted : goal.greatest_entries-requires-clause-wanted
 greatest_entries-requires-clause-wanted c =
@@ -96,7 +96,7 @@ bound_with-bound-requires c = λ n le.
     c.requires.horizon c.requires.stage c.requires.room c.in_ok-actions.actions c.in_ok-choices.choices.items
     c.joint_count-count.result c.in_ok-table.table.items c.earned-earned.result c.in_ok-actions.ensures
     c.in_ok-choices.ensures (c.joint_count-count.ensures ∙ ap (λ oss. product (own_counts oss))
-    c.deref.ensures.value) c.in_ok-table.ensures
+    c.deref.ensures.value) c.in_ok-table.ensures.rows
     (c.earned-earned.ensures.is c.args.model.now.model c.requires.of_model) c.in_ok-wanted.wanted.items
     (c.in_ok-wanted.ensures ∙ ap (λ oss. rows_of (choices_in oss) c.joint_count-count.result)
     c.deref-3.ensures.value) c.in_ok-greatest.greatest.items (pos 0)
@@ -118,7 +118,7 @@ invariant_of-result c =
     c.requires.horizon c.requires.stage c.requires.room c.in_ok-actions.actions c.in_ok-choices.choices.items
     c.joint_count-count.result c.in_ok-table.table.items c.earned-earned.result c.in_ok-actions.ensures
     c.in_ok-choices.ensures (c.joint_count-count.ensures ∙ ap (λ oss. product (own_counts oss))
-    c.deref.ensures.value) c.in_ok-table.ensures
+    c.deref.ensures.value) c.in_ok-table.ensures.rows
     (c.earned-earned.ensures.is c.args.model.now.model c.requires.of_model) c.in_ok-wanted.wanted.items
     (c.in_ok-wanted.ensures ∙ ap (λ oss. rows_of (choices_in oss) c.joint_count-count.result)
     c.deref-3.ensures.value) c.in_ok-greatest.greatest.items _
@@ -136,7 +136,7 @@ returns-clause-is c =
     c.in_ok-actions.actions c.in_ok-choices.choices.items c.joint_count-count.result c.in_ok-table.table.items
     c.earned-earned.result c.in_ok-actions.ensures c.in_ok-choices.ensures
     (c.joint_count-count.ensures ∙ ap (λ oss. product (own_counts oss)) c.deref.ensures.value)
-    c.in_ok-table.ensures (c.earned-earned.ensures.is c.args.model.now.model c.requires.of_model))
+    c.in_ok-table.ensures.rows (c.earned-earned.ensures.is c.args.model.now.model c.requires.of_model))
 
 pub returns-clause-sound : goal.returns-clause-sound
 returns-clause-sound c =
@@ -150,5 +150,5 @@ returns-clause-sound c =
     c.requires.horizon c.requires.stage c.requires.room c.in_ok-actions.actions c.in_ok-choices.choices.items
     c.joint_count-count.result c.in_ok-table.table.items c.earned-earned.result c.in_ok-actions.ensures
     c.in_ok-choices.ensures (c.joint_count-count.ensures ∙ ap (λ oss. product (own_counts oss))
-    c.deref.ensures.value) c.in_ok-table.ensures
+    c.deref.ensures.value) c.in_ok-table.ensures.rows
     (c.earned-earned.ensures.is c.args.model.now.model c.requires.of_model)))
