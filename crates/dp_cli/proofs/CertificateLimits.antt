@@ -15,7 +15,8 @@ use Rattle.dp_cert.specs.CertificateGrammar.{branch_below, certificate_grammar, 
     horizon_passed, leaf_only, merge_below, node_below, repeated, title_grammar, tree_grammar, tree_lines}
 use Rattle.dp_cert.specs.PolicyGrammar.{cells_passed, counts_grammar, first_of_counts, nexts_before, plain_agent,
     plain_agents, plain_stage, plain_stages, policy_grammar, row_line, rows_of_form, shared_agents, shared_stages}
-use Rattle.dp_cert.specs.TextSteps.{Text, and_then, first_plain, the_words, unless_passed}
+use Rattle.dp_lines.specs.Steps.{and_then, first_plain, the_words, unless_passed}
+use Rattle.dp_cert.specs.PolicyGrammar.{Text}
 use Rattle.dp_cert.proofs.CertificateParts.{behind_head, behind_horizon, behind_policy, behind_tree, behind_version}
 use Rattle.dp_cli.proofs.FileLimits.{IsOther, horizon_is_other, is_of_file}
 use Rattle.dp_cli.proofs.PolicyLimits.{AreOther, AreOther-bind, text_limit}

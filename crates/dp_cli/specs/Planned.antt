@@ -1,5 +1,5 @@
 -- What a plan answers.
-use Rattle.std.specs.Prelude.{◌≡◌, ℕ, ◌+◌, ◌*◌, ◌^◌, ◌<◌, ◌≤◌, List, [], ◌∷◌, Option, Some, option_map, Result, Vec}
+use Rattle.std.specs.Prelude.{◌≡◌, ℕ, ◌+◌, ◌*◌, ◌^◌, ◌<◌, ◌≤◌, List, [], ◌∷◌, Option, Some, None, option_map, Result, Vec}
 use Rattle.std.specs.declared.alloc.Global.{Global}
 use Rattle.dp_spec.specs.Certificate.{Certificate}
 use Rattle.dp_spec.specs.CertificateText.{IsCertificateText}
@@ -53,6 +53,7 @@ options_of job = record { version = job.version; nodes = job.nodes; look = job.l
 -- with what it asks for, and by the branching rule of its order.
 pub record IsPlanOf (m : Model) (job : PlanJob) (bytes : List ℕ) : Type 0 where
   pub is_model : IsModel m
+  pub kept : horizon_passed m job.version job.horizon ≡ None
   pub certificate : Certificate
   pub spelled : IsCertificateText m bytes certificate
   pub planned : IsPlanned m (order_rule job.order) job.horizon (options_of job) certificate
