@@ -22,3 +22,4 @@ pub mod PlainReads
 pub mod SharedReads
 pub mod CertificateReads
 pub mod WrittenTexts
+mod TypedTexts

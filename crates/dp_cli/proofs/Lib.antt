@@ -1,5 +1,4 @@
 mod Causes
-mod Certificates
 mod Certifying
 mod Commands
 mod Doing
@@ -19,3 +18,7 @@ mod CertificateLimits
 mod CertificateSizes
 mod CheckIsSound
 mod Checks
+mod FirstGreatest
+mod NoPlaces
+mod RuledPlans
+mod PlanTexts

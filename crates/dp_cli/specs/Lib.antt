@@ -5,6 +5,7 @@ pub mod CheckCommand
 pub mod Command
 pub mod Commands
 pub mod ModelText
+pub mod Orders
 pub mod PlanCommand
 pub mod Planned
 pub mod Put

@@ -38,7 +38,8 @@ joined_twice = refl
 
 -- ---- the options of a plan
 
-every_option : job_of (codes "plan" ∷ codes "m" ∷ codes "--horizon=2" ∷ codes "--nodes" ∷ codes "0" ∷ codes "--look=16"
+every_option : job_of (codes "plan" ∷ codes "m" ∷ codes "--horizon=2" ∷ codes "--nodes" ∷ codes "0" ∷ codes
+    "--look=16"
     ∷ codes "--no-merge" ∷ codes "--order" ∷ codes "heavy" ∷ codes "--cert=2" ∷ [])
     ≡ Some (Plan (record {
       model = codes "m";
