@@ -19,3 +19,9 @@ mod CertificateLimits
 mod CertificateSizes
 mod CheckIsSound
 mod Checks
+mod ActorsOfRows
+mod CertificateReading
+mod EpisodeLines
+mod ShowIsSound
+mod ShownTexts
+mod SimIsSound

@@ -38,7 +38,8 @@ joined_twice = refl
 
 -- ---- the options of a plan
 
-every_option : job_of (codes "plan" ∷ codes "m" ∷ codes "--horizon=2" ∷ codes "--nodes" ∷ codes "0" ∷ codes "--look=16"
+every_option : job_of (codes "plan" ∷ codes "m" ∷ codes "--horizon=2" ∷ codes "--nodes" ∷ codes "0" ∷ codes
+    "--look=16"
     ∷ codes "--no-merge" ∷ codes "--order" ∷ codes "heavy" ∷ codes "--cert=2" ∷ [])
     ≡ Some (Plan (record {
       model = codes "m";
@@ -135,7 +136,8 @@ no_words = refl
 
 -- ---- the other files of a certificate
 
-shown : job_of (codes "show" ∷ codes "m" ∷ codes "c" ∷ []) ≡ Some (Show (record { model = codes "m"; cert = codes "c" }))
+shown : job_of (codes "show" ∷ codes "m" ∷ codes "c" ∷ [])
+    ≡ Some (Show (record { model = codes "m"; cert = codes "c" }))
 shown = refl
 
 shown_with_a_seed : job_of (codes "show" ∷ codes "m" ∷ codes "c" ∷ codes "--seed=1" ∷ []) ≡ None
@@ -163,7 +165,8 @@ no_episode : job_of (codes "sim" ∷ codes "m" ∷ codes "c" ∷ codes "--seed=1
 unfolding is_index
 no_episode = refl
 
-too_many_episodes : job_of (codes "sim" ∷ codes "m" ∷ codes "c" ∷ codes "--seed=1" ∷ codes "--episodes=10001" ∷ []) ≡ None
+too_many_episodes : job_of (codes "sim" ∷ codes "m" ∷ codes "c" ∷ codes "--seed=1" ∷ codes "--episodes=10001" ∷ [])
+    ≡ None
 unfolding is_index
 too_many_episodes = refl
 
