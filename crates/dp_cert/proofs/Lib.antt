@@ -21,3 +21,4 @@ pub mod ReadHeads
 pub mod ReadCertificates
 pub mod ReadTexts
 pub mod WrittenTexts
+mod TypedTexts

@@ -32,6 +32,10 @@ pub on_ok : {A B T E : Type 0} (r : Result T E) → (A → B) → OnOk r A → O
 on_ok (Ok x) f a = f a
 on_ok (Err e) f a = tt
 
+pub on_same : {B T E : Type 0} (r : Result T E) → B → OnOk r B
+on_same (Ok x) b = b
+on_same (Err e) b = tt
+
 pub is_other : (v : ℕ) → (v ≡ 1 → ⊥) → (v == 1) ≡ false
 is_other v differ = grind (arith, nat_tests)
 

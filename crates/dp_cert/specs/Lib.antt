@@ -9,3 +9,4 @@ pub mod NodeLines
 pub mod OpenNodes
 pub mod CertificateLaws
 pub mod CertificateBytes
+pub mod TypedNumbers

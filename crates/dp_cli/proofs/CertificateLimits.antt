@@ -33,7 +33,7 @@ long_is_other h = by (nat_lt 24 h)
     by true = refl
     by false = tt
 
-passed_is_other : (m : Model) (version h : ℕ) → IsOther (horizon_passed m version h)
+pub passed_is_other : (m : Model) (version h : ℕ) → IsOther (horizon_passed m version h)
 unfolding horizon_passed
 passed_is_other m version h = by (version == 1)
   where

@@ -29,18 +29,18 @@ abbrev pub IsOther : Option TooLarge → Type 0
 IsOther tried = IfSome tried (λ passed. is_of_file passed.what ≡ false)
 
 -- each of the limits that are tried is none of these
-data AreOthers : List (Option TooLarge) → Type 0 where
+pub data AreOthers : List (Option TooLarge) → Type 0 where
   none_left : AreOthers []
   before : {tried : Option TooLarge} {others : List (Option TooLarge)} → IsOther tried → AreOthers others
       → AreOthers (tried ∷ others)
 
 -- so is the first that is passed
-first_is_other : {tried : List (Option TooLarge)} → AreOthers tried → IsOther (first_passed tried)
+pub first_is_other : {tried : List (Option TooLarge)} → AreOthers tried → IsOther (first_passed tried)
 first_is_other none_left = tt
 first_is_other (before {tried = Some passed} h rest) = h
 first_is_other (before {tried = None} h rest) = first_is_other rest
 
-other : (what : Limit) (count : ℕ) → is_of_file what ≡ false → IsOther (passed_by what count)
+pub other : (what : Limit) (count : ℕ) → is_of_file what ≡ false → IsOther (passed_by what count)
 other what count h = by (nat_lt (greatest_allowed what) count)
   where
     by : (b : Bool) → IsOther (cond b (Some (record { what = what; count = count })) None)

@@ -1,5 +1,4 @@
 mod Causes
-mod Certificates
 mod Certifying
 mod Commands
 mod Doing
@@ -25,3 +24,7 @@ mod EpisodeLines
 mod ShowIsSound
 mod ShownTexts
 mod SimIsSound
+mod FirstGreatest
+mod NoPlaces
+mod RuledPlans
+mod PlanTexts

@@ -8,6 +8,7 @@ pub mod Commands
 pub mod EpisodeTexts
 pub mod ModelText
 pub mod NumberTexts
+pub mod Orders
 pub mod PlanCommand
 pub mod Planned
 pub mod Put

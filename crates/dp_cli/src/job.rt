@@ -1,6 +1,6 @@
 // What a job answers.
 ghost use Rattle.std.specs.Prelude.{Some, map, string_bytes};
-ghost use Rattle.dp_words.specs.Words.{HasLook, HasSomeStep, job_of};
+ghost use Rattle.dp_words.specs.Words.{HasLook, HasSomeStep, HasVersion, job_of};
 ghost use Rattle.dp_cli.specs.Run.{Replies};
 ghost use Rattle.dp_cli.specs.Steps.{answer_of};
 
@@ -30,6 +30,7 @@ pub fn do_words<S: Shelf>(
 fn do_job<S: Shelf>(alloc: Global, job: &Job, shelf: &mut S) -> Result<Vec<u8>, Refusal>
     requires some_step { HasSomeStep job.now }
     requires look { HasLook job.now }
+    requires version { HasVersion job.now }
     ensures { Replies (Some job.now) (S.view shelf.old) (S.view shelf.new) (answer_of result) }
 {
     match job {
