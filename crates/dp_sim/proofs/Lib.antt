@@ -1,5 +1,5 @@
 mod RowDraws
-mod TreesAlong
+pub mod TreesAlong
 mod JointActions
 mod Played
 mod EpisodeRows

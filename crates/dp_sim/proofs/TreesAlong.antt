@@ -3,7 +3,7 @@ use Rattle.std.proofs.Common.{◌≡◌, ℕ, zero, suc, ◌+◌, ◌<◌, List,
     ◌∙◌, subst, arith}
 use Rattle.dp_spec.specs.JointNumbers.{parts_of}
 use Rattle.dp_spec.specs.Model.{Model, joint_observations}
-use Rattle.dp_spec.specs.PolicyTree.{IsPolicyOf, IsPolicyTree, PolicyTree, subtree, subtrees}
+use Rattle.dp_spec.specs.PolicyTree.{IsPolicyOf, IsPolicyTree, PolicyTree, node, subtree, subtrees}
 use Rattle.dp_spec.specs.Value.{subtrees_at, trees_after}
 use Rattle.dp_spec.proofs.JointNumberLaws.{length-parts_of}
 use Rattle.dp_laws.proofs.Trees.{subtree_fits, subtrees_fit}
@@ -28,6 +28,24 @@ has_action_after b n (suc r) q (o ∷ os) short below is =
       has_action_after b n r (subtree q o) os (omega arith) (λ t lt. below (suc t) (omega arith))
           (subtree_fits b n r q o first is),
     )
+
+-- and where it has one, there are fewer of them than steps, and each is an observation
+pub history_within : (b n r : ℕ) (q : PolicyTree) (os : List ℕ) → 0 < r → IsPolicyTree b n r q → HasActionAfter q os
+    → (length os < r) × ((t : ℕ) → t < length os → get_or os t 0 < n)
+history_within b n r q [] some is has = (some, λ t lt. absurd (omega arith))
+history_within b n zero q (o ∷ os) some is has = absurd (omega arith)
+history_within b n (suc zero) (node a ks) (o ∷ os) some is has =
+    let none : tree_count ks ≡ 0 = ap tree_count is.1 in absurd (omega (arith, none, has.0))
+history_within b n (suc (suc r)) q (o ∷ os) some is has =
+    let counted : tree_count (subtrees q) ≡ n = observations_counted b n (suc (suc r)) q (omega arith) is in
+    let first : o < n = omega (arith, counted, has.0) in
+    let rest = history_within b n (suc r) (subtree q o) os (omega arith) (subtree_fits b n (suc r) q o first is) has.1 in
+    (omega (arith, rest.0), each first rest.1)
+  where
+    each : o < n → ((t : ℕ) → t < length os → get_or os t 0 < n) → (t : ℕ) → t < suc (length os)
+        → get_or (o ∷ os) t 0 < n
+    each first rest zero lt = first
+    each first rest (suc t) lt = rest t (omega arith)
 
 -- ---- all trees
 

@@ -136,7 +136,8 @@ no_words = refl
 
 -- ---- the other files of a certificate
 
-shown : job_of (codes "show" ∷ codes "m" ∷ codes "c" ∷ []) ≡ Some (Show (record { model = codes "m"; cert = codes "c" }))
+shown : job_of (codes "show" ∷ codes "m" ∷ codes "c" ∷ [])
+    ≡ Some (Show (record { model = codes "m"; cert = codes "c" }))
 shown = refl
 
 shown_with_a_seed : job_of (codes "show" ∷ codes "m" ∷ codes "c" ∷ codes "--seed=1" ∷ []) ≡ None
@@ -164,7 +165,8 @@ no_episode : job_of (codes "sim" ∷ codes "m" ∷ codes "c" ∷ codes "--seed=1
 unfolding is_index
 no_episode = refl
 
-too_many_episodes : job_of (codes "sim" ∷ codes "m" ∷ codes "c" ∷ codes "--seed=1" ∷ codes "--episodes=10001" ∷ []) ≡ None
+too_many_episodes : job_of (codes "sim" ∷ codes "m" ∷ codes "c" ∷ codes "--seed=1" ∷ codes "--episodes=10001" ∷ [])
+    ≡ None
 unfolding is_index
 too_many_episodes = refl
 
