@@ -1,28 +1,6 @@
 -- The joint action of actors at their own histories.
-use Rattle.std.proofs.Common.{
-  ◌≡◌,
-  ℕ,
-  zero,
-  suc,
-  ◌+◌,
-  ◌-◌,
-  ◌<◌,
-  ◌≤◌,
-  List,
-  [],
-  ◌∷◌,
-  length,
-  get_or,
-  map,
-  take,
-  pos,
-  refl,
-  sym,
-  ap,
-  ◌∙◌,
-  subst,
-  arith,
-}
+use Rattle.std.proofs.Common.{◌≡◌, ℕ, zero, suc, ◌+◌, ◌-◌, ◌<◌, ◌≤◌, List, [], ◌∷◌, length, get_or, map, take, pos}
+use Rattle.std.proofs.Common.{refl, sym, ap, ◌∙◌, subst, arith}
 use Rattle.std.specs.Fn.{Shared}
 use denote.Ref.{Bor}
 use Rattle.std.proofs.lemmas.List.{get_or-map, length-map}
@@ -32,8 +10,8 @@ use Rattle.dp_spec.specs.Model.{Model, joint_actions, joint_observations}
 use Rattle.dp_spec.specs.PolicyTree.{IsJointPolicy, IsPolicyOf, PolicyTree, root_action}
 use Rattle.dp_spec.specs.PolicyTree.IsJointPolicy.{and_agent, no_agents}
 use Rattle.dp_spec.specs.Value.{joint_root_action}
-use Rattle.dp_spec.proofs.JointNumberLaws.{AreBelow, below_at, below_each, joint_number_below, parts_below,
-    parts_of-joint_number}
+use Rattle.dp_spec.proofs.JointNumberLaws.{AreBelow, below_at, below_each, joint_number_below, parts_below}
+use Rattle.dp_spec.proofs.JointNumberLaws.{parts_of-joint_number}
 use Rattle.dp_laws.proofs.Trees.{root_action_below}
 use Rattle.dp_model.specs.Parts.{AreParts, part_of}
 use Rattle.dp_policy.specs.SharedRows.{remaining_after}

@@ -1,5 +1,5 @@
-use Rattle.std.proofs.Common.{◌≢◌, ℕ, ◌<◌, List, length, take, sym, ap, ◌∙◌, subst, arith, below_more,
-    get_or-set_other, get_or-set_same}
+use Rattle.std.proofs.Common.{◌≢◌, ℕ, ◌<◌, List, length, take, sym, ap, ◌∙◌, subst, arith, below_more}
+use Rattle.std.proofs.Common.{get_or-set_other, get_or-set_same}
 use Rattle.std.proofs.Math.ListN.{length-set}
 use Rattle.dp_spec.specs.JointNumbers.{joint_number}
 use Rattle.dp_spec.specs.Model.{joint_actions}
@@ -9,14 +9,8 @@ use Rattle.dp_policy.specs.SharedRows.{remaining_after}
 use Rattle.dp_policy.specs.Trees.{tree_of}
 use Rattle.dp_sim.specs.Acting.{HasActionAfter}
 use Rattle.dp_sim.specs.Along.{ActsAfter}
-use Rattle.dp_sim.proofs.JointActions.{
-  actor_answers,
-  are_parts,
-  has_action,
-  joint_action_acts,
-  joint_action_below,
-  joint_action_is,
-}
+use Rattle.dp_sim.proofs.JointActions.{actor_answers, are_parts, has_action, joint_action_acts, joint_action_below}
+use Rattle.dp_sim.proofs.JointActions.{joint_action_is}
 use Rattle.dp_sim.proofs.joint.joint_action.Goals as goal
 
 pub act-requires : goal.act-requires
