@@ -59,7 +59,7 @@ use Rattle.dp_cluster.specs.Merging.{IsMergeFault}
 use Rattle.dp_check.specs.Verdicts.{reason_of}
 use Rattle.dp_check.proofs.FrontBounds.{same_mode}
 use Rattle.dp_check.proofs.EquivalentPairs.{unassigned_decides}
-use Rattle.dp_check.proofs.WideNodes.{wide_below}
+use Rattle.dp_cluster.proofs.WideFronts.{wide_below}
 
 -- ---- tests
 

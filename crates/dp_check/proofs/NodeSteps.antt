@@ -17,7 +17,7 @@ use Rattle.dp_spec.specs.Steps.{
 use Rattle.dp_spec.specs.Wide.{has_room, is_wide}
 use Rattle.dp_laws.proofs.ChosenFronts.{actions_chosen, counts_chosen, joint_class_chosen}
 use Rattle.dp_laws.proofs.FrontRoom.{choice_keeps_room, root_has_room}
-use Rattle.dp_check.proofs.WideNodes.{wide_below}
+use Rattle.dp_cluster.proofs.WideFronts.{wide_below}
 use Rattle.dp_cluster.specs.KeptFronts.{IsFrontOf, KeptFront}
 use Rattle.dp_check.specs.Bounding.{AreLookAheads, IsBounding, IsWithRoom, arithmetic_of, rows_of}
 use Rattle.dp_check.specs.Nodes.{IsBelow, IsNodeOf}
