@@ -147,6 +147,7 @@ answers 'an unknown option' 2 'refused usage' plan short --horizon 1 --speed 2
 answers 'horizon 0' 2 'refused usage' plan short --horizon 0
 answers 'a number that begins with 0' 2 'refused usage' plan short --horizon 01
 answers 'a number with a sign' 2 'refused usage' plan short --horizon +1
+answers 'an order of another name' 2 'refused usage' plan short --horizon 1 --order last
 answers 'a number that is out of range' 2 'refused usage' plan short --horizon 4294967296
 
 # The certificates that come with the repository: each is closed, so its interval is one point.
@@ -158,6 +159,19 @@ for certificate in "$root"/certificates/*.cert; do
     head -n 2 text >out
     judge "the certificate $name" 0
 done
+# What is planned is what its check accepts: over three steps, closed at the optimum, and an open plan.
+printf '%s\n' accepted 'closed yes' 'lean yes' 'merged yes' 'repaired 0' 'unit 16000000000000' \
+    'lower 83053000000000 5.190812' 'upper 83053000000000 5.190813' >want
+limited plan "$root/models/tiger.dpomdp" --horizon 3 >planned 2>err </dev/null
+limited check "$root/models/tiger.dpomdp" planned >out 2>>err </dev/null
+echo $? >status
+judge 'a plan over three steps, checked' 0
+printf '%s\n' accepted 'closed no' 'lean yes' 'merged yes' >want
+limited plan "$root/models/tiger.dpomdp" --horizon 4 --nodes 50 --look 4 --order heavy >planned 2>err </dev/null
+limited check "$root/models/tiger.dpomdp" planned >text 2>>err </dev/null
+echo $? >status
+head -n 4 text >out
+judge 'an open plan over four steps, checked' 0
 # One that says more than it shows, and one of another model.
 sed 's/^upper .*/upper 1/' "$root/certificates/tiger-2.cert" >upper
 answers 'a certificate with another upper end' 1 'rejected upper -3200000000' check "$root/models/tiger.dpomdp" upper

@@ -1,6 +1,6 @@
 -- The lines of a tree, child after child.
-use Rattle.std.proofs.Common.{◌≡◌, ℕ, List, [], ◌∷◌, ◌++◌, map, Result, Ok, Err, false, refl, ap, ◌∙◌, append_assoc,
-    arith}
+use Rattle.std.proofs.Common.{◌≡◌, ℕ, List, [], ◌∷◌, ◌++◌, map, Result, Ok, Err, false, refl, ap, ◌∙◌, append_assoc}
+use Rattle.std.proofs.Common.{arith}
 use Rattle.std.specs.Prelude.{OnOk, ◌==◌, codes}
 use Rattle.std.proofs.lemmas.Bool.Decides.{nat_tests}
 use Rattle.dp_spec.specs.BoundTree.{BoundTree, BoundTrees, branch, child_count}
@@ -31,6 +31,10 @@ branch_start old text i c n ks e count =
 pub on_ok : {A B T E : Type 0} (r : Result T E) → (A → B) → OnOk r A → OnOk r B
 on_ok (Ok x) f a = f a
 on_ok (Err e) f a = tt
+
+pub on_same : {B T E : Type 0} (r : Result T E) → B → OnOk r B
+on_same (Ok x) b = b
+on_same (Err e) b = tt
 
 pub is_other : (v : ℕ) → (v ≡ 1 → ⊥) → (v == 1) ≡ false
 is_other v differ = grind (arith, nat_tests)

@@ -1,6 +1,5 @@
 pub mod CertificateValue
 pub mod TreeSizes
-pub mod TextSteps
 pub mod PolicyGrammar
 pub mod CertificateGrammar
 pub mod Reading
@@ -9,3 +8,4 @@ pub mod NodeLines
 pub mod OpenNodes
 pub mod CertificateLaws
 pub mod CertificateBytes
+pub mod TypedNumbers

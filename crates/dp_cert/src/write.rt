@@ -1,16 +1,19 @@
 //! Certificate texts written.
-ghost use Rattle.std.specs.Prelude.{◌≡◌, ◌++◌, ◌∷◌, ◌==◌, [], cond, true, false, codes, decimal, map, length, IfOk,
-    OnOk};
+ghost use Rattle.std.specs.Prelude.{◌≡◌, ◌<◌, ◌^◌, ◌++◌, ◌∷◌, ◌==◌, [], cond, true, false, codes, decimal, map};
+ghost use Rattle.std.specs.Prelude.{length, FitsSigned, IfOk, OnOk};
+ghost use Rattle.std.specs.Int.{w128};
 ghost use Rattle.std.specs.Fmt.{signed_decimal};
-ghost use Rattle.dp_spec.specs.Certificate.{HasPolicyOfVersion};
-ghost use Rattle.dp_spec.specs.CertificateText.{certificate_text};
-ghost use Rattle.dp_spec.specs.Model.{Model};
+ghost use Rattle.dp_spec.specs.Certificate.{HasPolicyOfVersion, IsCertificateOf};
+ghost use Rattle.dp_spec.specs.CertificateText.{IsCertificateText, certificate_text};
+ghost use Rattle.dp_spec.specs.Model.{IsModel, Model};
 ghost use Rattle.dp_tree.specs.TreeValue.{bound_tree};
 ghost use Rattle.dp_cert.specs.CertificateBytes.{actions_bytes, agents_bytes, certificate_bytes, counted_bytes};
-ghost use Rattle.dp_cert.specs.CertificateBytes.{counts_bytes, head_bytes, interval_bytes, manner_bytes, node_bytes,
-    plain_bytes, row_bytes, row_tail, rows_bytes};
-ghost use Rattle.dp_cert.specs.CertificateBytes.{signed_bytes, stages_bytes, three_bytes};
+ghost use Rattle.dp_cert.specs.CertificateBytes.{counts_bytes, head_bytes, interval_bytes, manner_bytes, node_bytes};
+ghost use Rattle.dp_cert.specs.CertificateBytes.{plain_bytes, row_bytes, rows_bytes, signed_bytes, stages_bytes};
+ghost use Rattle.dp_cert.specs.CertificateBytes.{three_bytes};
+ghost use Rattle.dp_lines.specs.Lines.{row_tail};
 ghost use Rattle.dp_cert.specs.CertificateValue.{certificate_of};
+ghost use Rattle.dp_cert.specs.TypedNumbers.{HasTypedEnds, HasTypedHead, HasTypedNumbers, IsTyped};
 
 use crate::Certificate;
 use dp_base::Memory;
@@ -19,12 +22,15 @@ use dp_tree::Tree;
 use itoa::Buffer;
 use std::alloc::Global;
 
-/// The one text of a certificate that fits a model. It takes memory linear in the text, and time linear in
-/// the certificate. The error is want of memory.
+/// The one text of a certificate that fits a model, whose lines allow all its numbers. It takes memory linear
+/// in the text, and time linear in the certificate. The error is want of memory.
 pub fn write_cert(alloc: Global, certificate: &Certificate) -> Result<Vec<u8>, Memory>
     ensures bytes { IfOk result (λ text. text.items ≡ certificate_bytes (certificate_of certificate.now)) }
     ensures text { IfOk result (λ text. (m : Model) → HasPolicyOfVersion m (certificate_of certificate.now) →
         text.items ≡ certificate_text m.actions m.observations (certificate_of certificate.now)) }
+    ensures spelled { IfOk result (λ text. (m : Model) → IsModel m
+        → IsCertificateOf m (certificate_of certificate.now)
+        → IsCertificateText m text.items (certificate_of certificate.now)) }
 {
     let text = written(alloc, certificate)?;
     Ok(text)
@@ -32,7 +38,8 @@ pub fn write_cert(alloc: Global, certificate: &Certificate) -> Result<Vec<u8>, M
 
 // The bytes of a certificate.
 fn written(alloc: Global, certificate: &Certificate) -> Result<Vec<u8>, Memory>
-    ensures { IfOk result (λ text. text.items ≡ certificate_bytes (certificate_of certificate.now)) }
+    ensures bytes { IfOk result (λ text. text.items ≡ certificate_bytes (certificate_of certificate.now)) }
+    ensures typed { IfOk result (λ text. IsTyped (certificate_of certificate.now)) }
 {
     let mut text = Vec::new(alloc);
     push_head(&mut text, certificate)?;
@@ -60,8 +67,9 @@ fn push_agents(text: &mut Vec<u8>, version: u32, agents: &[Vec<Vec<Row>>]) -> Re
 
 // The lines behind the policy.
 fn push_nodes(text: &mut Vec<u8>, tree: &Tree) -> Result<(), Memory>
-    ensures { OnOk result (text.new.items
+    ensures bytes { OnOk result (text.new.items
         ≡ text.old.items ++ (codes "tree\n" ++ (node_bytes (bound_tree tree.now) ++ codes "end\n"))) }
+    ensures typed { OnOk result (HasTypedNumbers (bound_tree tree.now)) }
 {
     text.extend_from_slice(b"tree\n")?;
     push_tree(text, tree)?;
@@ -71,13 +79,22 @@ fn push_nodes(text: &mut Vec<u8>, tree: &Tree) -> Result<(), Memory>
 
 // The lines before the agents.
 fn push_head(text: &mut Vec<u8>, certificate: &Certificate) -> Result<(), Memory>
-    ensures { OnOk result (text.new.items ≡ text.old.items ++ head_bytes (certificate_of certificate.now)) }
+    ensures bytes { OnOk result (text.new.items ≡ text.old.items ++ head_bytes (certificate_of certificate.now)) }
+    ensures typed { OnOk result (HasTypedHead (certificate_of certificate.now)) }
 {
     push_manner(text, certificate)?;
     push_interval(text, certificate)?;
-    push_plain(text, b"inner ", u64::from(certificate.inner))?;
+    push_inner(text, certificate.inner)?;
     text.extend_from_slice(b"policy\n")?;
     Ok(())
+}
+
+// The line of how many branches and merges the tree has.
+fn push_inner(text: &mut Vec<u8>, inner: u32) -> Result<(), Memory>
+    ensures bytes { OnOk result (text.new.items ≡ text.old.items ++ plain_bytes (codes "inner ") inner) }
+    ensures typed { inner < 2 ^ 32 }
+{
+    push_plain(text, b"inner ", u64::from(inner))
 }
 
 // The lines before the interval.
@@ -96,7 +113,8 @@ fn push_manner(text: &mut Vec<u8>, certificate: &Certificate) -> Result<(), Memo
 
 // The lines of the interval.
 fn push_interval(text: &mut Vec<u8>, certificate: &Certificate) -> Result<(), Memory>
-    ensures { OnOk result (text.new.items ≡ text.old.items ++ interval_bytes (certificate_of certificate.now)) }
+    ensures bytes { OnOk result (text.new.items ≡ text.old.items ++ interval_bytes (certificate_of certificate.now)) }
+    ensures typed { OnOk result (HasTypedEnds (certificate_of certificate.now)) }
 {
     push_value(text, b"unit ", &certificate.unit)?;
     push_value(text, b"lower ", &certificate.lower)?;
@@ -243,7 +261,8 @@ fn push_nexts(text: &mut Vec<u8>, nexts: &[u32]) -> Result<(), Memory>
 
 // The lines of a tree, each node before its children.
 fn push_tree(text: &mut Vec<u8>, tree: &Tree) -> Result<(), Memory>
-    ensures { OnOk result (text.new.items ≡ text.old.items ++ node_bytes (bound_tree tree.now)) }
+    ensures bytes { OnOk result (text.new.items ≡ text.old.items ++ node_bytes (bound_tree tree.now)) }
+    ensures typed { OnOk result (HasTypedNumbers (bound_tree tree.now)) }
 {
     match tree {
         Tree::Leaf { bound } => push_value(text, b"L ", bound),
@@ -268,7 +287,8 @@ fn push_tree(text: &mut Vec<u8>, tree: &Tree) -> Result<(), Memory>
 
 // A line of a word and a number with its sign that stands in a value.
 fn push_value(text: &mut Vec<u8>, word: &[u8], number: &i128) -> Result<(), Memory>
-    ensures { OnOk result (text.new.items ≡ text.old.items ++ signed_bytes word.now number.now) }
+    ensures bytes { OnOk result (text.new.items ≡ text.old.items ++ signed_bytes word.now number.now) }
+    ensures typed { FitsSigned w128 number.now }
 {
     let number = *number;
     push_signed(text, word, number)

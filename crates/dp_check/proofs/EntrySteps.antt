@@ -1,23 +1,6 @@
 -- Branches and merges: what a walk finds at one.
-use Rattle.std.proofs.Common.{
-  ◌≡◌,
-  inl,
-  inr,
-  ℕ,
-  ◌<◌,
-  ◌≤◌,
-  Bool,
-  true,
-  false,
-  not,
-  get_or,
-  refl,
-  sym,
-  ap,
-  ◌∙◌,
-  subst,
-  arith,
-}
+use Rattle.std.proofs.Common.{◌≡◌, inl, inr, ℕ, ◌<◌, ◌≤◌, Bool, true, false, not, get_or, refl, sym, ap, ◌∙◌, subst}
+use Rattle.std.proofs.Common.{arith}
 use Rattle.std.specs.Prelude.{◌&&◌, ◌==◌, nat_lt}
 use Rattle.std.specs.Option.{option_or}
 use Rattle.std.proofs.lemmas.Bool.{and_parts}
@@ -27,17 +10,8 @@ use Rattle.dp_spec.specs.BoundTree.{BoundTree, BoundTrees, branch, child_count, 
 use Rattle.dp_spec.specs.Merge.{AreEquivalent, merged_front}
 use Rattle.dp_spec.specs.Model.{Model}
 use Rattle.dp_spec.specs.Qualities as qualities
-use Rattle.dp_spec.specs.Reasons.{
-  children_are,
-  is_unassigned,
-  may_branch,
-  may_merge,
-  may_refine,
-  no_place,
-  unequal_at,
-  unequal_reason,
-  unless,
-}
+use Rattle.dp_spec.specs.Reasons.{children_are, is_unassigned, may_branch, may_merge, may_refine, no_place}
+use Rattle.dp_spec.specs.Reasons.{unequal_at, unequal_reason, unless}
 use Rattle.dp_spec.specs.Steps.{IsUnassigned}
 use Rattle.dp_spec.specs.UnequalPlaces.{IsFirstUnequal, first_unequal}
 use Rattle.dp_spec.specs.Wide.{has_room, is_wide}

@@ -9,10 +9,10 @@ ghost use Rattle.dp_check.specs.Verdicts.{outcome};
 ghost use Rattle.dp_check.specs.Walks.{entered, has_no_pairs};
 
 use crate::bounds::{Bounds, look_aheads};
+use crate::classes::{has_no_pairs, is_unassigned};
 use crate::node::Node;
 use crate::tally::Tally;
 use crate::verdict::Reason;
-use crate::classes::{has_no_pairs, is_unassigned};
 use dp_base::Memory;
 use dp_cluster::MergeFault;
 use dp_model::Model;

@@ -1,5 +1,4 @@
 mod Causes
-mod Certificates
 mod Certifying
 mod Commands
 mod Doing
@@ -19,3 +18,13 @@ mod CertificateLimits
 mod CertificateSizes
 mod CheckIsSound
 mod Checks
+mod ActorsOfRows
+mod CertificateReading
+mod EpisodeLines
+mod ShowIsSound
+mod ShownTexts
+mod SimIsSound
+mod FirstGreatest
+mod NoPlaces
+mod RuledPlans
+mod PlanTexts

@@ -46,12 +46,6 @@ fault_apart (job_faults.Rejected reason) = record {
   read = λ e. cc;
   limit = λ e. cc;
 }
-fault_apart (job_faults.Unbuilt part) = record {
-  done = λ e. cc;
-  usage = λ e. cc;
-  read = λ e. cc;
-  limit = λ e. cc;
-}
 
 -- the status of an answer
 pub answer_status : (refusal : Option Refusal) (IsText : List ℕ → Type 0) (answer : Answer)

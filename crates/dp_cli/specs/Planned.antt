@@ -1,53 +1,64 @@
 -- What a plan answers.
-use Rattle.std.specs.Prelude.{◌≡◌, ◌≤◌, ℕ, true, nat_lt, if◌then◌else◌, List, Option, Some, None, Result, Vec}
+use Rattle.std.specs.Prelude.{◌≡◌, ℕ, ◌+◌, ◌*◌, ◌^◌, ◌<◌, ◌≤◌, List, [], ◌∷◌, Option, Some, None, option_map, Result}
+use Rattle.std.specs.Prelude.{Vec}
 use Rattle.std.specs.declared.alloc.Global.{Global}
-use Rattle.dp_spec.specs.Mode.{is_exact_mode}
+use Rattle.dp_spec.specs.Certificate.{Certificate}
+use Rattle.dp_spec.specs.CertificateText.{IsCertificateText}
+use Rattle.dp_spec.specs.Mode.{IsWithinVersion}
 use Rattle.dp_spec.specs.Model.{IsModel, Model}
+use Rattle.dp_spec.specs.Promises.{IsPlanned, PlanOptions}
+use Rattle.dp_model.specs.declared.horizon.Fit.{Fit}
+use Rattle.dp_model.specs.declared.limit.Limit.TheVariants.{Nodes, TreeNodes}
 use Rattle.dp_model.specs.declared.limit.TooLarge.{TooLarge}
-use Rattle.dp_model.specs.Limits.{first_passed}
-use Rattle.dp_model.specs.Horizons.{horizon_limits}
+use Rattle.dp_model.specs.Horizons.{fit_of}
+use Rattle.dp_model.specs.Limits.{first_passed, passed_by}
 use Rattle.dp_meaning.specs.Meaning.{Meaning}
-use Rattle.dp_plan.specs.ConstantCertificate.{IsBestConstantText}
+use Rattle.dp_cert.specs.CertificateGrammar.{horizon_passed}
+use Rattle.dp_search.specs.declared.options.PlanOpts.{PlanOpts}
+use Rattle.dp_search.specs.FrontPlanners.{widest}
 use Rattle.dp_words.specs.declared.job.PlanJob.{PlanJob}
-use Rattle.dp_cli.specs.declared.refusal.UnbuiltPart.{UnbuiltPart}
-use Rattle.dp_cli.specs.declared.refusal.UnbuiltPart.TheVariants.{Horizon, Outward}
 use Rattle.dp_cli.specs.declared.refusal.JobFault.{JobFault}
 use Rattle.dp_cli.specs.declared.refusal.JobFault.TheVariants as job_faults
 use Rattle.dp_cli.specs.declared.refusal.Refusal.{Refusal}
 use Rattle.dp_cli.specs.Answer.{GivesText}
 use Rattle.dp_cli.specs.ModelText.{model_fault, model_of_text}
+use Rattle.dp_cli.specs.Orders.{order_rule}
 
--- what a plan over so many steps needs that is not built yet: more than one step, or outward mode
-abbrev pub unbuilt_part : Model → ℕ → Option UnbuiltPart
-unbuilt_part m horizon = if nat_lt 1 horizon then Some Horizon else if is_exact_mode m horizon then None else
-    Some
-    Outward
+-- ---- what may be wrong
 
--- a limit that is passed comes before what is not built yet
-abbrev pub fault_by : Option TooLarge → Option UnbuiltPart → Option JobFault
-fault_by (Some passed) part = Some (job_faults.TooLarge passed)
-fault_by None (Some part) = Some (job_faults.Unbuilt part)
-fault_by None None = None
+-- the limits that a plan may pass, in order: those of its horizon in its version, that of its budget of branches and
+-- merges, and that of the nodes of a tree of so many
+abbrev pub plan_limits : Model → PlanJob → List (Option TooLarge)
+plan_limits m job =
+    horizon_passed m job.version job.horizon
+    ∷ passed_by Nodes job.nodes
+    ∷ passed_by TreeNodes (job.nodes * widest m.actions)
+    ∷ []
 
--- why a model is not planned over so many steps
-abbrev pub horizon_fault : Model → ℕ → Option JobFault
-horizon_fault m horizon = fault_by (first_passed (horizon_limits m horizon)) (unbuilt_part m horizon)
+-- why a model is not planned for
+abbrev pub limits_fault : PlanJob → Model → Option JobFault
+limits_fault job m = option_map (λ passed. job_faults.TooLarge passed) (first_passed (plan_limits m job))
 
--- why a file that means that is not planned over so many steps
-abbrev pub plan_fault : ℕ → Meaning → Option JobFault
-plan_fault horizon meant = model_fault (λ m. horizon_fault m horizon) meant
+-- why a file that means that is not planned for
+abbrev pub plan_fault : PlanJob → Meaning → Option JobFault
+plan_fault job meant = model_fault (limits_fault job) meant
 
--- The bytes are the text of the certificate of the best constant policy of a model over one step, in exact mode: the
--- policy that always does the least joint action among those of greatest value, whose value is both ends of the
--- interval and the one leaf of the tree.
+-- ---- what is put
+
+-- what a job asks for, besides its horizon
+abbrev pub options_of : PlanJob → PlanOptions
+options_of job = record { version = job.version; nodes = job.nodes; look = job.look; merge = job.merge }
+
+-- The horizon of the job passes no limit, and the bytes are the text of a certificate that keeps the promises of a
+-- plan for the model: over that horizon, with what the job asks for, and by the branching rule of its order.
 pub record IsPlanOf (m : Model) (job : PlanJob) (bytes : List ℕ) : Type 0 where
   pub is_model : IsModel m
-  pub one_step : job.horizon ≡ 1
-  pub look : (1 ≤ job.look) × (job.look ≤ 16)
-  pub exact_mode : is_exact_mode m 1 ≡ true
-  pub text : IsBestConstantText m job.look bytes
+  pub kept : horizon_passed m job.version job.horizon ≡ None
+  pub certificate : Certificate
+  pub spelled : IsCertificateText m bytes certificate
+  pub planned : IsPlanned m (order_rule job.order) job.horizon (options_of job) certificate
 
--- A file means a model, and the bytes are a plan of it.
+-- A file means a model, and the bytes are a plan for it.
 pub record IsPlanOfText (file : List ℕ) (job : PlanJob) (bytes : List ℕ) : Type 0 where
   pub model : Model
   pub meant : model_of_text file ≡ Some model
@@ -55,4 +66,20 @@ pub record IsPlanOfText (file : List ℕ) (job : PlanJob) (bytes : List ℕ) : T
 
 -- the text of a plan for a model, or why there is none
 abbrev pub PlansModel : PlanJob → Model → Result (Vec ℕ Global) Refusal → Type 0
-PlansModel job m result = GivesText (horizon_fault m job.horizon) (λ bytes. IsPlanOf m job bytes) result
+PlansModel job m result = GivesText (limits_fault job m) (λ bytes. IsPlanOf m job bytes) result
+
+-- ---- what a planner asks
+
+-- the options of a job, as the planner takes them
+abbrev pub options_for : PlanJob → PlanOpts
+options_for job = record { version = job.version; nodes = job.nodes; look = job.look; merge = job.merge }
+
+-- The horizon keeps the limits of its version, the look is in its range, the budget is within its limit, and the
+-- nodes of a tree can be numbered.
+pub record CanPlan (m : Model) (fit : Fit) (options : PlanOpts) : Type 0 where
+  pub within : IsWithinVersion m fit.horizon options.version
+  pub fits : fit ≡ fit_of m fit.horizon
+  pub some_look : 1 ≤ options.look
+  pub look : options.look ≤ 16
+  pub nodes : options.nodes ≤ 1000000
+  pub tree_nodes : 1 + options.nodes * widest m.actions < 2 ^ 32

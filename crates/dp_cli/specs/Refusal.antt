@@ -22,8 +22,6 @@ use Rattle.dp_cli.specs.declared.refusal.FileRole.{FileRole}
 use Rattle.dp_cli.specs.declared.refusal.FileRole.TheVariants.{Model, Second}
 use Rattle.dp_cli.specs.declared.refusal.JobFault.{JobFault}
 use Rattle.dp_cli.specs.declared.refusal.JobFault.TheVariants as job_faults
-use Rattle.dp_cli.specs.declared.refusal.UnbuiltPart.{UnbuiltPart}
-use Rattle.dp_cli.specs.declared.refusal.UnbuiltPart.TheVariants.{Horizon, Outward}
 use Rattle.dp_cli.specs.declared.refusal.Refusal.{Refusal}
 use Rattle.dp_cli.specs.declared.refusal.Refusal.TheVariants as refusals
 use Rattle.dp_cli.specs.declared.status.Status.{Status}
@@ -78,7 +76,6 @@ fault_status (job_faults.BadModel line column why) = statuses.BadModel
 fault_status (job_faults.BadFile line why) = statuses.BadFile
 fault_status (job_faults.TooLarge passed) = statuses.TooLarge
 fault_status (job_faults.Rejected reason) = statuses.Rejected
-fault_status (job_faults.Unbuilt part) = statuses.Unbuilt
 
 -- the exit status of each refusal
 abbrev pub refusal_status : Refusal → Status
@@ -114,18 +111,12 @@ abbrev pub read_line : FileRole → List ℕ
 read_line Model = codes "refused read 1\n"
 read_line Second = codes "refused read 2\n"
 
--- the line for a job of a part that is not built
-abbrev pub unbuilt_line : UnbuiltPart → List ℕ
-unbuilt_line Horizon = codes "refused unbuilt horizon\n"
-unbuilt_line Outward = codes "refused unbuilt outward\n"
-
 -- the line that tells what is wrong with the texts of a job
 abbrev pub fault_line : JobFault → List ℕ
 fault_line (job_faults.BadModel line column why) = model_line line column why
 fault_line (job_faults.BadFile line why) = file_line line why
 fault_line (job_faults.TooLarge passed) = large_line passed
 fault_line (job_faults.Rejected reason) = reason_line reason
-fault_line (job_faults.Unbuilt part) = unbuilt_line part
 
 -- the line that a refusal prints
 abbrev pub refusal_line : Refusal → List ℕ

@@ -14,4 +14,3 @@ status_code statuses.TooLarge = 5
 status_code statuses.ReadFault = 6
 status_code statuses.WriteFault = 7
 status_code statuses.NoMemory = 8
-status_code statuses.Unbuilt = 20

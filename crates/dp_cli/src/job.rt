@@ -1,12 +1,14 @@
 // What a job answers.
 ghost use Rattle.std.specs.Prelude.{Some, map, string_bytes};
-ghost use Rattle.dp_words.specs.Words.{HasLook, HasSomeStep, job_of};
+ghost use Rattle.dp_words.specs.Words.{HasLook, HasSomeStep, HasVersion, job_of};
 ghost use Rattle.dp_cli.specs.Run.{Replies};
 ghost use Rattle.dp_cli.specs.Steps.{answer_of};
 
 use crate::Refusal;
 use crate::check::check;
 use crate::plan::plan;
+use crate::show::show;
+use crate::sim::sim;
 use crate::value::value;
 use dp_io::Shelf;
 use dp_words::{Job, read_words};
@@ -28,11 +30,14 @@ pub fn do_words<S: Shelf>(
 fn do_job<S: Shelf>(alloc: Global, job: &Job, shelf: &mut S) -> Result<Vec<u8>, Refusal>
     requires some_step { HasSomeStep job.now }
     requires look { HasLook job.now }
+    requires version { HasVersion job.now }
     ensures { Replies (Some job.now) (S.view shelf.old) (S.view shelf.new) (answer_of result) }
 {
     match job {
         Job::Plan(job) => plan(alloc, job, shelf),
         Job::Value(job) => value(alloc, job, shelf),
         Job::Check(job) => check(alloc, job, shelf),
+        Job::Show(job) => show(alloc, job, shelf),
+        Job::Sim(job) => sim(alloc, job, shelf),
     }
 }

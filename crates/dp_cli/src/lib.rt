@@ -4,25 +4,31 @@
 
 ghost use Rattle.std.specs.Prelude.{◌≡◌, ◌≢◌, ◌+◌, ◌<◌, ◌^◌, ◌↔◌, None, length, map, string_bytes, IfSome};
 ghost use Rattle.dp_words.specs.Words.{job_of};
-ghost use Rattle.dp_cli.specs.Causes.{files_of, first_refusal, IsCertified, LogsFirstOf, LastFailed, status_by,
-    TellsLimitOf};
+ghost use Rattle.dp_cli.specs.Causes.{files_of, first_refusal, IsCertified, LogsFirstOf, LastFailed, status_by};
+ghost use Rattle.dp_cli.specs.Causes.{TellsLimitOf};
 ghost use Rattle.dp_cli.specs.Put.{PutsOrMemory};
 ghost use Rattle.dp_cli.specs.Run.{IsFound, Runs, RunsAsTold};
 
 mod check;
+mod episodes;
 mod fetch;
 mod job;
+mod number;
+mod orders;
 mod plan;
 mod put;
 mod reason;
 mod refusal;
+mod show;
+mod shown;
+mod sim;
 mod status;
 mod value;
 
 use dp_io::{Shelf, Sink};
 use job::do_words;
 use put::put_outcome;
-pub use refusal::{FileRole, JobFault, Refusal, UnbuiltPart};
+pub use refusal::{FileRole, JobFault, Refusal};
 pub use status::Status;
 use std::alloc::Global;
 
@@ -44,15 +50,20 @@ pub fn run<S: Shelf, W: Sink>(alloc: Global, words: &[String], shelf: &mut S, ou
     ensures told { IfSome (S.view shelf.old).told (λ contents. RunsAsTold contents (length (S.view shelf.old).log)
         (job_of (map string_bytes words.now)) (W.view out.old) (W.view out.new) result) }
 
-    // Over every shelf and sink: Done tells that all the files of the job were given, that one text was
-    // put, and that what the job's command claims of the bytes given and of this text is so. Of `plan`:
-    // the text is that of a certificate, over the horizon and with the look of the job, that is valid for
-    // the model of the file's bytes, the value of its policy lies in its interval, and no joint policy is
-    // worth more than the upper end; where it is closed and exact, its ends are equal and its policy is
-    // optimal. Of `value`: the bytes of the second file are the text of a joint policy for the model of
-    // the first, and the two numbers of the text are its value, or hold it between them. Of `check`: the
-    // bytes of the second file are the text of a certificate that is valid for the model of the first, what
-    // it claims is so, as of a plan's, and the three words tell whether it is closed, lean and merged.
+    // Over every shelf and sink: Done tells that all the files of the job were given, that one text was put,
+    // and that what the job's command claims of the bytes given and of this text is so. Of `plan`: the text is
+    // that of a certificate that keeps all promises of a plan for the model of the file's bytes, with the
+    // options of the job and by the branching rule of its order; so it is valid, the value of its policy lies
+    // in its interval, and no joint policy is worth more than the upper end; where it is closed and exact, its
+    // ends are equal and its policy is optimal. Of `value`: the bytes of the second file are the text of a
+    // joint policy for the model of the first, and the two numbers of the text are its value, or hold it
+    // between them. Of `check`: the bytes of the second file are the text of a certificate that is valid for
+    // the model of the first, what it claims is so, as of a plan's, and the three words tell whether it is
+    // closed, lean and merged. Of `show`: the bytes of the second file are the text of a certificate for the
+    // model of the first, and the text has a line for each agent and own history, with the names of what was
+    // seen and of the action that the policy does after it. Of `sim`: the bytes of the second file are such a
+    // text, and the text tells the episodes of its policy in the model, one after the other by the words of
+    // the seed.
     ensures certified { result ≡ Status.Done → IsCertified (job_of (map string_bytes words.now))
         (S.view shelf.old) (S.view shelf.new) (W.view out.old) (W.view out.new) }
 
@@ -60,7 +71,7 @@ pub fn run<S: Shelf, W: Sink>(alloc: Global, words: &[String], shelf: &mut S, ou
     // too long, or else what is wrong with the bytes that were given, or nothing.
     ensures found { result ≢ Status.WriteFault → result ≢ Status.NoMemory →
         IsFound (job_of (map string_bytes words.now)) (S.view shelf.old) (S.view shelf.new) (W.view out.old)
-            (W.view out.new) result }
+        (W.view out.new) result }
 
     // Over every shelf: where a limit on the bytes of a file is told, that of a command on its own text
     // aside, the last file that was fetched is too long, and the line has its number of bytes.

@@ -65,7 +65,6 @@ fn line_of_fault(alloc: Global, fault: JobFault) -> Result<String, Memory>
         JobFault::BadFile { line, why } => line_of_file(alloc, line, why),
         JobFault::TooLarge(passed) => line_of_limit(alloc, passed),
         JobFault::Rejected(reason) => line_of_reason(alloc, reason),
-        JobFault::Unbuilt(part) => Ok(String::from_str(alloc, part.line())?),
     }
 }
 

@@ -22,15 +22,6 @@ pub enum FileRole {
     Second,
 }
 
-/// A part of the program that is not built yet.
-#[derive(Clone, Copy, Debug, PartialEq, Eq)]
-pub enum UnbuiltPart {
-    /// Planning over more than one step.
-    Horizon,
-    /// Planning in outward mode.
-    Outward,
-}
-
 /// What is wrong with the texts that a job was given.
 #[derive(Clone, Copy, Debug, PartialEq, Eq)]
 pub enum JobFault {
@@ -42,8 +33,6 @@ pub enum JobFault {
     TooLarge(TooLarge),
     /// The second file is the text of a certificate that is not valid, for this first reason.
     Rejected(Reason),
-    /// The job needs what is not built yet.
-    Unbuilt(UnbuiltPart),
 }
 
 /// Why a command gave no text. Each is told by one line.
@@ -157,7 +146,6 @@ impl JobFault {
             JobFault::BadFile { .. } => Status::BadFile,
             JobFault::TooLarge(_) => Status::TooLarge,
             JobFault::Rejected(_) => Status::Rejected,
-            JobFault::Unbuilt(_) => Status::Unbuilt,
         }
     }
 }
@@ -208,20 +196,6 @@ impl FileRole {
         match self {
             FileRole::Model => "refused read 1\n",
             FileRole::Second => "refused read 2\n",
-        }
-    }
-}
-
-impl UnbuiltPart {
-    ghost use Rattle.dp_cli.specs.Refusal.{unbuilt_line};
-
-    /// The line that tells that this part is not built yet.
-    pub(crate) fn line(self) -> &'static str
-        ensures { result.now ≡ unbuilt_line self }
-    {
-        match self {
-            UnbuiltPart::Horizon => "refused unbuilt horizon\n",
-            UnbuiltPart::Outward => "refused unbuilt outward\n",
         }
     }
 }

@@ -22,8 +22,6 @@ pub enum Status {
     WriteFault,
     /// Memory ran out.
     NoMemory,
-    /// The job needs a part of the program that is not built yet.
-    Unbuilt,
 }
 
 impl Status {
@@ -41,7 +39,6 @@ impl Status {
             Status::ReadFault => 6,
             Status::WriteFault => 7,
             Status::NoMemory => 8,
-            Status::Unbuilt => 20,
         }
     }
 }

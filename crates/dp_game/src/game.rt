@@ -1,19 +1,6 @@
 //! The game of a front.
-ghost use Rattle.std.specs.Prelude.{
-  ◌≡◌,
-  ◌<◌,
-  ◌-◌,
-  ℕ,
-  true,
-  [],
-  Some,
-  None,
-  length,
-  get_or,
-  slice_index,
-  IfOk,
-  IfSome,
-};
+ghost use Rattle.std.specs.Prelude.{◌≡◌, ◌<◌, ◌-◌, ℕ, true, [], Some, None, length, get_or, slice_index, IfOk};
+ghost use Rattle.std.specs.Prelude.{IfSome};
 ghost use Rattle.dp_spec.specs.Arithmetic.{arithmetic};
 ghost use Rattle.dp_spec.specs.Fitting.{front_bound};
 ghost use Rattle.dp_spec.specs.Front.{Front as PlainFront};

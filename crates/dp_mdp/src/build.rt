@@ -2,8 +2,8 @@
 ghost use Rattle.std.specs.Prelude.{◌≡◌, ◌<◌, [], pos, suc, length, get_or, IfOk};
 ghost use Rattle.dp_spec.specs.Model.{joint_actions, trans_at};
 ghost use Rattle.dp_spec.specs.Quantities.{mdp_table_in};
-ghost use Rattle.dp_mdp.specs.Building.{AllowsLastRewards, AllowsRow, AreLastRewards, IsLastReward, IsTabulating,
-    action_value, later_value};
+ghost use Rattle.dp_mdp.specs.Building.{AllowsLastRewards, AllowsRow, AreLastRewards, IsLastReward, IsTabulating};
+ghost use Rattle.dp_mdp.specs.Building.{action_value, later_value};
 ghost use Rattle.dp_mdp.specs.StepRewards.{state_reward};
 ghost use Rattle.dp_mdp.specs.TableRows.{IsRow, IsTable};
 
@@ -158,7 +158,7 @@ fn reward_now<A: Arith>(
     requires state { state < model.now.model.states }
     ensures { result
         ≡ (state_reward (A.operations arith.now) model.now.model rest (A.operations arith.now).one action
-            state).high }
+        state).high }
 {
     last_reward(rewards, action, state) * power
 }

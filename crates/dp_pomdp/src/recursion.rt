@@ -1,20 +1,6 @@
 //! Look-ahead.
-ghost use Rattle.std.specs.Prelude.{
-  ◌≡◌,
-  ◌-◌,
-  ◌*◌,
-  ◌*ℤ◌,
-  ◌++◌,
-  ◌^◌,
-  ◌<◌,
-  ◌≤◌,
-  map,
-  length,
-  suc,
-  unsigned_abs,
-  IfOk,
-  IfSome,
-};
+ghost use Rattle.std.specs.Prelude.{◌≡◌, ◌-◌, ◌*◌, ◌*ℤ◌, ◌++◌, ◌^◌, ◌<◌, ◌≤◌, map, length, suc, unsigned_abs, IfOk};
+ghost use Rattle.std.specs.Prelude.{IfSome};
 ghost use Rattle.std.specs.List.{range_with_len};
 ghost use Rattle.dp_spec.specs.Arithmetic.{Arithmetic};
 ghost use Rattle.dp_spec.specs.Model.{Model as PlainModel, joint_actions};

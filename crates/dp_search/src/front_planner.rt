@@ -31,8 +31,8 @@ pub(crate) struct FrontPlanner<'a, F> {
     pub rule: &'a Chooser<F>,
 }
 
-// The most actions of an agent.
-fn widest(model: &Model) -> u32
+/// The most actions of an agent of a model.
+pub fn widest(model: &Model) -> u32
     ensures { result ≡ widest model.now.model.actions }
 {
     model.invariant();

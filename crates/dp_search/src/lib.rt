@@ -26,6 +26,7 @@ mod tests;
 
 pub use chooser::Chooser;
 pub use front_places::places;
+pub use front_planner::widest;
 pub use greatest_leaf::greatest_bound;
 pub use options::PlanOpts;
 pub use place::Place;

@@ -1,6 +1,6 @@
 -- An arena stays one tree, and not too large, as it grows.
-use Rattle.std.proofs.Common.{◌≡◌, ℕ, suc, ◌+◌, ◌<◌, ◌≤◌, ◌^◌, ℤ, List, [], ◌∷◌, ◌++◌, length, get_or, set, refl, ap,
-    ◌∙◌, arith, length-append}
+use Rattle.std.proofs.Common.{◌≡◌, ℕ, suc, ◌+◌, ◌<◌, ◌≤◌, ◌^◌, ℤ, List, [], ◌∷◌, ◌++◌, length, get_or, set, refl, ap}
+use Rattle.std.proofs.Common.{◌∙◌, arith, length-append}
 use Rattle.std.proofs.lemmas.List.{set-append_left, length-map, get_or_default}
 use Rattle.std.proofs.Math.ListN.{get_or-append, length-set}
 use Rattle.dp_spec.specs.BoundTree.{BoundTree, leaf, branch, merge, inner_count}

@@ -1,6 +1,7 @@
--- A plan of the words is over at least one step, and its look is from 1 to 16.
-use Rattle.std.proofs.Common.{◌≡◌, arith, ◌≤◌, ◌-◌, ◌^◌, ◌&&◌, ◌||◌, not, Bool, cond, codes, true, false, refl, ap,
-    sym, ◌∙◌, subst, List, [], ◌∷◌, length, Option, Some, None, Result, Ok, Err, IfOk, is_some}
+-- A plan of the words is over at least one step, its look is from 1 to 16, and its version 1 or 2.
+use Rattle.std.proofs.Common.{◌≡◌, arith, ◌≤◌, ◌&&◌, ◌||◌, not, Bool, cond, codes, true, false, true≢false, refl, ap}
+use Rattle.std.proofs.Common.{sym, ◌∙◌, subst, ℕ, List, [], ◌∷◌, length, Option, Some, None, Result, Ok, Err, IfOk}
+use Rattle.std.proofs.Common.{is_some, unwrap_or, ◌⊎◌}
 use Rattle.std.specs.Prelude.{◌==◌, find, nat_le, option_and_then}
 use Rattle.std.specs.List.{list_all, list_any}
 use Rattle.std.specs.Option.{option_map_or}
@@ -10,29 +11,42 @@ use Rattle.std.proofs.lemmas.Bool.{leb-true, and_parts}
 use Rattle.dp_words.specs.declared.job.Job.{Job}
 use Rattle.dp_words.specs.declared.job.WordFault.{WordFault}
 use Rattle.dp_words.specs.Line.{Given, Text, is_given, is_well_given, may_be_value, options_of, plain_of, value_in}
-use Rattle.dp_words.specs.Words.{CommandRow, HasLook, HasSomeStep, IsReadAs, Values, all_hold, command_job, commands,
-    file_at, fits, holds, horizon, is_allowed, is_number, job_of, no_merge, number_option, plan_row, read, row_job,
-    job_of_values, value_names}
-use Rattle.dp_words.proofs.Ranges.{options_hold}
+use Rattle.dp_words.specs.Words.{CommandRow, HasLook, HasSomeStep, HasVersion, IsReadAs, Setting, Values, all_hold}
+use Rattle.dp_words.specs.Words.{cert, command_job, commands, file_at, fits, holds, horizon, is_allowed, is_number}
+use Rattle.dp_words.specs.Words.{job_of, look, no_merge, number_of, number_option, options, plan_row, read, row_job}
+use Rattle.dp_words.specs.Words.{job_of_values, value_names}
+use Rattle.dp_words.proofs.Ranges.{Each, options_hold}
 use Rattle.dp_words.proofs.Rows.{same_text}
 use Rattle.dp_words.proofs.Rules.{is_in}
 
--- a horizon that is given and allowed is at least 1
-at_least_one : (o : Option Text) → option_map_or (number_option horizon).allows o true ≡ true → is_some o ≡ true
-    → 1 ≤ option_map_or (digits_value 10) o 0
-at_least_one None holds there = cc
-at_least_one (Some t) holds there =
-    by (is_number t) (nat_le 1 (digits_value 10 t)) refl (nat_le (digits_value 10 t) (2 ^ 32 - 1)) holds
+-- a text that writes a number of a range writes one from its least to its most
+written_in_range : (least most : ℕ) (t : Text) → is_some (number_of least most t) ≡ true
+    → (least ≤ digits_value 10 t) × (digits_value 10 t ≤ most)
+written_in_range least most t some =
+    by (is_number t) (nat_le least (digits_value 10 t)) refl (nat_le (digits_value 10 t) most) refl some
   where
-    by : (a b : Bool) → nat_le 1 (digits_value 10 t) ≡ b → (d : Bool)
-        → is_some (cond (a && b && d) (Some (digits_value 10 t)) None) ≡ true → 1 ≤ digits_value 10 t
-    by a true e d some = leb-true 1 (digits_value 10 t) e
-    by true false e d some = cc
-    by false false e d some = cc
+    by : (a b : Bool) → nat_le least (digits_value 10 t) ≡ b → (d : Bool) → nat_le (digits_value 10 t) most ≡ d
+        → is_some (cond (a && b && d) (Some (digits_value 10 t)) None) ≡ true
+        → (least ≤ digits_value 10 t) × (digits_value 10 t ≤ most)
+    by true true low true high some = (leb-true least (digits_value 10 t) low, leb-true (digits_value 10 t) most high)
+    by true true low false high some = cc
+    by true false low d high some = cc
+    by false b low d high some = cc
+
+-- the number of an option that is allowed is in its range, where it is given or its default is
+number_in_range : (s : Setting) (o : Option Text) → option_map_or (number_option s).allows o true ≡ true
+    → (is_some o ≡ false → (s.least ≤ unwrap_or s.default 0) × (unwrap_or s.default 0 ≤ s.most))
+    → (s.least ≤ option_map_or (digits_value 10) o (unwrap_or s.default 0))
+    × (option_map_or (digits_value 10) o (unwrap_or s.default 0) ≤ s.most)
+number_in_range s None holds default = default refl
+number_in_range s (Some t) holds default = written_in_range s.least s.most t holds
+
+one_or_two : (n : ℕ) → 1 ≤ n → n ≤ 2 → (n ≡ 1) ⊎ (n ≡ 2)
+one_or_two n some few = grind arith
 
 -- the job has what a command asks of its numbers
 abbrev IsRunnable : Job → Type 0
-IsRunnable job = HasSomeStep job × HasLook job
+IsRunnable job = HasSomeStep job × HasLook job × HasVersion job
 
 -- the job of a row is so, where its options fit
 abbrev HasStep : Values → CommandRow → Type 0
@@ -65,21 +79,35 @@ required (m ∷ ms) v n is all =
     by false e is first next = next is
 
 -- one entry for each command of the table
-commands_have : (v : Values) → holds v (number_option horizon) ≡ true → EachHas v commands
-commands_have v holds = (
-  (λ off files ok. (
-    horizon_of plan_row.options plan_row.required refl off files ok,
-    (omega arith, omega arith),
-  )),
-  (λ off files ok. (tt, tt), (λ off files ok. (tt, tt), tt)),
+commands_have : (v : Values) → Each (holds v) options → EachHas v commands
+commands_have v allowed = (
+  (λ off files ok. (at_least_one off files ok, looks, one_or_two _ version.0 version.1)),
+  (
+    λ off files ok. (tt, tt, tt),
+    (
+      λ off files ok. (tt, tt, tt),
+      (
+        λ off files ok. (tt, tt, tt),
+        (λ off files ok. (tt, tt, tt), tt),
+      ),
+    ),
+  ),
 )
   where
-    horizon_of : (options names : List Text) → is_in (codes "horizon") names ≡ true
-        → (off : Bool) (files : List Text) → fits options names v off ≡ true
+    at_least_one : (off : Bool) (files : List Text) → fits plan_row.options plan_row.required v off ≡ true
         → 1 ≤ option_map_or (digits_value 10) (v (codes "horizon")) 0
-    horizon_of options names is off files ok =
-        at_least_one (v (codes "horizon")) holds
-        (required names v (codes "horizon") is (all_given options names v off ok))
+    at_least_one off files ok =
+        let given = required plan_row.required v (codes "horizon") refl
+        (all_given plan_row.options plan_row.required v off ok) in
+        (number_in_range horizon (v (codes "horizon")) allowed.0 (λ none. absurd (true≢false (sym given ∙ none)))).0
+
+    looks : (1 ≤ option_map_or (digits_value 10) (v (codes "look")) 1)
+        × (option_map_or (digits_value 10) (v (codes "look")) 1 ≤ 16)
+    looks = number_in_range look (v (codes "look")) allowed.1.1.0 (λ none. (omega arith, omega arith))
+
+    version : (1 ≤ option_map_or (digits_value 10) (v (codes "cert")) 1)
+        × (option_map_or (digits_value 10) (v (codes "cert")) 1 ≤ 2)
+    version = number_in_range cert (v (codes "cert")) allowed.1.1.1.0 (λ none. (omega arith, omega arith))
 
 find_has : (v : Values) (cs : List CommandRow) → EachHas v cs
     → (p : CommandRow → Bool) (off : Bool) (files : List Text)
@@ -114,7 +142,7 @@ values_have v off plain job is = by (all_hold v) refl plain is
     by false e ps is = cc
     by true e [] is = cc
     by true e (word ∷ files) is =
-        find_has v commands (commands_have v (options_hold v e).0) (λ c. bytes_eq c.word word) off files job is
+        find_has v commands (commands_have v (options_hold v e)) (λ c. bytes_eq c.word word) off files job is
 
 -- the job of the words is so
 pub job_has : (words : List Text) (job : Job) → job_of words ≡ Some job → IsRunnable job
@@ -137,3 +165,7 @@ read_has words (Err e) is = tt
 pub read_looks : (words : List Text) (r : Result Job WordFault) → IsReadAs (job_of words) r → IfOk r HasLook
 read_looks words (Ok job) is = (job_has words job is).1
 read_looks words (Err e) is = tt
+
+pub read_version : (words : List Text) (r : Result Job WordFault) → IsReadAs (job_of words) r → IfOk r HasVersion
+read_version words (Ok job) is = (job_has words job is).2
+read_version words (Err e) is = tt

@@ -1,9 +1,9 @@
 -- Worked rows, computed: lists of words with the job that they ask for, or none.
-use Rattle.std.proofs.Common.{◌≡◌, ℕ, true, [], ◌∷◌, Option, Some, None, codes, refl}
+use Rattle.std.proofs.Common.{◌≡◌, ℕ, true, false, [], ◌∷◌, Option, Some, None, codes, refl}
 use Rattle.dp_base.specs.DecimalShape.{is_index}
 use Rattle.dp_words.specs.declared.job.Job.{Job}
-use Rattle.dp_words.specs.declared.job.Job.TheVariants.{Plan, Value}
-use Rattle.dp_words.specs.declared.job.OrderWord.TheVariants.{First}
+use Rattle.dp_words.specs.declared.job.Job.TheVariants.{Plan, Show, Sim, Value}
+use Rattle.dp_words.specs.declared.job.OrderWord.TheVariants.{First, Heavy}
 use Rattle.dp_words.specs.Line.{Text}
 use Rattle.dp_words.specs.Words.{job_of}
 
@@ -35,6 +35,35 @@ joined = refl
 joined_twice : job_of (codes "plan" ∷ codes "--horizon==7" ∷ codes "m" ∷ []) ≡ None
 unfolding is_index
 joined_twice = refl
+
+-- ---- the options of a plan
+
+every_option : job_of (codes "plan" ∷ codes "m" ∷ codes "--horizon=2" ∷ codes "--nodes" ∷ codes "0" ∷ codes
+    "--look=16"
+    ∷ codes "--no-merge" ∷ codes "--order" ∷ codes "heavy" ∷ codes "--cert=2" ∷ [])
+    ≡ Some (Plan (record {
+      model = codes "m";
+      version = 2;
+      horizon = 2;
+      nodes = 0;
+      look = 16;
+      merge = false;
+      order = Heavy;
+    }))
+unfolding is_index
+every_option = refl
+
+order_of_another_name : job_of (codes "plan" ∷ codes "m" ∷ codes "--horizon=2" ∷ codes "--order=last" ∷ []) ≡ None
+unfolding is_index
+order_of_another_name = refl
+
+look_too_long : job_of (codes "plan" ∷ codes "m" ∷ codes "--horizon=2" ∷ codes "--look=17" ∷ []) ≡ None
+unfolding is_index
+look_too_long = refl
+
+third_version : job_of (codes "plan" ∷ codes "m" ∷ codes "--horizon=2" ∷ codes "--cert=3" ∷ []) ≡ None
+unfolding is_index
+third_version = refl
 
 -- ---- dashes
 
@@ -86,11 +115,13 @@ given_twice : job_of (codes "plan" ∷ codes "m" ∷ codes "--horizon=1" ∷ cod
 unfolding is_index
 given_twice = refl
 
-option_of_no_command : job_of (codes "plan" ∷ codes "m" ∷ codes "--horizon" ∷ codes "1" ∷ codes
-    "--no-merge" ∷ [])
+option_of_no_command : job_of (codes "plan" ∷ codes "m" ∷ codes "--horizon" ∷ codes "1" ∷ codes "--speed" ∷ [])
     ≡ None
 unfolding is_index
 option_of_no_command = refl
+
+option_of_another_command : job_of (codes "value" ∷ codes "m" ∷ codes "p" ∷ codes "--no-merge" ∷ []) ≡ None
+option_of_another_command = refl
 
 no_horizon : job_of (codes "plan" ∷ codes "m" ∷ []) ≡ None
 unfolding is_index
@@ -102,6 +133,46 @@ two_files = refl
 
 no_words : job_of [] ≡ None
 no_words = refl
+
+-- ---- the other files of a certificate
+
+shown : job_of (codes "show" ∷ codes "m" ∷ codes "c" ∷ [])
+    ≡ Some (Show (record { model = codes "m"; cert = codes "c" }))
+shown = refl
+
+shown_with_a_seed : job_of (codes "show" ∷ codes "m" ∷ codes "c" ∷ codes "--seed=1" ∷ []) ≡ None
+unfolding is_index
+shown_with_a_seed = refl
+
+abbrev sim : ℕ → ℕ → Option Job
+sim seed episodes =
+    Some (Sim (record { model = codes "m"; cert = codes "c"; seed = seed; episodes = episodes }))
+
+one_episode : job_of (codes "sim" ∷ codes "m" ∷ codes "c" ∷ codes "--seed" ∷ codes "0" ∷ []) ≡ sim 0 1
+unfolding is_index
+one_episode = refl
+
+many_episodes : job_of (codes "sim" ∷ codes "--episodes=10000" ∷ codes "m" ∷ codes "c"
+    ∷ codes "--seed=18446744073709551615" ∷ []) ≡ sim 18446744073709551615 10000
+unfolding is_index
+many_episodes = refl
+
+no_seed : job_of (codes "sim" ∷ codes "m" ∷ codes "c" ∷ codes "--episodes=1" ∷ []) ≡ None
+unfolding is_index
+no_seed = refl
+
+no_episode : job_of (codes "sim" ∷ codes "m" ∷ codes "c" ∷ codes "--seed=1" ∷ codes "--episodes=0" ∷ []) ≡ None
+unfolding is_index
+no_episode = refl
+
+too_many_episodes : job_of (codes "sim" ∷ codes "m" ∷ codes "c" ∷ codes "--seed=1" ∷ codes "--episodes=10001" ∷ [])
+    ≡ None
+unfolding is_index
+too_many_episodes = refl
+
+seed_past_the_last : job_of (codes "sim" ∷ codes "m" ∷ codes "c" ∷ codes "--seed=18446744073709551616" ∷ []) ≡ None
+unfolding is_index
+seed_past_the_last = refl
 
 -- ---- numbers
 

@@ -1,7 +1,7 @@
 -- What the words of the command line ask for: the tables of options and commands, and the job.
-use Rattle.std.specs.Prelude.{◌≡◌, ℕ, ◌≤◌, ◌-◌, ◌^◌, Bool, true, ◌&&◌, ◌||◌, ◌==◌, not, nat_eq, nat_le, List, [], ◌∷◌,
-    map, length, find, Option, Some, None, Result, Ok, Err, is_some, option_and_then, unwrap_or, slice_get, codes,
-    if◌then◌else◌}
+use Rattle.std.specs.Prelude.{◌≡◌, ◌⊎◌, ℕ, ◌≤◌, ◌-◌, ◌^◌, Bool, true, ◌&&◌, ◌||◌, ◌==◌, not, nat_eq, nat_le, List, []}
+use Rattle.std.specs.Prelude.{◌∷◌, ◌++◌, map, length, find, Option, Some, None, Result, Ok, Err, is_some}
+use Rattle.std.specs.Prelude.{option_and_then, unwrap_or, slice_get, codes, if◌then◌else◌}
 use Rattle.std.specs.Option.{option_map_or}
 use Rattle.std.specs.Str.{bytes_eq}
 use Rattle.std.specs.Str.Parse.{digits_value}
@@ -9,8 +9,9 @@ use Rattle.std.specs.List.{starts_with, list_all, list_any}
 use Rattle.dp_base.specs.DecimalShape.{is_index}
 use Rattle.dp_words.specs.Line.{Given, Text, is_given, is_well_given, may_be_value, options_of, plain_of, value_in}
 use Rattle.dp_words.specs.declared.job.Job.{Job}
-use Rattle.dp_words.specs.declared.job.Job.TheVariants.{Check, Plan, Value}
-use Rattle.dp_words.specs.declared.job.OrderWord.TheVariants.{First}
+use Rattle.dp_words.specs.declared.job.Job.TheVariants.{Check, Plan, Show, Sim, Value}
+use Rattle.dp_words.specs.declared.job.OrderWord.{OrderWord}
+use Rattle.dp_words.specs.declared.job.OrderWord.TheVariants.{First, Heavy, Spread}
 use Rattle.dp_words.specs.declared.job.WordFault.{WordFault}
 use Rattle.dp_words.specs.declared.job.WordFault.TheVariants as faults
 
@@ -25,6 +26,15 @@ abbrev pub number_of : ℕ → ℕ → Text → Option ℕ
 number_of least most word =
     let number = digits_value 10 word in
     if is_number word && nat_le least number && nat_le number most then Some number else None
+
+-- ---- orders
+
+-- the order that a word names, where it names one
+abbrev pub order_of : Text → Option OrderWord
+order_of word =
+    if bytes_eq word (codes "first") then Some First else
+    if bytes_eq word (codes "heavy") then Some Heavy else
+    if bytes_eq word (codes "spread") then Some Spread else None
 
 -- ---- the options
 
@@ -42,6 +52,25 @@ setting name least most default = record { name = name; least = least; most = mo
 abbrev pub horizon : Setting
 horizon = setting (codes "horizon") 1 (2 ^ 32 - 1) None
 
+abbrev pub nodes : Setting
+nodes = setting (codes "nodes") 0 (2 ^ 32 - 1) (Some 100000)
+
+abbrev pub look : Setting
+look = setting (codes "look") 1 16 (Some 1)
+
+abbrev pub cert : Setting
+cert = setting (codes "cert") 1 2 (Some 1)
+
+abbrev pub seed : Setting
+seed = setting (codes "seed") 0 (2 ^ 64 - 1) None
+
+abbrev pub episodes : Setting
+episodes = setting (codes "episodes") 1 10000 (Some 1)
+
+-- the options whose values are numbers
+abbrev pub settings : List Setting
+settings = horizon ∷ nodes ∷ look ∷ cert ∷ seed ∷ episodes ∷ []
+
 -- a row of the table of options: the name of an option that takes a value, and which texts may be it
 pub record OptionRow : Type 0 where
   pub name : Text
@@ -50,9 +79,13 @@ pub record OptionRow : Type 0 where
 abbrev pub number_option : Setting → OptionRow
 number_option s = record { name = s.name; allows = λ text. is_some (number_of s.least s.most text) }
 
+-- the option whose value is an order, `first` where it is not given
+abbrev pub order_option : OptionRow
+order_option = record { name = codes "order"; allows = λ text. is_some (order_of text) }
+
 -- the table of options that take a value
 abbrev pub options : List OptionRow
-options = number_option horizon ∷ []
+options = map number_option settings ++ order_option ∷ []
 
 abbrev pub value_names : List Text
 value_names = map (λ o. o.name) options
@@ -77,11 +110,13 @@ all_hold value = list_all (holds value) options
 -- the options of a line, read
 pub record Read : Type 0 where
   pub number : Setting → ℕ
+  pub order : OrderWord
   pub merge : Bool
 
 abbrev pub read : Values → Bool → Read
 read value no_merging = record {
   number = λ s. option_map_or (digits_value 10) (value s.name) (unwrap_or s.default 0);
+  order = unwrap_or (option_and_then order_of (value order_option.name)) First;
   merge = not no_merging;
 }
 
@@ -98,17 +133,20 @@ abbrev pub command_row : Text → ℕ → List Text → List Text → (Read → 
 command_row word files options required job =
     record { word = word; files = files; options = options; required = required; job = job }
 
--- `plan MODEL`: what no word sets has its default
+abbrev pub plan_options : List Text
+plan_options = codes "horizon" ∷ codes "nodes" ∷ codes "look" ∷ codes "cert" ∷ codes "order" ∷ no_merge ∷ []
+
+-- `plan MODEL`
 abbrev pub plan_row : CommandRow
-plan_row = command_row (codes "plan") 1 (codes "horizon" ∷ []) (codes "horizon" ∷ [])
+plan_row = command_row (codes "plan") 1 plan_options (codes "horizon" ∷ [])
     (λ read file. Plan (record {
       model = file 0;
-      version = 1;
+      version = read.number cert;
       horizon = read.number horizon;
-      nodes = 100000;
-      look = 1;
+      nodes = read.number nodes;
+      look = read.number look;
       merge = read.merge;
-      order = First;
+      order = read.order;
     }))
 
 -- `value MODEL POLICY`
@@ -120,9 +158,23 @@ value_row = command_row (codes "value") 2 [] [] (λ read file. Value
 abbrev pub check_row : CommandRow
 check_row = command_row (codes "check") 2 [] [] (λ read file. Check (record { model = file 0; cert = file 1 }))
 
+-- `show MODEL CERT`
+abbrev pub show_row : CommandRow
+show_row = command_row (codes "show") 2 [] [] (λ read file. Show (record { model = file 0; cert = file 1 }))
+
+-- `sim MODEL CERT`
+abbrev pub sim_row : CommandRow
+sim_row = command_row (codes "sim") 2 (codes "seed" ∷ codes "episodes" ∷ []) (codes "seed" ∷ [])
+    (λ read file. Sim (record {
+      model = file 0;
+      cert = file 1;
+      seed = read.number seed;
+      episodes = read.number episodes;
+    }))
+
 -- the table of commands
 abbrev pub commands : List CommandRow
-commands = plan_row ∷ value_row ∷ check_row ∷ []
+commands = plan_row ∷ value_row ∷ check_row ∷ show_row ∷ sim_row ∷ []
 
 -- ---- the job
 
@@ -178,9 +230,21 @@ abbrev pub HasSomeStep : Job → Type 0
 HasSomeStep (Plan job) = 1 ≤ job.horizon
 HasSomeStep (Value job) = Unit {0}
 HasSomeStep (Check job) = Unit {0}
+HasSomeStep (Show job) = Unit {0}
+HasSomeStep (Sim job) = Unit {0}
 
 -- the look of a plan is from 1 to 16
 abbrev pub HasLook : Job → Type 0
 HasLook (Plan job) = (1 ≤ job.look) × (job.look ≤ 16)
 HasLook (Value job) = Unit {0}
 HasLook (Check job) = Unit {0}
+HasLook (Show job) = Unit {0}
+HasLook (Sim job) = Unit {0}
+
+-- the certificate of a plan is of version 1 or 2
+abbrev pub HasVersion : Job → Type 0
+HasVersion (Plan job) = (job.version ≡ 1) ⊎ (job.version ≡ 2)
+HasVersion (Value job) = Unit {0}
+HasVersion (Check job) = Unit {0}
+HasVersion (Show job) = Unit {0}
+HasVersion (Sim job) = Unit {0}

@@ -1,12 +1,13 @@
 // The options of a line, tested and read.
-ghost use Rattle.std.specs.Prelude.{◌≡◌, ◌≤◌, IfSome, is_some, map, true, unwrap_or};
+ghost use Rattle.std.specs.Prelude.{◌≡◌, ◌≤◌, IfSome, is_some, map, option_and_then, true, unwrap_or};
 ghost use Rattle.std.specs.List.{list_all, list_any};
 ghost use Rattle.std.specs.Option.{option_map_or};
 ghost use Rattle.std.specs.Str.{bytes_eq};
 ghost use Rattle.std.specs.Str.Parse.{digits_value};
-ghost use Rattle.dp_words.specs.Words.{fits, holds, is_allowed, number_option};
+ghost use Rattle.dp_words.specs.Words.{fits, holds, is_allowed, number_option, order_of, order_option};
 ghost use Rattle.dp_words.specs.Command.{merging_off, setting_of, values_of};
 
+use crate::job::OrderWord;
 use crate::number::number;
 use crate::parse::OPTIONS;
 use clap::ArgMatches;
@@ -115,5 +116,37 @@ pub fn value_of(given: &ArgMatches<'_>, setting: Setting) -> u64
     match given.get_str(setting.name) {
         Some(text) => number(text, setting.least, setting.most).unwrap_or(0),
         None => setting.default.unwrap_or(0),
+    }
+}
+
+// The order that a word names.
+fn order_named(word: &str) -> Option<OrderWord>
+    ensures { result ≡ order_of word.now }
+{
+    match word {
+        "first" => Some(OrderWord::First),
+        "heavy" => Some(OrderWord::Heavy),
+        "spread" => Some(OrderWord::Spread),
+        _ => None,
+    }
+}
+
+// Whether the order is one, where it is given.
+pub fn order_holds(given: &ArgMatches<'_>) -> bool
+    ensures { result ≡ holds (values_of given.now) order_option }
+{
+    match given.get_str("order") {
+        Some(text) => order_named(text).is_some(),
+        None => true,
+    }
+}
+
+// The order, the first place where none is given.
+pub fn order(given: &ArgMatches<'_>) -> OrderWord
+    ensures { result ≡ unwrap_or (option_and_then order_of (values_of given.now order_option.name)) OrderWord.First }
+{
+    match given.get_str("order") {
+        Some(text) => order_named(text).unwrap_or(OrderWord::First),
+        None => OrderWord::First,
     }
 }

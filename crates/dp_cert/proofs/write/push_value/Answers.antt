@@ -5,8 +5,8 @@ use Rattle.dp_cert.specs.CertificateBytes.{signed_bytes}
 use Rattle.dp_cert.proofs.WrittenTrees.{on_ok}
 use Rattle.dp_cert.proofs.write.push_value.Goals as goal
 
-pub returns : goal.returns
-returns c =
+pub returns-clause-bytes : goal.returns-clause-bytes
+returns-clause-bytes c =
     on_ok c.push_signed.result
     (λ e. e ∙ ap (λ z. c.args.text.now.items ++ signed_bytes c.args.word.now z)
     (to_z-of_z w128 c.args.number.now (search rules)))

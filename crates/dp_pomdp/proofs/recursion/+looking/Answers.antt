@@ -1,28 +1,5 @@
-use Rattle.std.proofs.Common.{
-  ◌≡◌,
-  ℕ,
-  suc,
-  ◌+◌,
-  ◌-◌,
-  length,
-  ◌<◌,
-  ◌≤◌,
-  ◌^◌,
-  ◌∙◌,
-  ◌≤ℤ◌,
-  to_z,
-  [],
-  ◌∷◌,
-  ℤ,
-  false,
-  unsigned_abs,
-  sym,
-  ap,
-  subst,
-  refl,
-  arith,
-  rules,
-}
+use Rattle.std.proofs.Common.{◌≡◌, ℕ, suc, ◌+◌, ◌-◌, length, ◌<◌, ◌≤◌, ◌^◌, ◌∙◌, ◌≤ℤ◌, to_z, [], ◌∷◌, ℤ, false}
+use Rattle.std.proofs.Common.{unsigned_abs, sym, ap, subst, refl, arith, rules}
 use Rattle.std.specs.Int.{int_min, w128}
 use Rattle.std.proofs.lemmas.Int.{ints, to_z-of_z}
 use mir.Val.{SFits}
@@ -33,21 +10,11 @@ use Rattle.dp_pomdp.specs.Memos.{look_of}
 use Rattle.dp_mdp.proofs.RunningSums.{next_greatest}
 use Rattle.dp_pomdp.proofs.Cuts.{greatest_or_cap, no_step, reached_cap}
 use Rattle.dp_pomdp.proofs.Scaled.{looking_times, next_look_fits, numbers_of, product_is}
-use Rattle.dp_pomdp.proofs.Steps.{
-  looking_next,
-  looks_are_action,
-  offset_fits,
-  offset_next,
-  looks_part_fits,
-  deeper_room,
-  table_before,
-  zero_look,
-}
+use Rattle.dp_pomdp.proofs.Steps.{looking_next, looks_are_action, offset_fits, offset_next, looks_part_fits}
+use Rattle.dp_pomdp.proofs.Steps.{deeper_room, table_before, zero_look}
 use Rattle.dp_pomdp.proofs.recursion.+looking.Goals as goal
-use Rattle.dp_pomdp.proofs.recursion.+looking.Goals.{
-  look_ahead-then-rest-eq0-via-then-rest-eq0,
-  look_ahead-then-rest-eq0-via-else-rest-eq0+then-all_zero,
-}
+use Rattle.dp_pomdp.proofs.recursion.+looking.Goals.{look_ahead-then-rest-eq0-via-then-rest-eq0}
+use Rattle.dp_pomdp.proofs.recursion.+looking.Goals.{look_ahead-then-rest-eq0-via-else-rest-eq0+then-all_zero}
 
 -- ---- look_ahead
 

@@ -1,22 +1,5 @@
-use Rattle.std.proofs.Common.{
-  ◌≡◌,
-  ℕ,
-  zero,
-  suc,
-  ◌<◌,
-  List,
-  [],
-  ◌∷◌,
-  length,
-  get_or,
-  Option,
-  None,
-  Some,
-  sym,
-  ap,
-  ◌∙◌,
-  arith,
-}
+use Rattle.std.proofs.Common.{◌≡◌, ℕ, zero, suc, ◌<◌, List, [], ◌∷◌, length, get_or, Option, None, Some, sym, ap, ◌∙◌}
+use Rattle.std.proofs.Common.{arith}
 use Rattle.dp_game.specs.Games.{KeptGame}
 use Rattle.dp_game.proofs.Callers.{choice_below}
 use Rattle.dp_game.proofs.game.Game.choice.Goals as goal

@@ -1,0 +1,6 @@
+use Rattle.dp_cli.proofs.FirstGreatest.{IsFirstOf}
+use Rattle.dp_cli.proofs.NoPlaces.{no_place}
+use Rattle.dp_cli.proofs.orders.heaviest.Given as goal
+
+abbrev pub invariant-loop-number : goal.invariant-loop-number
+invariant-loop-number l = IsFirstOf (λ p. p.weight) no_place l.places l.number l.best
