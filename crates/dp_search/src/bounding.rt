@@ -4,6 +4,7 @@ ghost use Rattle.dp_spec.specs.Arithmetic.{arithmetic};
 ghost use Rattle.dp_spec.specs.Fitting.{front_bound};
 ghost use Rattle.dp_spec.specs.Steps.{IsUnassigned, front_after_choice};
 ghost use Rattle.dp_spec.specs.Wide.{is_wide};
+ghost use Rattle.dp_pomdp.specs.Rooms.{IsRoomFor};
 ghost use Rattle.dp_game.specs.Bounders.{IsBounderOf};
 ghost use Rattle.dp_search.specs.FrontPlanners.{IsPlannerFront};
 
@@ -12,6 +13,7 @@ use dp_base::Memory;
 use dp_cluster::Front;
 use dp_game::{Bounder, Game};
 use dp_model::Model;
+use dp_pomdp::LookRoom;
 use std::alloc::Global;
 
 // The bound of a front: what it has earned at the horizon, and before it the bound of its game.
@@ -20,16 +22,19 @@ pub(crate) fn own_bound(
     model: &Model,
     bounder: &Bounder,
     front: &Front,
+    room: &mut LookRoom,
 ) -> Result<i128, Memory>
     requires bounder { IsBounderOf model.now.model bounder.now }
     requires front { IsPlannerFront model.now.model bounder.now.horizon front.now }
-    ensures { IfOk result (λ x. x ≡ front_bound (arithmetic front.now.is_exact model.now.model.scales)
+    requires look_room { IsRoomFor bounder.now.is_exact model.now.model bounder.now.look room.old }
+    ensures is { IfOk result (λ x. x ≡ front_bound (arithmetic front.now.is_exact model.now.model.scales)
         model.now.model front.now.horizon bounder.now.look front.now.front) }
+    ensures look_room { IsRoomFor bounder.now.is_exact model.now.model bounder.now.look room.new }
 {
     if front.stage() == front.horizon() {
         return Ok(copied(&front.earned().high));
     }
-    let game = Game::of(alloc, model, front, bounder)?;
+    let game = Game::with_room(alloc, model, front, bounder, room)?;
     let bound = game.bound();
     Ok(bound)
 }

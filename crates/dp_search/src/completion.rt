@@ -4,6 +4,7 @@ ghost use Rattle.std.specs.Prelude.{◌≡◌, ◌<◌, ℕ, suc, length, get_or
 ghost use Rattle.dp_spec.specs.Model.{Model as PlainModel};
 ghost use Rattle.dp_spec.specs.Steps.{IsUnassigned};
 ghost use Rattle.dp_cluster.specs.KeptFronts.{IsFrontOf};
+ghost use Rattle.dp_pomdp.specs.Rooms.{IsRoomFor};
 ghost use Rattle.dp_game.specs.Bounders.{IsBounderOf};
 ghost use Rattle.dp_game.specs.Games.{own_choice, own_counts};
 ghost use Rattle.dp_search.specs.Completions.{HasClassesOf, HasFewerLeft, IsUnderway, bound_after};
@@ -18,6 +19,7 @@ use dp_base::Memory;
 use dp_cluster::Front;
 use dp_game::{Bounder, Game};
 use dp_model::Model;
+use dp_pomdp::LookRoom;
 use std::alloc::Global;
 
 // A stage of more joint classes is not worth the time.
@@ -36,19 +38,22 @@ pub(crate) fn completed(
     bounder: &Bounder,
     merging: bool,
     front: &Front,
+    room: &mut LookRoom,
 ) -> Result<Option<Front>, Memory>
     requires bounder { IsBounderOf model.now.model bounder.now }
     requires front { IsSearchFront model.now.model bounder.now.horizon front.now }
     requires stage { front.now.front.stage < bounder.now.horizon }
+    requires look_room { IsRoomFor bounder.now.is_exact model.now.model bounder.now.look room.old }
     ensures of_planner { IfOk result (λ o. IfSome o (IsPlannerFront model.now.model bounder.now.horizon)) }
     ensures full { IfOk result (λ o. IfSome o (λ f. f.front.stage ≡ bounder.now.horizon)) }
+    ensures look_room { IsRoomFor bounder.now.is_exact model.now.model bounder.now.look room.new }
 {
-    let mut reached = match next_stage(alloc, model, bounder, merging, front)? {
+    let mut reached = match next_stage(alloc, model, bounder, merging, front, room)? {
         Some(next) => next,
         None => return Ok(None),
     };
     while reached.stage() < front.horizon() {
-        reached = match next_stage(alloc, model, bounder, merging, &reached)? {
+        reached = match next_stage(alloc, model, bounder, merging, &reached, room)? {
             Some(next) => next,
             None => return Ok(None),
         };
@@ -63,16 +68,19 @@ fn next_stage(
     bounder: &Bounder,
     merging: bool,
     front: &Front,
+    room: &mut LookRoom,
 ) -> Result<Option<Front>, Memory>
     requires bounder { IsBounderOf model.now.model bounder.now }
     requires front { IsSearchFront model.now.model bounder.now.horizon front.now }
     requires stage { front.now.front.stage < bounder.now.horizon }
+    requires look_room { IsRoomFor bounder.now.is_exact model.now.model bounder.now.look room.old }
     ensures of_search { IfOk result (λ o. IfSome o (IsSearchFront model.now.model bounder.now.horizon)) }
     ensures stage { IfOk result (λ o. IfSome o (λ f. f.front.stage ≡ suc front.now.front.stage)) }
+    ensures look_room { IsRoomFor bounder.now.is_exact model.now.model bounder.now.look room.new }
 {
     match all_merged(alloc, front, merging)? {
-        None => all_chosen(alloc, model, bounder, front),
-        Some(merged) => all_chosen(alloc, model, bounder, &merged),
+        None => all_chosen(alloc, model, bounder, front, room),
+        Some(merged) => all_chosen(alloc, model, bounder, &merged, room),
     }
 }
 
@@ -100,17 +108,20 @@ fn all_chosen(
     model: &Model,
     bounder: &Bounder,
     front: &Front,
+    room: &mut LookRoom,
 ) -> Result<Option<Front>, Memory>
     requires bounder { IsBounderOf model.now.model bounder.now }
     requires front { IsSearchFront model.now.model bounder.now.horizon front.now }
     requires stage { front.now.front.stage < bounder.now.horizon }
+    requires look_room { IsRoomFor bounder.now.is_exact model.now.model bounder.now.look room.old }
     ensures of_search { IfOk result (λ o. IfSome o (IsSearchFront model.now.model bounder.now.horizon)) }
     ensures stage { IfOk result (λ o. IfSome o (λ f. f.front.stage ≡ suc front.now.front.stage)) }
+    ensures look_room { IsRoomFor bounder.now.is_exact model.now.model bounder.now.look room.new }
 {
     if front.joint_classes() > MOST_CLASSES || front.widens(model) {
         return Ok(None);
     }
-    let mut game = Game::of(alloc, model, front, bounder)?;
+    let mut game = Game::with_room(alloc, model, front, bounder, room)?;
     choose_well(model, front, &mut game);
     after_choices(alloc, model, front, &game)
 }

@@ -12,6 +12,7 @@ ghost use Rattle.dp_spec.specs.Wide.{is_wide};
 ghost use Rattle.dp_spec.specs.declared.step.Step.TheVariants.{Merge};
 ghost use Rattle.dp_model.specs.Horizons.{fit_of};
 ghost use Rattle.dp_cluster.specs.KeptFronts.{IsFrontOf, KeptFront};
+ghost use Rattle.dp_pomdp.specs.Rooms.{IsRoomFor};
 ghost use Rattle.dp_game.specs.Bounders.{IsBounderOf};
 ghost use Rattle.dp_game.specs.Games.{IsGameOf, own_choice};
 ghost use Rattle.dp_search.specs.declared.planner.Child.{Child as SpecChild};
@@ -30,6 +31,7 @@ use dp_base::Memory;
 use dp_cluster::{Front, MergeFault};
 use dp_game::{Bounder, Game};
 use dp_model::Model;
+use dp_pomdp::LookRoom;
 use dp_spec::Step;
 use std::alloc::Global;
 
@@ -52,6 +54,7 @@ pub(crate) fn expanded<F: Fn(&[Place]) -> usize>(
     options: PlanOpts,
     rule: &Chooser<F>,
     front: &Front,
+    room: &mut LookRoom,
 ) -> Result<Expanded<Front>, Memory>
     requires bounder { IsBounderOf model.now.model bounder.now }
     requires look { bounder.now.look ≡ options.look }
@@ -61,14 +64,16 @@ pub(crate) fn expanded<F: Fn(&[Place]) -> usize>(
     requires narrow { (above : ℕ) ×
         (is_wide model.now.model bounder.now.horizon above front.now.front ≡ false) }
     requires rule { IsBranchingRule F.Fn rule.now }
-    ensures { IfOk result (IsExpansion
+    requires look_room { IsRoomFor bounder.now.is_exact model.now.model bounder.now.look room.old }
+    ensures is { IfOk result (IsExpansion
         (planner_space model.now.model (fit_of model.now.model bounder.now.horizon) options
         (MayAnswer F.Fn rule.now))
         model.now.model bounder.now.horizon (widest model.now.model.actions) front.now.front) }
+    ensures look_room { IsRoomFor bounder.now.is_exact model.now.model bounder.now.look room.new }
 {
     match pair_to_merge(alloc, front, options.merge)? {
-        Some(pair) => merged(alloc, model, bounder, front, pair),
-        None => branched(alloc, model, bounder, options, rule, front),
+        Some(pair) => merged(alloc, model, bounder, front, pair, room),
+        None => branched(alloc, model, bounder, options, rule, front, room),
     }
 }
 
@@ -143,20 +148,23 @@ fn merged(
     bounder: &Bounder,
     front: &Front,
     pair: Pair,
+    room: &mut LookRoom,
 ) -> Result<Expanded<Front>, Memory>
     requires bounder { IsBounderOf model.now.model bounder.now }
     requires front { IsPlannerFront model.now.model bounder.now.horizon front.now }
     requires stage { front.now.front.stage < bounder.now.horizon }
     requires pair { IsPair model.now.model front.now.front pair.agent pair.first pair.second }
     requires exact { front.now.is_exact ≡ true }
+    requires look_room { IsRoomFor bounder.now.is_exact model.now.model bounder.now.look room.old }
     ensures step { IfOk result (λ x. x.step ≡ Merge pair.agent pair.first pair.second) }
     ensures fronts { IfOk result (λ x. map (λ (c : SpecChild KeptFront). c.front.front) x.children.items
         ≡ merged_front front.now.front pair.agent pair.first pair.second ∷ []) }
     ensures children { IfOk result (λ x. All (IsChild model.now.model bounder.now.horizon bounder.now.look)
         x.children.items) }
+    ensures look_room { IsRoomFor bounder.now.is_exact model.now.model bounder.now.look room.new }
 {
     let next = joined(alloc, front, pair)?;
-    let bound = own_bound(alloc, model, bounder, &next)?;
+    let bound = own_bound(alloc, model, bounder, &next, room)?;
     let mut children = Vec::new(alloc);
     children.push(Child { front: next, bound })?;
     Ok(Expanded {
@@ -177,6 +185,7 @@ fn branched<F: Fn(&[Place]) -> usize>(
     options: PlanOpts,
     rule: &Chooser<F>,
     front: &Front,
+    room: &mut LookRoom,
 ) -> Result<Expanded<Front>, Memory>
     requires bounder { IsBounderOf model.now.model bounder.now }
     requires look { bounder.now.look ≡ options.look }
@@ -188,12 +197,14 @@ fn branched<F: Fn(&[Place]) -> usize>(
     requires rule { IsBranchingRule F.Fn rule.now }
     requires no_pair { options.merge ≡ true → front.now.is_exact ≡ true →
         HasNoEquivalent model.now.model front.now.front }
-    ensures { IfOk result (IsExpansion
+    requires look_room { IsRoomFor bounder.now.is_exact model.now.model bounder.now.look room.old }
+    ensures is { IfOk result (IsExpansion
         (planner_space model.now.model (fit_of model.now.model bounder.now.horizon) options
         (MayAnswer F.Fn rule.now))
         model.now.model bounder.now.horizon (widest model.now.model.actions) front.now.front) }
+    ensures look_room { IsRoomFor bounder.now.is_exact model.now.model bounder.now.look room.new }
 {
-    let mut game = Game::of(alloc, model, front, bounder)?;
+    let mut game = Game::with_room(alloc, model, front, bounder, room)?;
     let all = places(alloc, model, front, &mut game, options.look)?;
     let place = all[rule.pick(&all)];
     let children = children_of(
@@ -204,6 +215,7 @@ fn branched<F: Fn(&[Place]) -> usize>(
         &mut game,
         place.agent,
         place.class,
+        room,
     )?;
     Ok(Expanded {
         step: Step::Branch {
@@ -224,6 +236,7 @@ fn children_of(
     game: &mut Game,
     agent: u32,
     class: u32,
+    room: &mut LookRoom,
 ) -> Result<Vec<Child<Front>>, Memory>
     requires bounder { IsBounderOf model.now.model bounder.now }
     requires front { IsPlannerFront model.now.model bounder.now.horizon front.now }
@@ -232,15 +245,19 @@ fn children_of(
         (is_wide model.now.model bounder.now.horizon above front.now.front ≡ false) }
     requires game { IsGameOf model.now.model bounder.now.horizon bounder.now.look front.now.front game.old }
     requires unassigned { IsUnassigned agent class front.now.front.agents }
+    requires look_room { IsRoomFor bounder.now.is_exact model.now.model bounder.now.look room.old }
     ensures fronts { IfOk result (λ v. map (λ (c : SpecChild KeptFront). c.front.front) v.items
         ≡ map (front_after_choice model.now.model front.now.front agent class)
         (range_with_len 0 (get_or model.now.model.actions agent 0))) }
     ensures children { IfOk result (λ v. All (IsChild model.now.model bounder.now.horizon bounder.now.look)
         v.items) }
+    ensures look_room { IsRoomFor bounder.now.is_exact model.now.model bounder.now.look room.new }
 {
     let mut children = Vec::new(alloc);
     for action in 0..model.actions(agent) {
-        let child = child_of(alloc, model, bounder, front, game, agent, class, action)?;
+        let child = child_of(
+            alloc, model, bounder, front, game, agent, class, action, room,
+        )?;
         children.push(child)?;
     }
     Ok(children)
@@ -257,6 +274,7 @@ fn child_of(
     agent: u32,
     class: u32,
     action: u32,
+    room: &mut LookRoom,
 ) -> Result<Child<Front>, Memory>
     requires bounder { IsBounderOf model.now.model bounder.now }
     requires front { IsPlannerFront model.now.model bounder.now.horizon front.now }
@@ -266,17 +284,19 @@ fn child_of(
     requires game { IsGameOf model.now.model bounder.now.horizon bounder.now.look front.now.front game.old }
     requires unassigned { IsUnassigned agent class front.now.front.agents }
     requires action { action < get_or model.now.model.actions agent 0 }
+    requires look_room { IsRoomFor bounder.now.is_exact model.now.model bounder.now.look room.old }
     ensures front { IfOk result (λ c.
         c.front.front ≡ front_after_choice model.now.model front.now.front agent class action) }
     ensures child { IfOk result (IsChild model.now.model bounder.now.horizon bounder.now.look) }
     ensures game { OnOk result (game.new ≡ game.old) }
+    ensures look_room { IsRoomFor bounder.now.is_exact model.now.model bounder.now.look room.new }
 {
     let next = after_choice(alloc, model, front, agent, class, action)?;
     if next.stage() == front.stage() {
         let bound = chosen_bound(game, agent, class, action);
         Ok(Child { front: next, bound })
     } else {
-        let bound = own_bound(alloc, model, bounder, &next)?;
+        let bound = own_bound(alloc, model, bounder, &next, room)?;
         Ok(Child { front: next, bound })
     }
 }

@@ -16,6 +16,7 @@ use dp_cluster::Front;
 use dp_game::Bounder;
 use dp_model::{Fit, Model};
 use dp_policy::Shared;
+use dp_pomdp::LookRoom;
 use std::alloc::Global;
 
 /// What a planner is made of: a model, a horizon that fits it, what is asked for, the bounds, the best
@@ -47,10 +48,11 @@ impl<'a, F: Fn(&[Place]) -> usize> Planner for FrontPlanner<'a, F> {
 
     type Policy = Shared;
 
-    type Room = ();
+    type Room = LookRoom;
 
     ghost use Rattle.dp_spec.specs.ConstantPolicy.{constant_policy};
     ghost use Rattle.dp_spec.specs.SharedPolicy.{unfolded};
+    ghost use Rattle.dp_pomdp.specs.Rooms.{IsRoomFor};
     ghost use Rattle.dp_search.specs.Constants.{constant_low_worth};
     ghost use Rattle.dp_search.specs.FrontPlanners.{IsPlannerPolicy, planner_space, planner_worth, widest};
     ghost use Rattle.dp_search.specs.FrontPlanning.{IsReadyPlanner, IsSearchFront, planner_deep};
@@ -66,7 +68,7 @@ impl<'a, F: Fn(&[Place]) -> usize> Planner for FrontPlanner<'a, F> {
 
     ghost IsPolicy = { λ p q. IsPlannerPolicy p.model.now.model p.fit.horizon p.options.version q };
 
-    ghost IsRoom = { λ _ _. Unit {0} };
+    ghost IsRoom = { λ p r. IsRoomFor p.bounder.now.is_exact p.model.now.model p.bounder.now.look r };
 
     ghost worth = { λ p q. planner_worth p.model.now.model p.fit q };
 
@@ -82,8 +84,9 @@ impl<'a, F: Fn(&[Place]) -> usize> Planner for FrontPlanner<'a, F> {
         widest(self.model)
     }
 
-    fn room(&self, _alloc: Global) -> Result<(), Memory> {
-        Ok(())
+    fn room(&self, alloc: Global) -> Result<LookRoom, Memory> {
+        let room = self.bounder.room(alloc, self.model)?;
+        Ok(room)
     }
 
     fn best_constant(&self, alloc: Global) -> Result<Shared, Memory> {
@@ -97,10 +100,10 @@ impl<'a, F: Fn(&[Place]) -> usize> Planner for FrontPlanner<'a, F> {
         Ok(worth)
     }
 
-    fn root(&self, alloc: Global, _room: &mut ()) -> Result<Child<Front>, Memory> {
+    fn root(&self, alloc: Global, room: &mut LookRoom) -> Result<Child<Front>, Memory> {
         self.model.invariant();
         let front = Front::root(alloc, self.model, self.fit)?;
-        let bound = own_bound(alloc, self.model, self.bounder, &front)?;
+        let bound = own_bound(alloc, self.model, self.bounder, &front, room)?;
         Ok(Child { front, bound })
     }
 
@@ -121,10 +124,17 @@ impl<'a, F: Fn(&[Place]) -> usize> Planner for FrontPlanner<'a, F> {
     fn completion(
         &self,
         alloc: Global,
-        _room: &mut (),
+        room: &mut LookRoom,
         front: &Front,
     ) -> Result<Option<Shared>, Memory> {
-        let found = completed(alloc, self.model, self.bounder, self.options.merge, front)?;
+        let found = completed(
+            alloc,
+            self.model,
+            self.bounder,
+            self.options.merge,
+            front,
+            room,
+        )?;
         match found {
             None => Ok(None),
             Some(full) => {
@@ -138,7 +148,7 @@ impl<'a, F: Fn(&[Place]) -> usize> Planner for FrontPlanner<'a, F> {
     fn expand(
         &self,
         alloc: Global,
-        _room: &mut (),
+        room: &mut LookRoom,
         front: &Front,
     ) -> Result<Expanded<Front>, Memory> {
         let made = expanded(
@@ -148,6 +158,7 @@ impl<'a, F: Fn(&[Place]) -> usize> Planner for FrontPlanner<'a, F> {
             self.options,
             self.rule,
             front,
+            room,
         )?;
         Ok(made)
     }

@@ -7,8 +7,8 @@ use Rattle.dp_spec.specs.Fitting.{front_bound}
 use Rattle.dp_search.proofs.FrontSteps.{full_bound}
 use Rattle.dp_search.proofs.bounding.own_bound.Goals as goal
 
-pub returns-then-stage-horizon : goal.returns-then-stage-horizon
-returns-then-stage-horizon c =
+pub returns-then-stage-horizon-clause-is : goal.returns-then-stage-horizon-clause-is
+returns-then-stage-horizon-clause-is c =
     let m = c.args.model.now.model in
     let front = c.args.front.now in
     let full = sym c.stage.ensures ∙ c.if-stage-horizon.true ∙ c.horizon.ensures in
@@ -17,8 +17,8 @@ returns-then-stage-horizon c =
     ∙ sym (full_bound (arithmetic front.is_exact m.scales) m front.horizon c.args.bounder.now.look
     front.front full)
 
-pub returns : goal.returns
-returns c =
+pub returns-clause-is : goal.returns-clause-is
+returns-clause-is c =
     let m = c.args.model.now.model in
     let front = c.args.front.now in
     let look = c.args.bounder.now.look in

@@ -25,8 +25,8 @@ children_of-requires-clause-unassigned g c =
     c.in_ok-all.ensures.places c.pick.result _ _
     (subst (λ l. c.pick.result < length l) c.deref.ensures.value c.pick.ensures.below) c.index-place.ensures
 
-pub returns : goal.returns
-returns g c =
+pub returns-clause-is : goal.returns-clause-is
+returns-clause-is g c =
     let m = c.args.model.now.model in
     let h = c.args.bounder.now.horizon in
     let k = c.args.front.now in

@@ -51,4 +51,4 @@ returns-in_ok-bound-clause-child c =
     next_is_child m h look k c.requires.front c.requires.stage c.args.agent c.args.class c.args.action next
     c.in_ok-next.ensures.front c.in_ok-next.ensures.of_planner _
     (to_z-of_z w128 c.in_ok-bound.bound (search (rules, c.own_bound.type_inv))
-    ∙ c.in_ok-bound.ensures ∙ own_mode m h look next is)
+    ∙ c.in_ok-bound.ensures.is ∙ own_mode m h look next is)

@@ -24,4 +24,5 @@ loop-action-preserved c =
       rw c.in_ok-push.ensures.items (all_more (IsChild m c.args.bounder.now.horizon c.args.bounder.now.look)
           kept
           c.in_ok-child.child c.loop-action.invariant.2 c.in_ok-child.ensures.child),
+      c.child_of.ensures.look_room,
     )

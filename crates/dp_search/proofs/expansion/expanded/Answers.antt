@@ -4,8 +4,8 @@ use Rattle.dp_search.specs.Rules.{MayAnswer}
 use Rattle.dp_search.proofs.Expansions.{if_ok_all, merge_expands, of_some}
 use Rattle.dp_search.proofs.expansion.expanded.Goals as goal
 
-pub returns-in-Some : goal.returns-in-Some
-returns-in-Some g c =
+pub returns-in-Some-clause-is : goal.returns-in-Some-clause-is
+returns-in-Some-clause-is g c =
     let m = c.args.model.now.model in
     let h = c.args.bounder.now.horizon in
     let k = c.args.front.now in

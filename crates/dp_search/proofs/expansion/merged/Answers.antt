@@ -29,5 +29,5 @@ returns-clause-children c =
     c.args.pair.first c.args.pair.second c.requires.pair next c.in_ok-next.ensures.front of_model
     c.in_ok-next.ensures.horizon _
     (to_z-of_z w128 c.in_ok-bound.bound (search (rules, c.own_bound.type_inv))
-    ∙ c.in_ok-bound.ensures ∙ own_mode m h look next is) in
+    ∙ c.in_ok-bound.ensures.is ∙ own_mode m h look next is) in
     rw (c.in_ok-push.ensures.items, c.new-children.ensures.items) (single (IsChild m h look) _ child)
