@@ -1,28 +1,6 @@
 -- Certificate texts have one answer.
-use Rattle.std.proofs.Common.{
-  ◌≡◌,
-  ℕ,
-  zero,
-  suc,
-  ◌+◌,
-  ◌^◌,
-  ◌<◌,
-  Bool,
-  true,
-  false,
-  cond,
-  List,
-  [],
-  ◌∷◌,
-  length,
-  map,
-  Result,
-  Ok,
-  Err,
-  refl,
-  subst,
-  arith,
-}
+use Rattle.std.proofs.Common.{◌≡◌, ℕ, zero, suc, ◌+◌, ◌^◌, ◌<◌, Bool, true, false, cond, List, [], ◌∷◌, length, map}
+use Rattle.std.proofs.Common.{Result, Ok, Err, refl, subst, arith}
 use Rattle.std.specs.Prelude.{ℤ, replicate, codes, unsigned_abs, ◌==◌}
 use Rattle.std.specs.Fmt.{decimal}
 use Rattle.std.proofs.lemmas.Fmt.{decimal_digit}
@@ -43,41 +21,14 @@ use Rattle.dp_lines.proofs.ProperTexts.{words_proper, numbers_proper, unless_pro
 use Rattle.dp_lines.proofs.OneAnswer.{IsProper, IsProper-bind, read_answer, one_answer}
 use Rattle.dp_cert.specs.declared.fault.CertFault.{CertFault}
 use Rattle.dp_cert.specs.declared.fault.CertFault.TheVariants as faults
-use Rattle.dp_cert.specs.CertificateGrammar.{
-  branch_below,
-  certificate_grammar,
-  head_grammar,
-  horizon_grammar,
-  horizon_passed,
-  leaf_only,
-  merge_below,
-  node_below,
-  node_forms,
-  repeated,
-  title_grammar,
-  tree_grammar,
-  tree_lines,
-}
+use Rattle.dp_cert.specs.CertificateGrammar.{branch_below, certificate_grammar, head_grammar, horizon_grammar}
+use Rattle.dp_cert.specs.CertificateGrammar.{horizon_passed, leaf_only, merge_below, node_below, node_forms, repeated}
+use Rattle.dp_cert.specs.CertificateGrammar.{title_grammar, tree_grammar, tree_lines}
 use Rattle.dp_cert.specs.CertificateLaws.{EachCertificateTextHasOneAnswer}
 use Rattle.dp_policy.specs.PolicyGrammar.{agent_words}
-use Rattle.dp_cert.specs.PolicyGrammar.{
-  cells_passed,
-  counts_grammar,
-  first_of_counts,
-  nexts_before,
-  plain_agent,
-  plain_agents,
-  plain_stage,
-  plain_stages,
-  policy_grammar,
-  row_line,
-  row_of,
-  rows_from,
-  rows_of_form,
-  shared_agents,
-  shared_stages,
-  Text,
-}
+use Rattle.dp_cert.specs.PolicyGrammar.{cells_passed, counts_grammar, first_of_counts, nexts_before, plain_agent}
+use Rattle.dp_cert.specs.PolicyGrammar.{plain_agents, plain_stage, plain_stages, policy_grammar, row_line, row_of}
+use Rattle.dp_cert.specs.PolicyGrammar.{rows_from, rows_of_form, shared_agents, shared_stages, Text}
 use Rattle.dp_cert.specs.Reading.{Gives, Answers}
 use Rattle.dp_lines.specs.Steps.{and_then, first_plain, the_numbers, the_words, unless_passed}
 use Rattle.dp_policy.proofs.AgentParts.{agent_words_are}

@@ -13,16 +13,8 @@ use Rattle.dp_model.specs.declared.limit.TooLarge.{TooLarge}
 use Rattle.dp_model.specs.Horizons.{horizon_limits, long_horizon_passed}
 use Rattle.dp_model.specs.Limits.{first_passed, greatest_allowed, passed_by}
 use Rattle.dp_lines.specs.Grammar.{ends, ◌>>=◌}
-use Rattle.dp_cert.specs.CertificateGrammar.{
-  Head,
-  certificate_from,
-  certificate_grammar,
-  head_grammar,
-  horizon_grammar,
-  horizon_passed,
-  title_grammar,
-  tree_grammar,
-}
+use Rattle.dp_cert.specs.CertificateGrammar.{Head, certificate_from, certificate_grammar, head_grammar}
+use Rattle.dp_cert.specs.CertificateGrammar.{horizon_grammar, horizon_passed, title_grammar, tree_grammar}
 use Rattle.dp_cert.specs.PolicyGrammar.{plain_agents, policy_grammar, shared_agents, Text}
 
 -- ---- limits that are kept

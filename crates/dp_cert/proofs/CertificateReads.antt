@@ -1,47 +1,13 @@
 -- The lines of a certificate are read as the certificate, so its text says it.
-use Rattle.std.proofs.Common.{
-  ◌≡◌,
-  ℕ,
-  ◌*◌,
-  ◌^◌,
-  ◌<◌,
-  ◌≤◌,
-  Bool,
-  true,
-  false,
-  cond,
-  List,
-  [],
-  ◌∷◌,
-  ◌++◌,
-  get_or,
-  inl,
-  inr,
-  Ok,
-  Err,
-  refl,
-  sym,
-  ap,
-  subst,
-  ◌∙◌,
-  arith,
-}
+use Rattle.std.proofs.Common.{◌≡◌, ℕ, ◌*◌, ◌^◌, ◌<◌, ◌≤◌, Bool, true, false, cond, List, [], ◌∷◌, ◌++◌, get_or, inl}
+use Rattle.std.proofs.Common.{inr, Ok, Err, refl, sym, ap, subst, ◌∙◌, arith}
 use Rattle.std.specs.Prelude.{◌==◌, ◌⊎◌, pos, replicate, Result, None, codes}
 use Rattle.std.proofs.lemmas.Bool.Decides.{nat_tests}
 use Rattle.std.proofs.lemmas.List.{get_or-replicate}
 use Rattle.dp_spec.specs.BoundTree.{depth_of}
 use Rattle.dp_spec.specs.Certificate.{Certificate, HasPolicyOfVersion}
-use Rattle.dp_spec.specs.CertificateText.{
-  IsCertificateText,
-  certificate_lines,
-  certificate_rows,
-  certificate_text,
-  inner_form,
-  look_form,
-  mode_form,
-  signed_form,
-  signed_line,
-}
+use Rattle.dp_spec.specs.CertificateText.{IsCertificateText, certificate_lines, certificate_rows, certificate_text}
+use Rattle.dp_spec.specs.CertificateText.{inner_form, look_form, mode_form, signed_form, signed_line}
 use Rattle.dp_spec.specs.JointNumbers.{product}
 use Rattle.dp_spec.specs.Model.{IsModel, Model}
 use Rattle.dp_spec.specs.PlainForm.{plain_form}
@@ -57,32 +23,16 @@ use Rattle.dp_lines.specs.Grammar.{Fault, IsText, ends, ◌>>=◌}
 use Rattle.dp_lines.specs.Scanning.{text_from}
 use Rattle.dp_lines.specs.Steps.{first_plain, the_numbers, unless_passed}
 use Rattle.dp_lines.proofs.OneAnswer.{one_answer, read_answer}
-use Rattle.dp_cert.specs.CertificateGrammar.{
-  Head,
-  certificate_from,
-  certificate_grammar,
-  head_grammar,
-  horizon_grammar,
-  horizon_passed,
-  title_grammar,
-  tree_grammar,
-}
+use Rattle.dp_cert.specs.CertificateGrammar.{Head, certificate_from, certificate_grammar, head_grammar}
+use Rattle.dp_cert.specs.CertificateGrammar.{horizon_grammar, horizon_passed, title_grammar, tree_grammar}
 use Rattle.dp_cert.specs.CertificateLaws.{EachCertificateTextIsRead}
 use Rattle.dp_cert.specs.PolicyGrammar.{plain_agents, policy_grammar, shared_agents}
 use Rattle.dp_cert.specs.declared.fault.CertFault.{CertFault}
 use Rattle.dp_cert.specs.declared.fault.CertFault.TheVariants as faults
 use Rattle.dp_cert.specs.Reading.{Gives, IsReadAs}
 use Rattle.dp_cert.proofs.CertificateAnswers.{certificate_proper}
-use Rattle.dp_cert.proofs.CertificateParts.{
-  behind_head,
-  behind_horizon,
-  behind_policy,
-  behind_tree,
-  behind_version,
-  from_version,
-  policy_one,
-  policy_two,
-}
+use Rattle.dp_cert.proofs.CertificateParts.{behind_head, behind_horizon, behind_policy, behind_tree, behind_version}
+use Rattle.dp_cert.proofs.CertificateParts.{from_version, policy_one, policy_two}
 use Rattle.dp_cert.proofs.LineReads.{Reads, reads_bind, reads_numbers, reads_text, reads_unless, the_line}
 use Rattle.dp_cert.proofs.PlainReads.{plain_reads}
 use Rattle.dp_cert.proofs.ReadCertificates.{tree_part_lines}

@@ -1,58 +1,15 @@
 -- Rows that own histories share, as they were read: they are rows of a policy, and their lines.
-use Rattle.std.proofs.Common.{
-  ◌≡◌,
-  ℕ,
-  zero,
-  suc,
-  ◌+◌,
-  ◌*◌,
-  ◌-◌,
-  ◌^◌,
-  ◌<◌,
-  ◌≤◌,
-  List,
-  [],
-  ◌∷◌,
-  ◌++◌,
-  length,
-  get_or,
-  map,
-  Ok,
-  refl,
-  sym,
-  ap,
-  subst,
-  ◌∙◌,
-  arith,
-}
+use Rattle.std.proofs.Common.{◌≡◌, ℕ, zero, suc, ◌+◌, ◌*◌, ◌-◌, ◌^◌, ◌<◌, ◌≤◌, List, [], ◌∷◌, ◌++◌, length, get_or}
+use Rattle.std.proofs.Common.{map, Ok, refl, sym, ap, subst, ◌∙◌, arith}
 use Rattle.std.specs.Prelude.{ℤ, pos, negsuc, replicate, unsigned_abs, Option, Some, None}
 use Rattle.std.specs.List.{AllByRecursion}
 use Rattle.dp_spec.specs.JointNumbers.{product}
 use Rattle.dp_spec.specs.PolicyText.{agent_form, agent_lines}
-use Rattle.dp_spec.specs.SharedPolicy.{
-  AgentRows,
-  AreRowsOfAgents,
-  AreStages,
-  IsRow,
-  PolicyRow,
-  SharedPolicy,
-  first_count,
-  next_count,
-  no_row,
-  row_count,
-  row_counts,
-}
+use Rattle.dp_spec.specs.SharedPolicy.{AgentRows, AreRowsOfAgents, AreStages, IsRow, PolicyRow, SharedPolicy}
+use Rattle.dp_spec.specs.SharedPolicy.{first_count, next_count, no_row, row_count, row_counts}
 use Rattle.dp_spec.specs.SharedPolicy.AreRowsOfAgents.{and_agent, no_agents}
-use Rattle.dp_spec.specs.SharedRows.{
-  counts_form,
-  counts_line,
-  products,
-  shared_policy_rows,
-  shared_row_form,
-  shared_row_line,
-  stage_counts,
-  stage_lines,
-}
+use Rattle.dp_spec.specs.SharedRows.{counts_form, counts_line, products, shared_policy_rows, shared_row_form}
+use Rattle.dp_spec.specs.SharedRows.{shared_row_line, stage_counts, stage_lines}
 use Rattle.dp_spec.specs.TextLines.{Allows, Line, fixed_line, plain}
 use Rattle.dp_model.specs.declared.limit.TooLarge.{TooLarge}
 use Rattle.dp_lines.specs.Grammar.{ends, ◌>>=◌}
@@ -60,18 +17,8 @@ use Rattle.dp_lines.specs.Scanning.{Rest, front_of}
 use Rattle.dp_lines.proofs.SpelledLines.{HasItems}
 use Rattle.dp_policy.proofs.ReadBytes.{IsLine, line_is, same_rest, split}
 use Rattle.dp_policy.specs.PolicyGrammar.{agent_words}
-use Rattle.dp_cert.specs.PolicyGrammar.{
-  cells_passed,
-  counts_grammar,
-  first_of_counts,
-  nexts_before,
-  row_line,
-  row_of,
-  rows_of_form,
-  shared_agents,
-  shared_stages,
-  Text,
-}
+use Rattle.dp_cert.specs.PolicyGrammar.{cells_passed, counts_grammar, first_of_counts, nexts_before, row_line, row_of}
+use Rattle.dp_cert.specs.PolicyGrammar.{rows_of_form, shared_agents, shared_stages, Text}
 use Rattle.dp_lines.specs.Reading.{rest_at}
 use Rattle.dp_lines.specs.Steps.{and_then, the_numbers, the_words, unless_passed}
 use Rattle.dp_policy.proofs.AgentParts.{agent_words_are}

@@ -1,71 +1,24 @@
 -- The lines of a shared policy are read as the policy.
-use Rattle.std.proofs.Common.{
-  ◌≡◌,
-  ℕ,
-  zero,
-  suc,
-  ◌+◌,
-  ◌*◌,
-  ◌^◌,
-  ◌<◌,
-  ◌≤◌,
-  true,
-  false,
-  List,
-  [],
-  ◌∷◌,
-  ◌++◌,
-  length,
-  get_or,
-  map,
-  refl,
-  sym,
-  ap,
-  subst,
-  ◌∙◌,
-  append_assoc,
-  arith,
-}
+use Rattle.std.proofs.Common.{◌≡◌, ℕ, zero, suc, ◌+◌, ◌*◌, ◌^◌, ◌<◌, ◌≤◌, true, false, List, [], ◌∷◌, ◌++◌, length}
+use Rattle.std.proofs.Common.{get_or, map, refl, sym, ap, subst, ◌∙◌, append_assoc, arith}
 use Rattle.std.specs.Prelude.{nat_lt, pos, unsigned_abs, Option, None}
 use Rattle.std.proofs.Math.Nat.{mul-le-mul_left}
 use Rattle.std.proofs.lemmas.Bool.Decides.{nat_tests}
 use Rattle.dp_spec.specs.JointNumbers.{product}
 use Rattle.dp_spec.specs.PolicyText.{agent_form, agent_lines}
-use Rattle.dp_spec.specs.SharedPolicy.{
-  AgentRows,
-  AreRowsOfAgents,
-  AreStages,
-  PolicyRow,
-  SharedPolicy,
-  row_count,
-  row_counts,
-}
+use Rattle.dp_spec.specs.SharedPolicy.{AgentRows, AreRowsOfAgents, AreStages, PolicyRow, SharedPolicy, row_count}
+use Rattle.dp_spec.specs.SharedPolicy.{row_counts}
 use Rattle.dp_spec.specs.SharedPolicy.AreRowsOfAgents.{and_agent, no_agents}
-use Rattle.dp_spec.specs.SharedRows.{
-  counts_form,
-  counts_line,
-  first_past,
-  products,
-  shared_policy_rows,
-  shared_row_form,
-  shared_row_line,
-  stage_counts,
-  stage_lines,
-}
+use Rattle.dp_spec.specs.SharedRows.{counts_form, counts_line, first_past, products, shared_policy_rows}
+use Rattle.dp_spec.specs.SharedRows.{shared_row_form, shared_row_line, stage_counts, stage_lines}
 use Rattle.dp_spec.specs.TextLines.{AllAllowed, Allows, Item, Line, fixed_line}
 use Rattle.dp_model.specs.declared.limit.TooLarge.{TooLarge}
 use Rattle.dp_laws.proofs.WholeTexts.{AllAllowed-parts}
 use Rattle.dp_lines.specs.Grammar.{ends, ◌>>=◌}
 use Rattle.dp_lines.specs.Steps.{and_then, unless_passed}
 use Rattle.dp_lines.proofs.LineCounts.{numbers_back}
-use Rattle.dp_cert.specs.PolicyGrammar.{
-  cells_passed,
-  counts_grammar,
-  row_line,
-  rows_of_form,
-  shared_agents,
-  shared_stages,
-}
+use Rattle.dp_cert.specs.PolicyGrammar.{cells_passed, counts_grammar, row_line, rows_of_form, shared_agents}
+use Rattle.dp_cert.specs.PolicyGrammar.{shared_stages}
 use Rattle.dp_cert.proofs.LineReads.{Reads, reads_and, reads_bind, reads_unless, the_line}
 use Rattle.dp_cert.proofs.ReadSharedRows.{count_at, product_at}
 

@@ -1,28 +1,6 @@
 -- Stages and agents, one after the other.
-use Rattle.std.proofs.Common.{
-  ◌≡◌,
-  ℕ,
-  suc,
-  ◌+◌,
-  ◌-◌,
-  ◌<◌,
-  ◌≤◌,
-  List,
-  ◌∷◌,
-  length,
-  drop,
-  get_or,
-  map,
-  Result,
-  Ok,
-  Err,
-  refl,
-  sym,
-  ap,
-  ◌∙◌,
-  add-one,
-  arith,
-}
+use Rattle.std.proofs.Common.{◌≡◌, ℕ, suc, ◌+◌, ◌-◌, ◌<◌, ◌≤◌, List, ◌∷◌, length, drop, get_or, map, Result, Ok, Err}
+use Rattle.std.proofs.Common.{refl, sym, ap, ◌∙◌, add-one, arith}
 use Rattle.std.specs.Prelude.{ℤ, pos, unsigned_abs, Some, None}
 use Rattle.std.proofs.Math.Seq.{drop-cons}
 use Rattle.std.proofs.lemmas.List.{drop_all, append-nil}
@@ -35,22 +13,9 @@ use Rattle.dp_lines.specs.Grammar.{ends, ◌>>=◌, Fault, limit}
 use Rattle.dp_lines.specs.Scanning.{Rest, front_of}
 use Rattle.dp_model.specs.declared.limit.TooLarge.{TooLarge}
 use Rattle.dp_policy.specs.PolicyGrammar.{agent_words}
-use Rattle.dp_cert.specs.PolicyGrammar.{
-  cells_passed,
-  first_of_counts,
-  nexts_before,
-  plain_agent,
-  plain_agents,
-  plain_stage,
-  plain_stages,
-  row_line,
-  rows_from,
-  rows_of_form,
-  shared_agents,
-  shared_stages,
-  counts_grammar,
-  Text,
-}
+use Rattle.dp_cert.specs.PolicyGrammar.{cells_passed, first_of_counts, nexts_before, plain_agent, plain_agents}
+use Rattle.dp_cert.specs.PolicyGrammar.{plain_stage, plain_stages, row_line, rows_from, rows_of_form, shared_agents}
+use Rattle.dp_cert.specs.PolicyGrammar.{shared_stages, counts_grammar, Text}
 use Rattle.dp_lines.specs.Reading.{onto, rest_at}
 use Rattle.dp_lines.specs.Steps.{and_then, the_numbers, the_words, unless_passed}
 use Rattle.dp_lines.proofs.LineCounts.{numbers_back}

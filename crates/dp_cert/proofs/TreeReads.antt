@@ -1,36 +1,9 @@
 -- The lines of a bound tree are read as the tree.
-use Rattle.std.proofs.Common.{
-  ◌≡◌,
-  ℕ,
-  zero,
-  suc,
-  ◌+◌,
-  ◌≤◌,
-  List,
-  [],
-  ◌∷◌,
-  ◌++◌,
-  max,
-  refl,
-  sym,
-  subst,
-  add-one,
-  append_assoc,
-  arith,
-}
+use Rattle.std.proofs.Common.{◌≡◌, ℕ, zero, suc, ◌+◌, ◌≤◌, List, [], ◌∷◌, ◌++◌, max, refl, sym, subst, add-one}
+use Rattle.std.proofs.Common.{append_assoc, arith}
 use Rattle.std.specs.Prelude.{pos, codes}
-use Rattle.dp_spec.specs.BoundTree.{
-  BoundTree,
-  BoundTrees,
-  branch,
-  child_count,
-  depth_of,
-  greatest_depth,
-  leaf,
-  merge,
-  more_bound_trees,
-  no_bound_trees,
-}
+use Rattle.dp_spec.specs.BoundTree.{BoundTree, BoundTrees, branch, child_count, depth_of, greatest_depth, leaf, merge}
+use Rattle.dp_spec.specs.BoundTree.{more_bound_trees, no_bound_trees}
 use Rattle.dp_spec.specs.CertificateText.{branch_form, children_lines, leaf_form, merge_form, node_lines}
 use Rattle.dp_spec.specs.TextLines.{AllAllowed, Line}
 use Rattle.dp_model.specs.declared.limit.TooLarge.{TooLarge}

@@ -1,94 +1,28 @@
 -- What is written is the text of the certificate.
-use Rattle.std.proofs.Common.{
-  ◌≡◌,
-  ℕ,
-  zero,
-  suc,
-  ◌+◌,
-  ◌-◌,
-  ◌^◌,
-  ◌<◌,
-  Bool,
-  true,
-  false,
-  cond,
-  List,
-  [],
-  ◌∷◌,
-  ◌++◌,
-  length,
-  get_or,
-  map,
-  refl,
-  sym,
-  ap,
-  ◌∙◌,
-  append_assoc,
-  arith,
-}
+use Rattle.std.proofs.Common.{◌≡◌, ℕ, zero, suc, ◌+◌, ◌-◌, ◌^◌, ◌<◌, Bool, true, false, cond, List, [], ◌∷◌, ◌++◌}
+use Rattle.std.proofs.Common.{length, get_or, map, refl, sym, ap, ◌∙◌, append_assoc, arith}
 use Rattle.std.specs.Prelude.{◌==◌, codes, decimal, pos, replicate}
 use Rattle.std.specs.Fmt.{signed_decimal}
 use Rattle.std.specs.List.{join_with_byte}
 use Rattle.std.proofs.lemmas.Bool.Decides.{nat_tests}
-use Rattle.dp_spec.specs.BoundTree.{
-  BoundTree,
-  BoundTrees,
-  branch,
-  child_count,
-  leaf,
-  merge,
-  more_bound_trees,
-  no_bound_trees,
-}
+use Rattle.dp_spec.specs.BoundTree.{BoundTree, BoundTrees, branch, child_count, leaf, merge, more_bound_trees}
+use Rattle.dp_spec.specs.BoundTree.{no_bound_trees}
 use Rattle.dp_spec.specs.Certificate.{Certificate, HasPolicyOfVersion}
-use Rattle.dp_spec.specs.CertificateText.{
-  certificate_text,
-  children_lines,
-  head_lines,
-  inner_form,
-  node_lines,
-  signed_line,
-}
+use Rattle.dp_spec.specs.CertificateText.{certificate_text, children_lines, head_lines, inner_form, node_lines}
+use Rattle.dp_spec.specs.CertificateText.{signed_line}
 use Rattle.dp_spec.specs.Model.{Model}
 use Rattle.dp_spec.specs.PlainForm.{ArePlain}
 use Rattle.dp_spec.specs.PlainForm.ArePlain.{and_agent as and_plain, no_agents as none_plain}
 use Rattle.dp_spec.specs.PolicyText.{agent_form, agent_lines, end_form, row_form}
-use Rattle.dp_spec.specs.SharedPolicy.{
-  AgentRows,
-  AreRowsOfAgents,
-  AreStages,
-  IsRow,
-  PolicyRow,
-  SharedPolicy,
-  first_count,
-  next_count,
-  no_row,
-  row_count,
-}
+use Rattle.dp_spec.specs.SharedPolicy.{AgentRows, AreRowsOfAgents, AreStages, IsRow, PolicyRow, SharedPolicy}
+use Rattle.dp_spec.specs.SharedPolicy.{first_count, next_count, no_row, row_count}
 use Rattle.dp_spec.specs.SharedPolicy.AreRowsOfAgents.{and_agent, no_agents}
-use Rattle.dp_spec.specs.SharedRows.{
-  counts_form,
-  counts_line,
-  shared_policy_rows,
-  shared_row_form,
-  shared_row_line,
-  stage_counts,
-  stage_lines,
-}
+use Rattle.dp_spec.specs.SharedRows.{counts_form, counts_line, shared_policy_rows, shared_row_form, shared_row_line}
+use Rattle.dp_spec.specs.SharedRows.{stage_counts, stage_lines}
 use Rattle.dp_spec.specs.TextLines.{Line, fixed, fixed_line, line_text, plain, spelled_items, text_of_lines}
-use Rattle.dp_cert.specs.CertificateBytes.{
-  actions_bytes,
-  agents_bytes,
-  certificate_bytes,
-  children_bytes,
-  counted_bytes,
-  head_bytes,
-  node_bytes,
-  plain_bytes,
-  rows_bytes,
-  signed_bytes,
-  stages_bytes,
-}
+use Rattle.dp_cert.specs.CertificateBytes.{actions_bytes, agents_bytes, certificate_bytes, children_bytes}
+use Rattle.dp_cert.specs.CertificateBytes.{counted_bytes, head_bytes, node_bytes, plain_bytes, rows_bytes}
+use Rattle.dp_cert.specs.CertificateBytes.{signed_bytes, stages_bytes}
 use Rattle.dp_lines.specs.Lines.{row_tail}
 use Rattle.dp_cert.proofs.ReadCertificates.{rows_lines, tree_part_lines}
 use Rattle.dp_spec.proofs.TextLemmas.{spelled_items-replicate, text_of_lines-append}

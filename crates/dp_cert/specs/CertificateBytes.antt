@@ -1,16 +1,8 @@
 -- The bytes of a certificate text, as they are written.
 use Rattle.std.specs.Prelude.{ℕ, ◌+◌, ℤ, true, false, cond, ◌==◌, List, [], ◌∷◌, ◌++◌, map, length, codes}
 use Rattle.std.specs.Fmt.{decimal, signed_decimal}
-use Rattle.dp_spec.specs.BoundTree.{
-  BoundTree,
-  BoundTrees,
-  child_count,
-  leaf,
-  branch,
-  merge,
-  no_bound_trees,
-  more_bound_trees,
-}
+use Rattle.dp_spec.specs.BoundTree.{BoundTree, BoundTrees, child_count, leaf, branch, merge, no_bound_trees}
+use Rattle.dp_spec.specs.BoundTree.{more_bound_trees}
 use Rattle.dp_spec.specs.Certificate.{Certificate}
 use Rattle.dp_lines.specs.Lines.{row_tail}
 use Rattle.dp_spec.specs.SharedPolicy.{AgentRows, PolicyRow, SharedPolicy}

@@ -1,24 +1,6 @@
 -- Open nodes: branches and merges of which not all children are read, and what they make of a finished child.
-use Rattle.std.specs.Prelude.{
-  ◌≡◌,
-  ℕ,
-  ℤ,
-  zero,
-  suc,
-  ◌-◌,
-  List,
-  [],
-  ◌∷◌,
-  length,
-  map,
-  reverse,
-  Option,
-  Some,
-  None,
-  Result,
-  Ok,
-  Err,
-}
+use Rattle.std.specs.Prelude.{◌≡◌, ℕ, ℤ, zero, suc, ◌-◌, List, [], ◌∷◌, length, map, reverse, Option, Some, None}
+use Rattle.std.specs.Prelude.{Result, Ok, Err}
 use Rattle.dp_spec.specs.BoundTree.{BoundTree, BoundTrees, branch, merge, more_bound_trees}
 use Rattle.dp_model.specs.declared.limit.TooLarge.{TooLarge}
 use Rattle.dp_lines.specs.Grammar.{Fault, limit}

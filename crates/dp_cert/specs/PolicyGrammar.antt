@@ -1,23 +1,6 @@
 -- The policy in a certificate text, in the rows of its version. (Own.)
-use Rattle.std.specs.Prelude.{
-  ℕ,
-  zero,
-  suc,
-  ◌+◌,
-  ◌*◌,
-  ◌^◌,
-  ℤ,
-  unsigned_abs,
-  cond,
-  ◌==◌,
-  List,
-  [],
-  ◌∷◌,
-  map,
-  replicate,
-  option_map,
-  Option,
-}
+use Rattle.std.specs.Prelude.{ℕ, zero, suc, ◌+◌, ◌*◌, ◌^◌, ℤ, unsigned_abs, cond, ◌==◌, List, [], ◌∷◌, map, replicate}
+use Rattle.std.specs.Prelude.{option_map, Option}
 use Rattle.dp_spec.specs.Model.{Model}
 use Rattle.dp_spec.specs.TextLines.{Item}
 use Rattle.dp_spec.specs.PolicyText.{row_form}

@@ -2,13 +2,8 @@
 ghost use Rattle.std.specs.Prelude.{◌≡◌, ◌+◌, ◌≤◌, [], ◌∷◌, None, IfOk, codes, cond, true, false};
 ghost use Rattle.dp_spec.specs.CertificateText.{mode_form};
 ghost use Rattle.dp_lines.specs.Scanning.{front_of};
-ghost use Rattle.dp_cert.specs.CertificateGrammar.{
-  head_grammar,
-  horizon_grammar,
-  horizon_passed,
-  interval_grammar,
-  title_grammar,
-};
+ghost use Rattle.dp_cert.specs.CertificateGrammar.{head_grammar, horizon_grammar, horizon_passed, interval_grammar};
+ghost use Rattle.dp_cert.specs.CertificateGrammar.{title_grammar};
 ghost use Rattle.dp_lines.specs.Steps.{one_of, the_words};
 ghost use Rattle.dp_cert.specs.HeadValue.{head_of, interval_of};
 ghost use Rattle.dp_cert.specs.Reading.{Gives};

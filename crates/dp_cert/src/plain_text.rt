@@ -1,22 +1,6 @@
 //! The policy of a certificate text of version 1: for each own history an action.
-ghost use Rattle.std.specs.Prelude.{
-  ◌≡◌,
-  ℕ,
-  ◌+◌,
-  ◌*◌,
-  ◌^◌,
-  ◌<◌,
-  ◌≤◌,
-  map,
-  replicate,
-  length,
-  get_or,
-  suc,
-  cond,
-  nat_lt,
-  IfOk,
-  IfErr,
-};
+ghost use Rattle.std.specs.Prelude.{◌≡◌, ℕ, ◌+◌, ◌*◌, ◌^◌, ◌<◌, ◌≤◌, map, replicate, length, get_or, suc, cond};
+ghost use Rattle.std.specs.Prelude.{nat_lt, IfOk, IfErr};
 ghost use Rattle.std.specs.List.{join_with_byte, range_with_len};
 ghost use Rattle.dp_spec.specs.Mode.{IsWithinLimits};
 ghost use Rattle.dp_spec.specs.TextLines.{plain};

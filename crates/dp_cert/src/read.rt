@@ -4,12 +4,8 @@ ghost use Rattle.dp_spec.specs.Certificate.{IsCertificateOf};
 ghost use Rattle.dp_spec.specs.CertificateText.{IsCertificateText};
 ghost use Rattle.dp_lines.specs.Scanning.{front_of, text_from};
 ghost use Rattle.dp_tree.specs.TreeValue.{bound_tree};
-ghost use Rattle.dp_cert.specs.CertificateGrammar.{
-  certificate_from,
-  certificate_grammar,
-  horizon_passed,
-  tree_grammar,
-};
+ghost use Rattle.dp_cert.specs.CertificateGrammar.{certificate_from, certificate_grammar, horizon_passed};
+ghost use Rattle.dp_cert.specs.CertificateGrammar.{tree_grammar};
 ghost use Rattle.dp_cert.specs.CertificateLaws.{IsReadWhole};
 ghost use Rattle.dp_cert.specs.CertificateValue.{certificate_of};
 ghost use Rattle.dp_cert.specs.HeadValue.{head_of};

@@ -7,23 +7,10 @@ ghost use Rattle.dp_spec.specs.Certificate.{HasPolicyOfVersion, IsCertificateOf}
 ghost use Rattle.dp_spec.specs.CertificateText.{IsCertificateText, certificate_text};
 ghost use Rattle.dp_spec.specs.Model.{IsModel, Model};
 ghost use Rattle.dp_tree.specs.TreeValue.{bound_tree};
-ghost use Rattle.dp_cert.specs.CertificateBytes.{
-  actions_bytes,
-  agents_bytes,
-  certificate_bytes,
-  counted_bytes,
-  counts_bytes,
-  head_bytes,
-  interval_bytes,
-  manner_bytes,
-  node_bytes,
-  plain_bytes,
-  row_bytes,
-  rows_bytes,
-  signed_bytes,
-  stages_bytes,
-  three_bytes,
-};
+ghost use Rattle.dp_cert.specs.CertificateBytes.{actions_bytes, agents_bytes, certificate_bytes, counted_bytes};
+ghost use Rattle.dp_cert.specs.CertificateBytes.{counts_bytes, head_bytes, interval_bytes, manner_bytes, node_bytes};
+ghost use Rattle.dp_cert.specs.CertificateBytes.{plain_bytes, row_bytes, rows_bytes, signed_bytes, stages_bytes};
+ghost use Rattle.dp_cert.specs.CertificateBytes.{three_bytes};
 ghost use Rattle.dp_lines.specs.Lines.{row_tail};
 ghost use Rattle.dp_cert.specs.CertificateValue.{certificate_of};
 ghost use Rattle.dp_cert.specs.TypedNumbers.{HasTypedEnds, HasTypedHead, HasTypedNumbers, IsTyped};

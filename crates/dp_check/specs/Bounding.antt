@@ -1,6 +1,24 @@
 -- What the bounds of fronts are computed from. (Own.)
-use Rattle.std.specs.Prelude.{ℕ, zero, suc, ◌-◌, ◌<◌, ◌≤◌, ◌≡◌, true, ℤ, List, [], ◌++◌, map, Option, None, Some,
-    get_or, length}
+use Rattle.std.specs.Prelude.{
+  ℕ,
+  zero,
+  suc,
+  ◌-◌,
+  ◌<◌,
+  ◌≤◌,
+  ◌≡◌,
+  true,
+  ℤ,
+  List,
+  [],
+  ◌++◌,
+  map,
+  Option,
+  None,
+  Some,
+  get_or,
+  length,
+}
 use Rattle.std.specs.Int.{int_max}
 use Rattle.std.specs.List.{range_with_len}
 use Rattle.dp_spec.specs.Arithmetic.{Arithmetic, arithmetic}

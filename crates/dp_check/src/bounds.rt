@@ -9,8 +9,16 @@ ghost use Rattle.dp_spec.specs.Front.{class_counts};
 ghost use Rattle.dp_spec.specs.JointNumbers.{parts_of, product};
 ghost use Rattle.dp_spec.specs.WellFormed.{IsFront};
 ghost use Rattle.dp_spec.specs.Model.{joint_actions};
-ghost use Rattle.dp_check.specs.Bounding.{AreChoices, with_greater, AreLookAheads, IsBounding, IsLookRoom, IsWithRoom,
-    arithmetic_of, look_ahead_at};
+ghost use Rattle.dp_check.specs.Bounding.{
+  AreChoices,
+  with_greater,
+  AreLookAheads,
+  IsBounding,
+  IsLookRoom,
+  IsWithRoom,
+  arithmetic_of,
+  look_ahead_at,
+};
 
 use dp_base::Memory;
 use dp_cluster::Front;

@@ -8,8 +8,16 @@ ghost use Rattle.dp_spec.specs.Reasons.{first_reason, lower_of};
 ghost use Rattle.dp_spec.specs.SharedPolicy.{unfolded};
 ghost use Rattle.dp_model.specs.Horizons.{fit_of};
 ghost use Rattle.dp_cert.specs.CertificateValue.{certificate_of};
-ghost use Rattle.dp_check.specs.Verdicts.{IfAccepted, IfRejected, IsAccepted, last_of, names, nothing_counted,
-    outcome, reason_of};
+ghost use Rattle.dp_check.specs.Verdicts.{
+  IfAccepted,
+  IfRejected,
+  IsAccepted,
+  last_of,
+  names,
+  nothing_counted,
+  outcome,
+  reason_of,
+};
 ghost use Rattle.dp_check.specs.Words.{AreInOrder, AtMost};
 ghost use Rattle.dp_check.specs.Walks.{passed, walked};
 

@@ -12,7 +12,7 @@ use crate::bounds::{Bounds, look_aheads};
 use crate::node::Node;
 use crate::tally::Tally;
 use crate::verdict::Reason;
-use crate::wide::{has_no_pairs, is_unassigned, is_wide};
+use crate::classes::{has_no_pairs, is_unassigned};
 use dp_base::Memory;
 use dp_cluster::MergeFault;
 use dp_model::Model;
@@ -99,7 +99,7 @@ fn may_refine(m: &Model, bounds: &Bounds, node: &Node) -> bool
     requires node { IsNodeOf m.now.model bounds.now node.now }
     ensures { (T : BoundTree) → result ≡ may_refine m.now.model bounds.now.fit.horizon (node_with T node.now) }
 {
-    node.front.stage() < bounds.fit.horizon && !is_wide(m, &node.front, node.above)
+    node.front.stage() < bounds.fit.horizon && !node.front.is_wide(m, node.above)
 }
 
 // Whether a merge of two classes of an agent may stand at a node, if they are equivalent.

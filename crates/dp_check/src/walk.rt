@@ -12,7 +12,6 @@ use crate::enter::{Entered, enter_branch, enter_merge};
 use crate::node::Node;
 use crate::tally::Tally;
 use crate::verdict::Reason;
-use crate::wide::is_wide;
 use dp_base::Memory;
 use dp_model::Model;
 use dp_pomdp::LookRoom;
@@ -36,7 +35,7 @@ fn leaf(m: &Model, bounds: &Bounds, bound: &i128, node: &Node, tally: &mut Tally
         });
     }
     let not_full = node.front.stage() < bounds.fit.horizon;
-    let narrow = not_full && !is_wide(m, &node.front, node.above);
+    let narrow = not_full && !node.front.is_wide(m, node.above);
     tally.add_leaf(bound, not_full, narrow);
     None
 }

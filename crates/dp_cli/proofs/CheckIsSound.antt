@@ -1,21 +1,17 @@
 -- The command `check`: what it accepts is valid and its claims are so, and it passes no limit on the bytes of a file.
-use Rattle.std.proofs.Common.{◌≡◌, ℕ, List, [], ◌∷◌, Option, Some, None, Result, Ok, Err, refl, ap}
+use Rattle.std.proofs.Common.{◌≡◌, ℕ, List, [], ◌∷◌, Option, Some, None, ap}
 use Rattle.std.specs.Prelude.{option_map}
 use Rattle.dp_spec.specs.Certificate.{Certificate}
 use Rattle.dp_spec.specs.Model.{Model}
 use Rattle.dp_spec.specs.Reasons as definitions
 use Rattle.dp_spec.specs.Reasons.{first_reason}
 use Rattle.dp_laws.proofs.ValidCertificates.{claims_hold, closed_is_optimal, ends_in_order}
-use Rattle.dp_cert.specs.CertificateGrammar.{certificate_grammar}
-use Rattle.dp_lines.specs.Grammar.{Fault, bad, limit}
-use Rattle.dp_lines.specs.Scanning.{text_from}
-use Rattle.dp_model.specs.declared.limit.TooLarge.{TooLarge}
 use Rattle.dp_words.specs.declared.job.CheckJob.{CheckJob}
 use Rattle.dp_cli.specs.declared.refusal.JobFault.TheVariants as job_faults
 use Rattle.dp_cli.specs.CheckCommand.{ClaimsOfCheck, IsCheckOfText, IsTextOfCheck, TellsCertificate,
-    certificate_fault, check_command, fault_of_check, reason_fault, said_fault, told_reason}
+    certificate_fault, check_command, fault_of_check, reason_fault, told_reason}
 use Rattle.dp_cli.specs.ModelText.{model_meant}
-use Rattle.dp_cli.proofs.CertificateLimits.{limit_of_certificate}
+use Rattle.dp_cli.proofs.CertificateReading.{certificate_or_is_other}
 use Rattle.dp_cli.proofs.FileLimits.{IsOther, limit_told, model_fault_is_other, of_no_role}
 use Rattle.dp_cli.proofs.Sound.{IsSound}
 
@@ -51,20 +47,11 @@ reason_is_other m c = by (first_reason m c)
     by (Some r) = tt
     by None = tt
 
-certificate_is_other : (bytes : List ℕ) (m : Model) → IsOther (limit_told (certificate_fault bytes m))
-certificate_is_other bytes m = by (text_from (certificate_grammar m) 1 bytes) refl
-  where
-    by : (r : Result Certificate (Fault TooLarge)) → text_from (certificate_grammar m) 1 bytes ≡ r → IsOther
-        (limit_told (said_fault m r))
-    by (Ok c) e = reason_is_other m c
-    by (Err (bad line why)) e = tt
-    by (Err (limit passed)) e = limit_of_certificate m bytes passed e
-
 check_is_other : (texts : List (List ℕ)) → IsOther (limit_told (fault_of_check texts))
 check_is_other [] = tt
 check_is_other (file ∷ []) = model_fault_is_other (λ m. None) (λ m. tt) file
 check_is_other (file ∷ cert ∷ []) = model_fault_is_other (certificate_fault cert)
-    (λ m. certificate_is_other cert m) file
+    (λ m. certificate_or_is_other (reason_fault m) (reason_is_other m) cert m) file
 check_is_other (file ∷ cert ∷ next ∷ texts) = tt
 
 pub check_is_sound : (job : CheckJob) → IsSound (check_command job)

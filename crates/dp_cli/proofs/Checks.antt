@@ -1,47 +1,19 @@
 -- What is told of the bytes of a certificate that were read, or were not, and of its verdict.
-use Rattle.std.proofs.Common.{◌≡◌, ℕ, List, [], ◌++◌, Some, None, Result, Ok, Err, ap, refl, ◌∙◌, arith}
+use Rattle.std.proofs.Common.{◌≡◌, ℕ, List, [], ◌++◌, Some, None, ap, refl, ◌∙◌}
 use Rattle.std.specs.Prelude.{option_map}
 use Rattle.dp_spec.specs.Certificate.{Certificate, IsValid}
 use Rattle.dp_spec.specs.FirstReason.{IsFirstReason}
 use Rattle.dp_spec.specs.Model.{Model, IsModel}
 use Rattle.dp_laws.proofs.FirstReasons.{first_reason_is, no_reason_where_valid}
-use Rattle.dp_lines.specs.Grammar.{Fault, IsAnswer, IsText, bad, limit}
-use Rattle.dp_lines.specs.Scanning.{text_from}
-use Rattle.dp_lines.proofs.OneAnswer.{one_answer, read_answer}
-use Rattle.dp_model.specs.declared.limit.TooLarge.{TooLarge}
-use Rattle.dp_cert.specs.declared.fault.CertFault.{CertFault}
-use Rattle.dp_cert.specs.declared.fault.CertFault.TheVariants as faults
+use Rattle.dp_lines.specs.Grammar.{IsText}
 use Rattle.dp_cert.specs.CertificateGrammar.{certificate_grammar}
-use Rattle.dp_cert.specs.CertificateValue.{certificate_of}
-use Rattle.dp_cert.specs.Reading.{Answers}
-use Rattle.dp_cert.proofs.CertificateAnswers.{certificate_proper}
 use Rattle.dp_check.specs.declared.verdict.Reason.{Reason}
 use Rattle.dp_check.specs.declared.verdict.Reason.TheVariants as reasons
 use Rattle.dp_check.specs.Verdicts.{reason_of}
-use Rattle.dp_cli.specs.Answer.{Stops}
-use Rattle.dp_cli.specs.CheckCommand.{certificate_fault, said_fault, told_reason}
+use Rattle.dp_cli.specs.CheckCommand.{certificate_fault, reason_fault, told_reason}
 use Rattle.dp_cli.specs.declared.refusal.JobFault.TheVariants as job_faults
-use Rattle.dp_cli.specs.Refusal.{certificate_refusal}
+use Rattle.dp_cli.proofs.CertificateReading.{certificate_read}
 use Rattle.dp_cli.proofs.ValueTexts.{and_then}
-
--- an answer is what is computed
-computed : (m : Model) → IsModel m → (bytes : List ℕ) (r : Result Certificate (Fault TooLarge))
-    → IsAnswer (certificate_grammar m) 1 bytes r → text_from (certificate_grammar m) 1 bytes ≡ r
-computed m is bytes r answer =
-    let few = is.sizes.agents_limit in
-    let proper = certificate_proper m (omega (arith, few)) in
-    one_answer (certificate_grammar m) proper 1 bytes _ r (read_answer (certificate_grammar m)
-    proper 1 bytes) answer
-
--- bytes that are no certificate are refused by what is wrong with them
-pub stops_reading : (m : Model) → IsModel m → (bytes : List ℕ) (fault : CertFault)
-    → Answers certificate_of (Err fault) (certificate_grammar m) bytes
-    → Stops (certificate_fault bytes m) (certificate_refusal fault)
-stops_reading m is bytes (faults.At line why) has = ap (said_fault m)
-    (computed m is bytes (Err (bad line why)) has)
-stops_reading m is bytes (faults.TooLarge passed) has = ap (said_fault m)
-    (computed m is bytes (Err (limit passed)) has)
-stops_reading m is bytes faults.Memory has = tt
 
 -- a reason of the code is told as the one that it is
 told_back : (r : Reason) → told_reason (reason_of r) ≡ r
@@ -60,7 +32,7 @@ pub rejected_is : (m : Model) → IsModel m → (bytes : List ℕ) (c : Certific
     (certificate_grammar m) bytes c
     → IsFirstReason m c (reason_of r) → certificate_fault bytes m ≡ Some (job_faults.Rejected r)
 rejected_is m is bytes c r says first =
-    ap (said_fault m) (computed m is bytes (Ok c) says)
+    certificate_read (reason_fault m) m is bytes c says
     ∙ ap (option_map (λ x. job_faults.Rejected (told_reason x))) ((first_reason_is m c (reason_of r)).1 first)
     ∙ ap (λ x. Some (job_faults.Rejected x)) (told_back r)
 
@@ -69,7 +41,7 @@ pub accepted_is : (m : Model) → IsModel m → (bytes : List ℕ) (c : Certific
     bytes c
     → IsValid m c → certificate_fault bytes m ≡ None
 accepted_is m is bytes c says valid =
-    ap (said_fault m) (computed m is bytes (Ok c) says)
+    certificate_read (reason_fault m) m is bytes c says
     ∙ ap (option_map (λ x. job_faults.Rejected (told_reason x)))
     ((no_reason_where_valid m c valid.within valid.policy).1 valid)
 

@@ -1,9 +1,11 @@
 -- Each command is sound: its own proof has it.
 use Rattle.dp_words.specs.declared.job.Job.{Job}
-use Rattle.dp_words.specs.declared.job.Job.TheVariants.{Check, Plan, Value}
+use Rattle.dp_words.specs.declared.job.Job.TheVariants.{Check, Plan, Show, Sim, Value}
 use Rattle.dp_cli.specs.Commands.{command_of}
 use Rattle.dp_cli.proofs.CheckIsSound.{check_is_sound}
 use Rattle.dp_cli.proofs.PlanIsSound.{plan_is_sound}
+use Rattle.dp_cli.proofs.ShowIsSound.{show_is_sound}
+use Rattle.dp_cli.proofs.SimIsSound.{sim_is_sound}
 use Rattle.dp_cli.proofs.Sound.{IsSound}
 use Rattle.dp_cli.proofs.ValueIsSound.{value_is_sound}
 
@@ -11,3 +13,5 @@ pub command_is_sound : (job : Job) → IsSound (command_of job)
 command_is_sound (Plan job) = plan_is_sound job
 command_is_sound (Value job) = value_is_sound job
 command_is_sound (Check job) = check_is_sound job
+command_is_sound (Show job) = show_is_sound job
+command_is_sound (Sim job) = sim_is_sound job

@@ -18,6 +18,12 @@ mod CertificateLimits
 mod CertificateSizes
 mod CheckIsSound
 mod Checks
+mod ActorsOfRows
+mod CertificateReading
+mod EpisodeLines
+mod ShowIsSound
+mod ShownTexts
+mod SimIsSound
 mod FirstGreatest
 mod NoPlaces
 mod RuledPlans

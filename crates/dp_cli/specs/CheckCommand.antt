@@ -1,6 +1,6 @@
 -- The command `check`.
 use Rattle.std.specs.Prelude.{◌≡◌, ◌↔◌, ℕ, Bool, true, false, IsTrue, List, [], ◌∷◌, ◌++◌, Option, Some, None,
-    option_map, Result, Ok, Err, ℤ, ◌≤ℤ◌, codes, decimal}
+    option_map, ℤ, ◌≤ℤ◌, codes, decimal}
 use Rattle.std.specs.Fmt.{signed_decimal}
 use Rattle.dp_spec.specs.Certificate.{Certificate, IsValid}
 use Rattle.dp_spec.specs.CertificateText.{IsCertificateText}
@@ -10,20 +10,17 @@ use Rattle.dp_spec.specs.Qualities.{IsClosed, IsLean, IsMerged}
 use Rattle.dp_spec.specs.Reasons.{first_reason}
 use Rattle.dp_spec.specs.Reasons as definitions
 use Rattle.dp_spec.specs.SharedPolicy.{unfolded}
-use Rattle.dp_cert.specs.CertificateGrammar.{certificate_grammar}
 use Rattle.dp_check.specs.declared.verdict.Reason.{Reason}
 use Rattle.dp_check.specs.declared.verdict.Reason.TheVariants as reasons
-use Rattle.dp_lines.specs.Grammar.{Fault}
-use Rattle.dp_lines.specs.Scanning.{text_from}
-use Rattle.dp_model.specs.declared.limit.TooLarge.{TooLarge}
 use Rattle.dp_meaning.specs.Meaning.{Means, ReadModel, meaning}
 use Rattle.dp_words.specs.declared.job.CheckJob.{CheckJob}
 use Rattle.dp_cli.specs.declared.refusal.FileRole.TheVariants as roles
 use Rattle.dp_cli.specs.declared.refusal.JobFault.{JobFault}
 use Rattle.dp_cli.specs.declared.refusal.JobFault.TheVariants as job_faults
+use Rattle.dp_cli.specs.CertificateFile.{certificate_or}
 use Rattle.dp_cli.specs.Command.{Command, model_file}
 use Rattle.dp_cli.specs.ModelText.{model_fault, model_of_text}
-use Rattle.dp_cli.specs.ValueCommand.{end_text, lines_fault}
+use Rattle.dp_cli.specs.ValueCommand.{end_text}
 
 -- ---- what may be wrong
 
@@ -43,15 +40,9 @@ told_reason (definitions.upper_is upper) = reasons.Upper upper
 abbrev pub reason_fault : Model → Certificate → Option JobFault
 reason_fault m c = option_map (λ reason. job_faults.Rejected (told_reason reason)) (first_reason m c)
 
--- what is wrong with a second file by what its lines say: the first line that is not as required, or a limit that is
--- passed before one, or else the first reason why the certificate is not valid
-abbrev pub said_fault : Model → Result Certificate (Fault TooLarge) → Option JobFault
-said_fault m (Ok c) = reason_fault m c
-said_fault m (Err fault) = lines_fault {V = Certificate} (Err fault)
-
--- what is wrong with the bytes of a certificate for a model
+-- what is wrong with the bytes of a certificate for a model, or else the first reason why it is not valid
 abbrev pub certificate_fault : List ℕ → Model → Option JobFault
-certificate_fault bytes m = said_fault m (text_from (certificate_grammar m) 1 bytes)
+certificate_fault bytes m = certificate_or (reason_fault m) bytes m
 
 abbrev pub fault_of_check : List (List ℕ) → Option JobFault
 fault_of_check (file ∷ []) = model_fault (λ m. None) (meaning file)

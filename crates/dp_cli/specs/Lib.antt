@@ -1,10 +1,13 @@
 pub mod Answer
 pub mod Causes
 pub mod Certified
+pub mod CertificateFile
 pub mod CheckCommand
 pub mod Command
 pub mod Commands
+pub mod EpisodeTexts
 pub mod ModelText
+pub mod NumberTexts
 pub mod Orders
 pub mod PlanCommand
 pub mod Planned
@@ -12,6 +15,9 @@ pub mod Put
 pub mod ReasonLines
 pub mod Refusal
 pub mod Run
+pub mod ShowCommand
+pub mod ShownPolicies
+pub mod SimCommand
 pub mod Status
 pub mod Steps
 pub mod ValueCommand

@@ -7,6 +7,8 @@ ghost use Rattle.dp_cli.specs.Steps.{answer_of};
 use crate::Refusal;
 use crate::check::check;
 use crate::plan::plan;
+use crate::show::show;
+use crate::sim::sim;
 use crate::value::value;
 use dp_io::Shelf;
 use dp_words::{Job, read_words};
@@ -35,5 +37,7 @@ fn do_job<S: Shelf>(alloc: Global, job: &Job, shelf: &mut S) -> Result<Vec<u8>, 
         Job::Plan(job) => plan(alloc, job, shelf),
         Job::Value(job) => value(alloc, job, shelf),
         Job::Check(job) => check(alloc, job, shelf),
+        Job::Show(job) => show(alloc, job, shelf),
+        Job::Sim(job) => sim(alloc, job, shelf),
     }
 }

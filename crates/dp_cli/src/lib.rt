@@ -10,13 +10,18 @@ ghost use Rattle.dp_cli.specs.Put.{PutsOrMemory};
 ghost use Rattle.dp_cli.specs.Run.{IsFound, Runs, RunsAsTold};
 
 mod check;
+mod episodes;
 mod fetch;
 mod job;
+mod number;
 mod orders;
 mod plan;
 mod put;
 mod reason;
 mod refusal;
+mod show;
+mod shown;
+mod sim;
 mod status;
 mod value;
 
@@ -54,7 +59,11 @@ pub fn run<S: Shelf, W: Sink>(alloc: Global, words: &[String], shelf: &mut S, ou
     // joint policy for the model of the first, and the two numbers of the text are its value, or hold it
     // between them. Of `check`: the bytes of the second file are the text of a certificate that is valid for
     // the model of the first, what it claims is so, as of a plan's, and the three words tell whether it is
-    // closed, lean and merged.
+    // closed, lean and merged. Of `show`: the bytes of the second file are the text of a certificate for the
+    // model of the first, and the text has a line for each agent and own history, with the names of what was
+    // seen and of the action that the policy does after it. Of `sim`: the bytes of the second file are such a
+    // text, and the text tells the episodes of its policy in the model, one after the other by the words of
+    // the seed.
     ensures certified { result ≡ Status.Done → IsCertified (job_of (map string_bytes words.now))
         (S.view shelf.old) (S.view shelf.new) (W.view out.old) (W.view out.new) }
 

@@ -1,6 +1,6 @@
 -- What is kept of a front after a join.
-use Rattle.std.proofs.Common.{◌≡◌, ℕ, zero, suc, ◌+◌, ◌-◌, ◌*◌, ◌<◌, ◌≤◌, Bool, true, pos, List, [], ◌∷◌, map, length,
-    get_or, set, take, refl, sym, ap, ◌∙◌, subst, arith}
+use Rattle.std.proofs.Common.{◌≡◌, ℕ, zero, suc, ◌+◌, ◌-◌, ◌*◌, ◌<◌, ◌≤◌, Bool, true, pos, List, [], ◌∷◌, map, length}
+use Rattle.std.proofs.Common.{get_or, set, take, refl, sym, ap, ◌∙◌, subst, arith}
 use Rattle.std.proofs.Math.Nat.{mul-le-mul_left, mul-le-mul_right}
 use Rattle.dp_spec.specs.declared.span.Span.{Span}
 use Rattle.dp_spec.specs.Arithmetic.{point}
@@ -100,16 +100,16 @@ module _ (m : Model) (k : KeptFront) (is : IsFrontOf m k) (e : k.is_exact ≡ tr
 
   pub join_stored : IsStored k → IsStored (record k { front = merged_front k.front i a b; weights = ws })
   join_stored s =
-    let as_many : length (merged_agents i a b k.front.agents) ≡ length k.front.agents =
-    sym (as_many_counts (merged_agents i a b k.front.agents)) ∙ as_many_merged i a b k.front.agents
-    ∙ as_many_counts k.front.agents in
-    record {
-    agents = let le = s.agents in omega arith;
-    limit = s.limit;
-    room = λ early. let le = mul-le-mul_right k.states fewer in let all = s.room early in omega arith;
-    weights = λ early. ap length rows ∙ rows_length (merged_weight k i a b) k.states _
-        ∙ ap (λ (n : ℕ). n * k.states) (sym (all_after m k is e lt i a b ab free_a free_b));
-    past_agents = s.past_agents ∙ sym as_many;
-    past_stages = s.past_stages;
-    past_room = s.past_room;
-  }
+      let as_many : length (merged_agents i a b k.front.agents) ≡ length k.front.agents =
+      sym (as_many_counts (merged_agents i a b k.front.agents)) ∙ as_many_merged i a b k.front.agents
+      ∙ as_many_counts k.front.agents in
+      record {
+        agents = let le = s.agents in omega arith;
+        limit = s.limit;
+        room = λ early. let le = mul-le-mul_right k.states fewer in let all = s.room early in omega arith;
+        weights = λ early. ap length rows ∙ rows_length (merged_weight k i a b) k.states _
+            ∙ ap (λ (n : ℕ). n * k.states) (sym (all_after m k is e lt i a b ab free_a free_b));
+        past_agents = s.past_agents ∙ sym as_many;
+        past_stages = s.past_stages;
+        past_room = s.past_room;
+      }

@@ -1,25 +1,23 @@
 -- The rows of all agents of a full front: a shared policy, which means what the front fixes.
-use Rattle.std.proofs.Common.{◌≡◌, ◌++◌, inl, inr, ℕ, zero, suc, ◌+◌, ◌*◌, ◌^◌, ◌<◌, ◌≤◌, List, [], ◌∷◌, map, length, get_or, refl, sym,
-    ap, ◌∙◌, subst, arith}
+use Rattle.std.proofs.Common.{◌≡◌, ◌++◌, inl, inr, ℕ, suc, ◌+◌, ◌*◌, ◌^◌, ◌<◌, ◌≤◌, List, [], ◌∷◌, length, get_or}
+use Rattle.std.proofs.Common.{refl, sym, ◌∙◌, subst, arith}
 use Rattle.std.proofs.lemmas.Bool.{cases_lt}
 use Rattle.dp_spec.specs.Front.{AgentFront}
 use Rattle.dp_spec.specs.FullPolicy.{full_policy, tree_doing, trees_doing_fixed}
 use Rattle.dp_spec.specs.JointNumbers.{product}
 use Rattle.dp_spec.specs.Model.{Model}
-use Rattle.dp_spec.specs.SharedPolicy.{AgentRows, AreAgentRows, AreRowsOfAgents, IsSharedOf, SharedPolicy, row_count,
-    row_counts, unfolded, unfolded_tree}
+use Rattle.dp_spec.specs.SharedPolicy.{AgentRows, AreAgentRows, AreRowsOfAgents, IsSharedOf, SharedPolicy, row_count}
+use Rattle.dp_spec.specs.SharedPolicy.{row_counts, unfolded, unfolded_tree}
 use Rattle.dp_spec.specs.SharedPolicy.AreRowsOfAgents.{no_agents, and_agent}
 use Rattle.dp_spec.specs.Steps.{root_agent}
-use Rattle.dp_spec.proofs.ModelLaws.{some_joint_observation}
 use Rattle.dp_cluster.specs.AgentParts.{OwnPart}
 use Rattle.dp_cluster.specs.FullRows.{AreFullRows}
 use Rattle.dp_cluster.specs.KeptFronts.{IsFrontOf, IsStored, KeptFront}
 use Rattle.dp_cluster.specs.PastClasses.{HasRowEachClass, PastClasses, no_classes, past_counts}
-use Rattle.dp_cluster.proofs.AdvancedParts.{factor_positive, read_front, read_seen}
+use Rattle.dp_cluster.proofs.AdvancedParts.{read_front, read_seen}
 use Rattle.dp_cluster.proofs.ChosenActions.{agents_of, seen_of}
 use Rattle.dp_cluster.proofs.ClassesBehind.{earlier_read, last_read}
 use Rattle.dp_cluster.proofs.FullFronts.{full_policy_is}
-use Rattle.dp_cluster.proofs.Pairs.{seen_product}
 
 -- ---- one agent
 
@@ -35,13 +33,6 @@ module _ (m : Model) (k : KeptFront) (is : IsFrontOf m k) (full : k.front.stage 
 
   pub some_stage : 0 < length p.front.fixed
   some_stage = let some = is.some_step in omega (arith, stages)
-
-  pub some_seen : 0 < p.observations
-  some_seen =
-      let seen_all : 0 < product m.observations = let e = seen_product m in
-      let o = some_joint_observation m is.model in omega arith in
-      let own = factor_positive m.observations i seen_all (let e = seen_of is.front.agents in omega arith) in
-      omega (arith, own_seen)
 
   pub agent_rows_full : (rows : AgentRows)
       → ((b : ℕ) → ((t x : ℕ) → t < length p.front.fixed → x < p.observations ^ t

@@ -6,6 +6,7 @@ pub mod JoinedFronts
 pub mod JoinedRows
 pub mod JoinedWeights
 pub mod KeptFronts
+pub mod KeyPairs
 pub mod AlikeClasses
 pub mod MergeFaults
 pub mod Modes
@@ -17,8 +18,10 @@ pub mod Pairs
 pub mod PastTrees
 pub mod Rewards
 pub mod StageRows
+pub mod OwnNumbers
 pub mod OwnPlaces
 pub mod OwnRuns
 pub mod RunsOfWeights
 pub mod WeightRows
+pub mod WideFronts
 pub mod Widening

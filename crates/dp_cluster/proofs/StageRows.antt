@@ -1,22 +1,22 @@
 -- The rows of the stages behind a front: they mean what is fixed, and there is one for each class.
-use Rattle.std.proofs.Common.{◌≡◌, inl, inr, ℕ, zero, suc, ◌+◌, ◌-◌, ◌*◌, ◌/◌, ◌%◌, ◌^◌, ◌<◌, ◌≤◌, List, [], ◌∷◌,
-    ◌++◌, map, length, get_or, drop, take, Option, append_assoc, refl, sym, ap, ◌∙◌, subst, arith}
+use Rattle.std.proofs.Common.{◌≡◌, inl, inr, ℕ, zero, suc, ◌+◌, ◌*◌, ◌/◌, ◌%◌, ◌^◌, ◌<◌, ◌≤◌, List, [], ◌∷◌, ◌++◌}
+use Rattle.std.proofs.Common.{map, length, get_or, drop, take, Option, append_assoc, refl, sym, ap, ◌∙◌, subst, arith}
 use Rattle.std.specs.List.{range_with_len}
 use Rattle.std.specs.declared.alloc.Global.{Global}
 use Rattle.std.specs.declared.rc.Rc.{Rc}
 use Rattle.std.proofs.Math.Nat.{pow-suc, pow-zero}
 use Rattle.std.proofs.lemmas.Bool.{cases_lt}
 use Rattle.std.proofs.lemmas.List.{append-nil, length-append}
-use Rattle.std.proofs.lemmas.List.FromFn.{get_or-map-range_with_len, length-map-range_with_len}
+use Rattle.std.proofs.lemmas.List.FromFn.{length-map-range_with_len}
 use Rattle.std.proofs.lemmas.Nat.{div-mul-add, mod-mul-add, mod_below}
 use Rattle.dp_spec.specs.FullPolicy.{tree_doing, tree_doing_after, trees_from}
-use Rattle.dp_spec.specs.PolicyTree.{PolicyTree, PolicyTrees, node, no_trees, more_trees}
-use Rattle.dp_spec.specs.SharedPolicy.{AgentRows, AreAgentRows, AreStages, IsRow, PolicyRow, first_count, next_count,
-    no_row, row_at, row_count, row_of_history, trees_of, unfolded_tree}
+use Rattle.dp_spec.specs.PolicyTree.{PolicyTree, node, no_trees, more_trees}
+use Rattle.dp_spec.specs.SharedPolicy.{AgentRows, AreAgentRows, AreStages, IsRow, PolicyRow, first_count, next_count}
+use Rattle.dp_spec.specs.SharedPolicy.{no_row, row_at, row_count, row_of_history, trees_of, unfolded_tree}
 use Rattle.dp_spec.proofs.JointNumberLaws.{part_below, positive_right, row_below}
 use Rattle.dp_cluster.specs.declared.part.PastStage.{PastStage}
-use Rattle.dp_cluster.specs.AgentParts.{ArePastStages, OwnPart, action_after, class_after, class_led_to, part_of,
-    past_classes}
+use Rattle.dp_cluster.specs.AgentParts.{ArePastStages, OwnPart, action_after, class_after, class_led_to, part_of}
+use Rattle.dp_cluster.specs.AgentParts.{past_classes}
 use Rattle.dp_cluster.specs.FullRows.{class_row, rows_before, stage_rows}
 use Rattle.dp_cluster.specs.PastClasses.{HasRowEachClass, PastClasses, no_classes}
 use Rattle.dp_cluster.proofs.ClassesBehind.{earlier_read, last_read}
@@ -97,7 +97,8 @@ row_means n act s ss (rows ∷ after) past done rest x lt =
     ap (λ (r : PolicyRow). node r.action (trees_of g r.next)) (row_read n s ss past n x lt)
     ∙ ap (λ (a : ℕ). node a (trees_of g (map (λ o. class_led_to s (c * n + o)) (range_with_len 0 n))))
     (sym (done.0 x lt))
-    ∙ ap (node (act (length ss) x)) (trees_of_nexts n g (λ o. class_led_to s (c * n + o)) ∙ trees_alike n (λ o. g (class_led_to s (c * n + o))) _ (λ o seen.
+    ∙ ap (node (act (length ss) x)) (trees_of_nexts n g (λ o. class_led_to s (c * n + o))
+    ∙ trees_alike n (λ o. g (class_led_to s (c * n + o))) _ (λ o seen.
     ap g (sym (leads_on n s ss past x o seen)) ∙ rest (x * n + o) (history_on n s ss past x o lt seen)))
 
 -- so the rows of all stages mean the tree that does what they do
@@ -186,8 +187,7 @@ stages_are b n act (s ∷ ss) after some past done below have rest =
     let rows = stage_rows n (next_count n after) s in
     let many = as_many_rows n s ss past (next_count n after) in
     stages_are b n act ss (rows ∷ after) some past.2 done.1 (λ t x early. below t x (omega arith))
-    (λ x lt next. let there = past.0 x lt in omega arith)
-    (
+    (λ x lt next. let there = past.0 x lt in omega arith) (
       let first = some_class n s ss some past in omega arith,
       stage_is b n act s ss after past done (λ x. below (length ss) x (omega arith)) have,
       rest,

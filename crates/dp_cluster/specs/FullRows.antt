@@ -26,8 +26,8 @@ abbrev pub rows_before : ℕ → List PastStage → AgentRows → AgentRows
 rows_before n [] after = after
 rows_before n (s ∷ ss) after = rows_before n ss (stage_rows n (next_count n after) s ∷ after)
 
--- These rows are those of agent i in the policy that a full front fixes: rows over the horizon, which mean the tree of
--- what is fixed, one for each class.
+-- These rows are those of agent i in the policy that a full front fixes: rows over the horizon, which mean the tree
+-- of what is fixed, one for each class.
 pub record AreFullRows (m : Model) (k : KeptFront) (i : ℕ) (rows : AgentRows) : Type 0 where
   pub agent : AreAgentRows (get_or m.actions i 0) (get_or m.observations i 0) k.horizon rows
   pub tree : unfolded_tree rows 0 ≡ tree_doing (get_or m.observations i 0)

@@ -1,6 +1,6 @@
 -- Fronts with the weights of their joint classes and what they have earned, and the models that they are fronts of.
-use Rattle.std.specs.Prelude.{ℕ, zero, suc, ◌+◌, ◌*◌, ◌^◌, ◌<◌, ◌≤◌, ◌≡◌, Bool, false, List, [], ◌∷◌, map, length,
-    get_or, Option, None, pos}
+use Rattle.std.specs.Prelude.{ℕ, zero, suc, ◌+◌, ◌*◌, ◌^◌, ◌<◌, ◌≤◌, ◌≡◌, Bool, false, List, [], ◌∷◌, map, length}
+use Rattle.std.specs.Prelude.{get_or, Option, None, pos}
 use Rattle.dp_spec.specs.declared.span.Span.{Span}
 use Rattle.dp_spec.specs.Arithmetic.{arithmetic, point}
 use Rattle.dp_spec.specs.Front.{AgentFront, Front, class_counts, fixed_joint_action}

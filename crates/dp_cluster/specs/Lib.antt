@@ -5,6 +5,7 @@ pub mod FullRows
 pub mod Joins
 pub mod KeepingPolicies
 pub mod KeptFronts
+pub mod Keys
 pub mod Merging
 pub mod OwnPlaces
 pub mod OwnWeights

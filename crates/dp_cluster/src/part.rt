@@ -1,6 +1,6 @@
 // One agent's part of a front.
-ghost use Rattle.std.specs.Prelude.{◌≡◌, ◌<◌, ◌≤◌, ◌+◌, ◌-◌, ◌*◌, ◌^◌, [], ◌∷◌, ◌++◌, ℕ, List, drop, map,
-    length, get_or, set, None, Some, IfOk};
+ghost use Rattle.std.specs.Prelude.{◌≡◌, ◌<◌, ◌≤◌, ◌+◌, ◌-◌, ◌*◌, ◌^◌, [], ◌∷◌, ◌++◌, ℕ, List, drop, map, length};
+ghost use Rattle.std.specs.Prelude.{get_or, set, true, false, None, Some, IfOk};
 ghost use Rattle.std.specs.List.{range_with_len};
 ghost use Rattle.dp_spec.specs.Front.{AgentFront};
 ghost use Rattle.dp_spec.specs.Steps.{all_chosen, advanced_agent};
@@ -8,9 +8,11 @@ ghost use Rattle.dp_spec.specs.Merge.{merged_agent, renumbered, kept_class};
 ghost use Rattle.dp_spec.specs.FullPolicy.{tree_doing, tree_doing_after};
 ghost use Rattle.dp_spec.specs.SharedPolicy.{AgentRows, AreAgentRows, next_count, unfolded_tree};
 ghost use Rattle.dp_policy.specs.TreeValue.{policy_tree};
-ghost use Rattle.dp_cluster.specs.AgentParts.{AreMergedStages, ArePastStages, IsReached, action_after, class_after,
-    class_led_to, root_part};
+ghost use Rattle.dp_cluster.specs.AgentParts.{AreMergedStages, ArePastStages, HasMembers, HaveNoLinks, IsReached};
+ghost use Rattle.dp_cluster.specs.AgentParts.{action_after, class_after};
+ghost use Rattle.dp_cluster.specs.AgentParts.{class_led_to, root_part};
 ghost use Rattle.dp_cluster.specs.FullRows.{rows_before, stage_rows};
+ghost use Rattle.dp_cluster.specs.Keys.{HasOwnNumbers, HasSharedClass};
 ghost use Rattle.dp_cluster.specs.PastClasses.{HasRowEachClass, classes_of, no_classes};
 
 use crate::shared::shared;
@@ -134,9 +136,7 @@ impl AgentPart {
     pub(crate) fn advanced(&self, alloc: Global) -> Result<AgentPart, Memory>
         requires classes { (x : ℕ) → x < self.now.observations ^ length self.now.front.fixed →
             get_or self.now.front.class_of x 0 < length self.now.front.chosen }
-        requires members { (c : ℕ) → c < length self.now.front.chosen →
-            (x : ℕ) × (x < self.now.observations ^ length self.now.front.fixed) ×
-            (get_or self.now.front.class_of x 0 ≡ c) }
+        requires members { HasMembers self.now }
         requires room { length self.now.front.chosen * self.now.observations < 2 ^ 32 }
         ensures { IfOk result (λ p. p ≡ record self.now {
           front = advanced_agent self.now.observations (length self.now.front.fixed) self.now.front;
@@ -187,10 +187,35 @@ impl AgentPart {
         rows_of(alloc, self.observations, past)
     }
 
+    // The action that is fixed at a stage for a class that the agent had there.
+    pub(crate) fn fixed(&self, stage: u32, class: u32) -> u32
+        requires stage { stage < length self.now.front.fixed }
+        requires class { (x : ℕ) × (x < self.now.observations ^ stage) ×
+            (get_or (get_or self.now.past stage no_classes).class_of x 0 ≡ class) }
+        ensures { (x : ℕ) → x < self.now.observations ^ stage →
+            get_or (get_or self.now.past stage no_classes).class_of x 0 ≡ class →
+            result ≡ get_or (get_or self.now.front.fixed stage []) x 0 }
+    {
+        let past: &[Rc<PastStage>] = &self.past;
+        let kept = past[past.len() - 1 - stage as usize].as_ref();
+        kept.actions[class as usize]
+    }
+
+    // Whether each own history has its own number for its class: no classes were joined.
+    pub(crate) fn has_own_numbers(&self) -> bool
+        requires { 0 < self.now.observations }
+        ensures yes { result ≡ true → HasOwnNumbers self.now }
+        ensures no { result ≡ false → HasSharedClass self.now }
+    {
+        let past: &[Rc<PastStage>] = &self.past;
+        have_no_links(past)
+    }
+
     // The part after class `second` was joined into class `first`.
     pub(crate) fn merged(&self, alloc: Global, first: u32, second: u32) -> Result<AgentPart, Memory>
         requires order { first < second }
         requires second { second < length self.now.front.chosen }
+        requires members { HasMembers self.now }
         ensures { IfOk result (λ p. p ≡ record self.now { front = merged_agent first second self.now.front }) }
     {
         let mut chosen = Vec::new(alloc);
@@ -410,4 +435,17 @@ fn next_count(after: usize, observations: u32) -> u32
     ensures limit { result ≤ observations }
 {
     if after == 0 { 0 } else { observations }
+}
+
+// Whether no stage has links.
+fn have_no_links(past: &[Rc<PastStage>]) -> bool
+    ensures yes { result ≡ true → HaveNoLinks (map (λ s. s.value) past.now) }
+    ensures no { result ≡ false → ¬ HaveNoLinks (map (λ s. s.value) past.now) }
+{
+    for stage in past {
+        if !stage.as_ref().links.is_empty() {
+            return false;
+        }
+    }
+    true
 }

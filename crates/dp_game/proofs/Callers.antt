@@ -1,6 +1,25 @@
 -- What a caller that knows the front of a game has to show for a choice.
-use Rattle.std.proofs.Common.{◌≡◌, ◌<◌, inl, inr, ℕ, zero, suc, List, [], ◌∷◌, length, get_or, Option, None, Some,
-    sym, ◌∙◌, subst, arith}
+use Rattle.std.proofs.Common.{
+  ◌≡◌,
+  ◌<◌,
+  inl,
+  inr,
+  ℕ,
+  zero,
+  suc,
+  List,
+  [],
+  ◌∷◌,
+  length,
+  get_or,
+  Option,
+  None,
+  Some,
+  sym,
+  ◌∙◌,
+  subst,
+  arith,
+}
 use Rattle.std.proofs.lemmas.Bool.{cases_lt}
 use Rattle.std.proofs.lemmas.List.{get_or_past}
 use Rattle.dp_spec.specs.Front.{AgentFront, Front}

@@ -108,14 +108,7 @@ fn push_class(
         &scratch.classes,
         &mut scratch.weights,
     )?;
-    push_row(
-        model,
-        front.stage(),
-        bounder,
-        &scratch.weights,
-        room,
-        table,
-    )?;
+    push_row(model, front.stage(), bounder, &scratch.weights, room, table)?;
     Ok(())
 }
 

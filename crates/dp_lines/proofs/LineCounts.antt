@@ -1,27 +1,6 @@
 -- How many numbers a line has.
-use Rattle.std.proofs.Common.{
-  ◌≡◌,
-  ℕ,
-  suc,
-  ◌+◌,
-  ◌≤◌,
-  Bool,
-  true,
-  false,
-  subst,
-  List,
-  [],
-  ◌∷◌,
-  length,
-  get_or,
-  map,
-  Ok,
-  refl,
-  sym,
-  ap,
-  ◌∙◌,
-  arith,
-}
+use Rattle.std.proofs.Common.{◌≡◌, ℕ, suc, ◌+◌, ◌≤◌, Bool, true, false, subst, List, [], ◌∷◌, length, get_or, map, Ok}
+use Rattle.std.proofs.Common.{refl, sym, ap, ◌∙◌, arith}
 use Rattle.std.specs.Prelude.{ℤ, pos, unsigned_abs, Option, Some, None}
 use Rattle.std.proofs.lemmas.List.{length-append}
 use Rattle.dp_spec.specs.TextLines.{Item, fixed, plain, signed}

@@ -1,27 +1,6 @@
 -- Parts of texts, one after the other.
-use Rattle.std.proofs.Common.{
-  ◌≡◌,
-  ℕ,
-  suc,
-  ◌+◌,
-  ◌<◌,
-  List,
-  [],
-  ◌∷◌,
-  ◌++◌,
-  length,
-  Result,
-  Ok,
-  Err,
-  refl,
-  sym,
-  ap,
-  subst,
-  ◌∙◌,
-  add-one,
-  append_assoc,
-  arith,
-}
+use Rattle.std.proofs.Common.{◌≡◌, ℕ, suc, ◌+◌, ◌<◌, List, [], ◌∷◌, ◌++◌, length, Result, Ok, Err, refl, sym, ap}
+use Rattle.std.proofs.Common.{subst, ◌∙◌, add-one, append_assoc, arith}
 use Rattle.std.specs.Prelude.{ℤ, Option, Some, None}
 use Rattle.dp_spec.specs.TextLines.{Item}
 use Rattle.dp_lines.specs.declared.why.FileWhy.{FileWhy}

@@ -10,15 +10,8 @@ use Rattle.dp_lines.specs.Grammar.{ends, ◌>>=◌}
 use Rattle.dp_lines.proofs.ProperTexts.{words_proper, numbers_proper, replicate_items, unless_proper}
 use Rattle.dp_lines.proofs.OneAnswer.{IsProper, IsProper-bind}
 use Rattle.dp_lines.specs.Steps.{the_words, the_numbers, unless_passed, first_plain}
-use Rattle.dp_policy.specs.PolicyGrammar.{
-  PolicyActions,
-  stage_rows,
-  agent_words,
-  agent_rows,
-  title_words,
-  end_words,
-  policy_grammar,
-}
+use Rattle.dp_policy.specs.PolicyGrammar.{PolicyActions, stage_rows, agent_words, agent_rows, title_words, end_words}
+use Rattle.dp_policy.specs.PolicyGrammar.{policy_grammar}
 use Rattle.dp_policy.proofs.AgentParts.{agent_words_are}
 use Rattle.dp_policy.proofs.PolicyParts.{behind_title, behind_horizon, behind_limits, behind_agents}
 

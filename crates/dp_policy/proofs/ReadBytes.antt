@@ -1,31 +1,6 @@
 -- Bytes that say a policy are the bytes that are written of it.
-use Rattle.std.proofs.Common.{
-  ◌≡◌,
-  ℕ,
-  zero,
-  suc,
-  ◌+◌,
-  ◌-◌,
-  ◌^◌,
-  ◌<◌,
-  true,
-  List,
-  [],
-  ◌∷◌,
-  ◌++◌,
-  length,
-  map,
-  Result,
-  Ok,
-  Err,
-  refl,
-  sym,
-  ap,
-  subst,
-  ◌∙◌,
-  append_assoc,
-  arith,
-}
+use Rattle.std.proofs.Common.{◌≡◌, ℕ, zero, suc, ◌+◌, ◌-◌, ◌^◌, ◌<◌, true, List, [], ◌∷◌, ◌++◌, length, map, Result}
+use Rattle.std.proofs.Common.{Ok, Err, refl, sym, ap, subst, ◌∙◌, append_assoc, arith}
 use Rattle.std.specs.Prelude.{ℤ, pos, negsuc, Option, Some, None, replicate, codes, decimal, unsigned_abs}
 use Rattle.std.specs.List.{join_with_byte}
 use Rattle.dp_lines.specs.Grammar.{IsText, Grammar, ends, ◌>>=◌, nth_form, Fault, bad}
@@ -45,15 +20,8 @@ use Rattle.dp_lines.proofs.LineAnswers.{words_have_items, spelled_words}
 use Rattle.dp_lines.proofs.OneAnswer.{read_answer, one_answer}
 use Rattle.dp_lines.proofs.WrittenLines.{says-line_text, typed_allowed, all_joined}
 use Rattle.dp_lines.specs.Steps.{the_words, the_numbers, unless_passed, first_plain}
-use Rattle.dp_policy.specs.PolicyGrammar.{
-  PolicyActions,
-  stage_rows,
-  agent_words,
-  agent_rows,
-  title_words,
-  end_words,
-  policy_grammar,
-}
+use Rattle.dp_policy.specs.PolicyGrammar.{PolicyActions, stage_rows, agent_words, agent_rows, title_words, end_words}
+use Rattle.dp_policy.specs.PolicyGrammar.{policy_grammar}
 use Rattle.dp_policy.specs.PolicyBytes.{row_bytes, rows_bytes, agents_bytes, policy_bytes}
 use Rattle.dp_lines.specs.Reading.{rest_at}
 use Rattle.dp_policy.proofs.AgentParts.{agent_words_are}

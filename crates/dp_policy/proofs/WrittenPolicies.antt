@@ -1,28 +1,6 @@
 -- The text of a joint policy says its actions.
-use Rattle.std.proofs.Common.{
-  ◌≡◌,
-  ℕ,
-  zero,
-  suc,
-  ◌+◌,
-  ◌-◌,
-  ◌^◌,
-  ◌<◌,
-  List,
-  [],
-  ◌∷◌,
-  ◌++◌,
-  length,
-  map,
-  Ok,
-  refl,
-  sym,
-  ap,
-  subst,
-  ◌∙◌,
-  append_assoc,
-  arith,
-}
+use Rattle.std.proofs.Common.{◌≡◌, ℕ, zero, suc, ◌+◌, ◌-◌, ◌^◌, ◌<◌, List, [], ◌∷◌, ◌++◌, length, map, Ok, refl, sym}
+use Rattle.std.proofs.Common.{ap, subst, ◌∙◌, append_assoc, arith}
 use Rattle.std.specs.Prelude.{ℤ, pos, codes}
 use Rattle.std.specs.Fmt.{digits}
 use Rattle.std.specs.List.{range_with_len}
@@ -33,19 +11,8 @@ use Rattle.dp_policy.specs.PolicyAnswers.{PassesNone}
 use Rattle.dp_spec.specs.PolicyTree.{PolicyTree, IsJointPolicy}
 use Rattle.dp_spec.specs.PolicyTree.IsJointPolicy.{and_agent, no_agents}
 use Rattle.dp_spec.specs.TextLines.{Item, Line, fixed_line, text_of_lines, line_text, Allows, AllAllowed}
-use Rattle.dp_spec.specs.PolicyText.{
-  title_form,
-  horizon_form,
-  horizon_line,
-  agent_form,
-  row_form,
-  row_line,
-  policy_rows,
-  agent_lines,
-  end_form,
-  policy_text,
-  IsPolicyText,
-}
+use Rattle.dp_spec.specs.PolicyText.{title_form, horizon_form, horizon_line, agent_form, row_form, row_line}
+use Rattle.dp_spec.specs.PolicyText.{policy_rows, agent_lines, end_form, policy_text, IsPolicyText}
 use Rattle.dp_spec.proofs.TextLemmas.{text_of_lines-append}
 use Rattle.dp_laws.proofs.WholeTexts.{AllAllowed-parts}
 use Rattle.dp_model.specs.declared.limit.TooLarge.{TooLarge}

@@ -1,24 +1,6 @@
 //! Policy texts read.
-ghost use Rattle.std.specs.Prelude.{
-  ◌≡◌,
-  ℕ,
-  List,
-  [],
-  ◌∷◌,
-  ◌+◌,
-  ◌-◌,
-  ◌*◌,
-  ◌^◌,
-  ◌<◌,
-  ◌≤◌,
-  length,
-  map,
-  pos,
-  slice_index,
-  Ok,
-  IfOk,
-  IfErr,
-};
+ghost use Rattle.std.specs.Prelude.{◌≡◌, ℕ, List, [], ◌∷◌, ◌+◌, ◌-◌, ◌*◌, ◌^◌, ◌<◌, ◌≤◌, length, map, pos};
+ghost use Rattle.std.specs.Prelude.{slice_index, Ok, IfOk, IfErr};
 ghost use Rattle.std.specs.List.{join_with_byte};
 ghost use Rattle.dp_spec.specs.Mode.{IsWithinLimits};
 ghost use Rattle.dp_policy.specs.declared.fault.PolicyFault.TheVariants.{Memory};

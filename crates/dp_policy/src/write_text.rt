@@ -1,24 +1,6 @@
 //! Policy texts written.
-ghost use Rattle.std.specs.Prelude.{
-  ◌≡◌,
-  ℕ,
-  List,
-  ◌++◌,
-  ◌∷◌,
-  [],
-  ◌<◌,
-  ◌≤◌,
-  ◌^◌,
-  true,
-  false,
-  codes,
-  decimal,
-  IfOk,
-  OnOk,
-  Ok,
-  length,
-  map,
-};
+ghost use Rattle.std.specs.Prelude.{◌≡◌, ℕ, List, ◌++◌, ◌∷◌, [], ◌<◌, ◌≤◌, ◌^◌, true, false, codes, decimal, IfOk};
+ghost use Rattle.std.specs.Prelude.{OnOk, Ok, length, map};
 ghost use Rattle.std.specs.List.{range_with_len};
 ghost use Rattle.dp_spec.specs.Model.{Model, IsModel};
 ghost use Rattle.dp_spec.specs.PolicyText.{policy_text};

@@ -9,8 +9,8 @@ use Rattle.dp_spec.specs.Arithmetic.{arithmetic}
 use Rattle.dp_spec.specs.Calls.{calls_in}
 use Rattle.dp_spec.specs.Sizes.{AreWeights, CanUpdateWeights, CanReward}
 use Rattle.dp_spec.specs.SizesOfLookAhead.{CanLookAhead}
-use Rattle.dp_laws.proofs.SizeLaws.{arithmetic_is_exact, mode_can_look_ahead, mode_can_update_weights,
-    mode_can_reward}
+use Rattle.dp_laws.proofs.SizeLaws.{arithmetic_is_exact, mode_can_look_ahead, mode_can_update_weights}
+use Rattle.dp_laws.proofs.SizeLaws.{mode_can_reward}
 use Rattle.dp_laws.proofs.ScaledWeights.{scaled_spans_action_look_ahead, scaled_spans_look_ahead}
 use Rattle.dp_laws.proofs.Zeros.{mode_keeps_zero}
 use Rattle.dp_mdp.specs.TableRows.{IsTable}

@@ -1,10 +1,32 @@
 -- Look-ahead from a multiple of weights.
-use Rattle.std.proofs.Common.{◌≡◌, ℕ, suc, ◌-◌, ◌*◌, ◌^◌, ◌<◌, ◌≤◌, Bool, true, false, ℤ, pos, ◌*ℤ◌, ◌≤ℤ◌, List,
-    length, unsigned_abs, refl, sym, ap, ◌∙◌, subst, arith}
+use Rattle.std.proofs.Common.{
+  ◌≡◌,
+  ℕ,
+  suc,
+  ◌*◌,
+  ◌^◌,
+  ◌<◌,
+  ◌≤◌,
+  Bool,
+  true,
+  false,
+  ℤ,
+  pos,
+  ◌*ℤ◌,
+  ◌≤ℤ◌,
+  List,
+  length,
+  unsigned_abs,
+  refl,
+  sym,
+  ap,
+  ◌∙◌,
+  subst,
+  arith,
+}
 use Rattle.std.proofs.Math.IntN.{*ℤ-zero}
 use Rattle.std.proofs.lemmas.Int.{ints, unsigned_abs-mul}
 use Rattle.dp_spec.specs.declared.span.Span.{Span}
-use Rattle.dp_base.specs.Sums.{nat_sum}
 use Rattle.dp_base.proofs.NaturalSumLaws.{nat_sum_at, nat_sum_le}
 use Rattle.dp_base.proofs.Order.{equal_of_le, le_of_mul_le_left}
 use Rattle.dp_spec.specs.Arithmetic.{Arithmetic, point}

@@ -1,6 +1,29 @@
 -- Rows of look-ahead from weights, by those of weights of which they are a multiple.
-use Rattle.std.proofs.Common.{◌≡◌, ℕ, suc, ◌+◌, ◌-◌, ◌^◌, ◌<◌, ◌≤◌, Bool, true, false, ℤ, pos, ◌*ℤ◌, List, map, length,
-    get_or, unsigned_abs, refl, sym, ap, ◌∙◌, subst, arith}
+use Rattle.std.proofs.Common.{
+  ◌≡◌,
+  ℕ,
+  suc,
+  ◌-◌,
+  ◌^◌,
+  ◌<◌,
+  Bool,
+  true,
+  false,
+  ℤ,
+  pos,
+  ◌*ℤ◌,
+  List,
+  map,
+  length,
+  get_or,
+  unsigned_abs,
+  refl,
+  sym,
+  ap,
+  ◌∙◌,
+  subst,
+  arith,
+}
 use Rattle.std.specs.List.{range_with_len}
 use Rattle.std.proofs.lemmas.List.{get_or-map, length-map, same_lists}
 use Rattle.std.proofs.lemmas.List.FromFn.{get_or-map-range_with_len, length-map-range_with_len}

@@ -1,11 +1,8 @@
 -- Weights that are a multiple of others. (Own.)
-use Rattle.std.specs.Prelude.{ℕ, ◌<◌, ◌≡◌, ℤ, pos, ◌*ℤ◌, ◌≤ℤ◌, List, length, unsigned_abs}
+use Rattle.std.specs.Prelude.{ℕ, ◌<◌, ◌≡◌, pos, ◌*ℤ◌, ◌≤ℤ◌, List, length, unsigned_abs}
 use Rattle.std.specs.Int.{◌∣◌}
 use Rattle.dp_spec.specs.declared.span.Span.{Span}
-use Rattle.dp_spec.specs.Arithmetic.{Arithmetic, point}
 use Rattle.dp_spec.specs.Calls.{IsPoint}
-use Rattle.dp_spec.specs.Model.{Model}
-use Rattle.dp_spec.specs.Quantities.{action_look_ahead_in, look_ahead_in}
 use Rattle.dp_pomdp.specs.Looking.{weights_of}
 
 -- each weight is one number, from 0

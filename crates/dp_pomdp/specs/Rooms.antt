@@ -11,8 +11,8 @@ pub record KeptRoom : Type 0 where
   pub looks : List KeptLook
   pub rows : List KeptLook
 
--- It is room for looks of at most so many steps over the states of a model, in the arithmetic of a mode: what it keeps
--- are look-aheads.
+-- It is room for looks of at most so many steps over the states of a model, in the arithmetic of a mode: what it
+-- keeps are look-aheads.
 pub record IsRoomFor (e : Bool) (m : Model) (look : ℕ) (room : KeptRoom) : Type 0 where
   pub long : look * m.states ≤ room.buffers
   pub looks : AreKept (look_of (arithmetic e m.scales) m) room.looks

@@ -175,7 +175,8 @@ impl LookRoom {
         requires weights { AreWeights fit.exact model.now.model t (weights_of weights.now) }
         ensures is { IfOk result (λ _. row.new.items ≡ row.old.items
             ++ map (λ a. action_look_ahead_in (arithmetic fit.exact model.now.model.scales) model.now.model
-            (fit.horizon - t - 1) (weights_of weights.now) a look) (range_with_len 0 (joint_actions model.now.model))) }
+            (fit.horizon - t - 1) (weights_of weights.now) a look)
+            (range_with_len 0 (joint_actions model.now.model))) }
         ensures room { IsRoomFor fit.exact model.now.model look self.new }
     {
         model.invariant();

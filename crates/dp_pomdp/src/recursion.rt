@@ -1,5 +1,20 @@
 //! Look-ahead.
-ghost use Rattle.std.specs.Prelude.{◌≡◌, ◌-◌, ◌*◌, ◌++◌, ◌<◌, ◌≤◌, map, length, suc, unsigned_abs, ◌*ℤ◌, ◌^◌, IfOk, IfSome};
+ghost use Rattle.std.specs.Prelude.{
+  ◌≡◌,
+  ◌-◌,
+  ◌*◌,
+  ◌*ℤ◌,
+  ◌++◌,
+  ◌^◌,
+  ◌<◌,
+  ◌≤◌,
+  map,
+  length,
+  suc,
+  unsigned_abs,
+  IfOk,
+  IfSome,
+};
 ghost use Rattle.std.specs.List.{range_with_len};
 ghost use Rattle.dp_spec.specs.Arithmetic.{Arithmetic};
 ghost use Rattle.dp_spec.specs.Model.{Model as PlainModel, joint_actions};

@@ -1,23 +1,6 @@
 // Rows of look-ahead: what can be earned from weights by each joint action.
-ghost use Rattle.std.specs.Prelude.{
-  ◌≡◌,
-  ℤ,
-  ◌*◌,
-  ◌-◌,
-  ◌+◌,
-  ◌++◌,
-  ◌^◌,
-  ◌<◌,
-  ◌≤◌,
-  ◌*ℤ◌,
-  ℕ,
-  get_or,
-  pos,
-  map,
-  length,
-  unsigned_abs,
-  IfOk,
-};
+ghost use Rattle.std.specs.Prelude.{◌≡◌, ℤ, ◌*◌, ◌-◌, ◌+◌, ◌++◌, ◌^◌, ◌<◌, ◌≤◌, ◌*ℤ◌, ℕ, get_or, pos, map, length};
+ghost use Rattle.std.specs.Prelude.{unsigned_abs, IfOk};
 ghost use Rattle.std.specs.List.{range_with_len};
 ghost use Rattle.dp_spec.specs.Arithmetic.{arithmetic};
 ghost use Rattle.dp_spec.specs.Mode.{IsTrueFit};

@@ -8,7 +8,6 @@ pub mod FrontSteps
 pub mod UpperWeights
 pub mod SpreadSteps
 pub mod PlaceLists
-pub mod WideNodes
 pub mod VersionPolicies
 pub mod UnfinishedFronts
 pub mod BranchPlaces

@@ -1,22 +1,6 @@
 //! The step that is made at a front, with the fronts after it and their bounds.
-ghost use Rattle.std.specs.Prelude.{
-  ◌≡◌,
-  ◌<◌,
-  ◌∷◌,
-  [],
-  ℕ,
-  true,
-  false,
-  All,
-  None,
-  length,
-  map,
-  get_or,
-  slice_index,
-  IfOk,
-  IfSome,
-  OnOk,
-};
+ghost use Rattle.std.specs.Prelude.{◌≡◌, ◌<◌, ◌∷◌, [], ℕ, true, false, All, None, length, map, get_or, slice_index};
+ghost use Rattle.std.specs.Prelude.{IfOk, IfSome, OnOk};
 ghost use Rattle.std.specs.List.{range_with_len};
 ghost use Rattle.dp_spec.specs.Front.{Front as PlainFront};
 ghost use Rattle.dp_spec.specs.Merge.{merged_front};

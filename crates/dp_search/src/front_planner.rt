@@ -11,7 +11,6 @@ use crate::options::PlanOpts;
 use crate::place::Place;
 use crate::planner::{Child, Expanded, Planner};
 use crate::policies::{constant_of_version, full_of_version, policy_worth};
-use crate::wide::is_wide;
 use dp_base::Memory;
 use dp_cluster::Front;
 use dp_game::Bounder;
@@ -110,7 +109,7 @@ impl<'a, F: Fn(&[Place]) -> usize> Planner for FrontPlanner<'a, F> {
     }
 
     fn is_wide(&self, above: u32, front: &Front) -> bool {
-        is_wide(self.model, front, above)
+        front.is_wide(self.model, above)
     }
 
     fn policy(&self, alloc: Global, front: &Front) -> Result<Shared, Memory> {

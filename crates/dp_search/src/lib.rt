@@ -23,7 +23,6 @@ mod search;
 mod state;
 #[cfg(test)]
 mod tests;
-mod wide;
 
 pub use chooser::Chooser;
 pub use front_places::places;

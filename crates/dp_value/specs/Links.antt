@@ -1,22 +1,6 @@
 -- Which states follow which by a chance above 0, as lists that are made once.
-use Rattle.std.specs.Prelude.{
-  ℕ,
-  zero,
-  suc,
-  ◌<◌,
-  ◌≡◌,
-  ◌==◌,
-  cond,
-  Bool,
-  true,
-  false,
-  List,
-  [],
-  ◌∷◌,
-  ◌++◌,
-  length,
-  get_or,
-}
+use Rattle.std.specs.Prelude.{ℕ, zero, suc, ◌<◌, ◌≡◌, ◌==◌, cond, Bool, true, false, List, [], ◌∷◌, ◌++◌, length}
+use Rattle.std.specs.Prelude.{get_or}
 use Rattle.dp_spec.specs.Model.{Model, joint_actions, trans_at}
 
 -- those of the first n numbers of which f is not 0, in order

@@ -37,7 +37,9 @@ EachReads (f ∷ fs) = ReadsOptions f × EachReads fs
 
 -- one entry for each command of the table
 commands_read : EachReads commands
-commands_read = (λ v off files. refl, (λ v off files. refl, (λ v off files. refl, tt)))
+commands_read =
+    (λ v off files. refl, (λ v off files. refl, (λ v off files. refl,
+        (λ v off files. refl, (λ v off files. refl, tt)))))
 
 found_same : (fs : List CommandRow) → EachReads fs
     → (v : Values) (off : Bool) (files : List Text) (p : CommandRow → Bool)

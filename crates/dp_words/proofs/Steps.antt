@@ -80,7 +80,16 @@ required (m ∷ ms) v n is all =
 commands_have : (v : Values) → Each (holds v) options → EachHas v commands
 commands_have v allowed = (
   (λ off files ok. (at_least_one off files ok, looks, one_or_two _ version.0 version.1)),
-  (λ off files ok. (tt, tt, tt), (λ off files ok. (tt, tt, tt), tt)),
+  (
+    λ off files ok. (tt, tt, tt),
+    (
+      λ off files ok. (tt, tt, tt),
+      (
+        λ off files ok. (tt, tt, tt),
+        (λ off files ok. (tt, tt, tt), tt),
+      ),
+    ),
+  ),
 )
   where
     at_least_one : (off : Bool) (files : List Text) → fits plan_row.options plan_row.required v off ≡ true

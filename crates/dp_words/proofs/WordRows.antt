@@ -2,7 +2,7 @@
 use Rattle.std.proofs.Common.{◌≡◌, ℕ, true, false, [], ◌∷◌, Option, Some, None, codes, refl}
 use Rattle.dp_base.specs.DecimalShape.{is_index}
 use Rattle.dp_words.specs.declared.job.Job.{Job}
-use Rattle.dp_words.specs.declared.job.Job.TheVariants.{Plan, Value}
+use Rattle.dp_words.specs.declared.job.Job.TheVariants.{Plan, Show, Sim, Value}
 use Rattle.dp_words.specs.declared.job.OrderWord.TheVariants.{First, Heavy}
 use Rattle.dp_words.specs.Line.{Text}
 use Rattle.dp_words.specs.Words.{job_of}
@@ -133,6 +133,46 @@ two_files = refl
 
 no_words : job_of [] ≡ None
 no_words = refl
+
+-- ---- the other files of a certificate
+
+shown : job_of (codes "show" ∷ codes "m" ∷ codes "c" ∷ [])
+    ≡ Some (Show (record { model = codes "m"; cert = codes "c" }))
+shown = refl
+
+shown_with_a_seed : job_of (codes "show" ∷ codes "m" ∷ codes "c" ∷ codes "--seed=1" ∷ []) ≡ None
+unfolding is_index
+shown_with_a_seed = refl
+
+abbrev sim : ℕ → ℕ → Option Job
+sim seed episodes =
+    Some (Sim (record { model = codes "m"; cert = codes "c"; seed = seed; episodes = episodes }))
+
+one_episode : job_of (codes "sim" ∷ codes "m" ∷ codes "c" ∷ codes "--seed" ∷ codes "0" ∷ []) ≡ sim 0 1
+unfolding is_index
+one_episode = refl
+
+many_episodes : job_of (codes "sim" ∷ codes "--episodes=10000" ∷ codes "m" ∷ codes "c"
+    ∷ codes "--seed=18446744073709551615" ∷ []) ≡ sim 18446744073709551615 10000
+unfolding is_index
+many_episodes = refl
+
+no_seed : job_of (codes "sim" ∷ codes "m" ∷ codes "c" ∷ codes "--episodes=1" ∷ []) ≡ None
+unfolding is_index
+no_seed = refl
+
+no_episode : job_of (codes "sim" ∷ codes "m" ∷ codes "c" ∷ codes "--seed=1" ∷ codes "--episodes=0" ∷ []) ≡ None
+unfolding is_index
+no_episode = refl
+
+too_many_episodes : job_of (codes "sim" ∷ codes "m" ∷ codes "c" ∷ codes "--seed=1" ∷ codes "--episodes=10001" ∷ [])
+    ≡ None
+unfolding is_index
+too_many_episodes = refl
+
+seed_past_the_last : job_of (codes "sim" ∷ codes "m" ∷ codes "c" ∷ codes "--seed=18446744073709551616" ∷ []) ≡ None
+unfolding is_index
+seed_past_the_last = refl
 
 -- ---- numbers
 

@@ -9,7 +9,7 @@ use Rattle.std.specs.List.{starts_with, list_all, list_any}
 use Rattle.dp_base.specs.DecimalShape.{is_index}
 use Rattle.dp_words.specs.Line.{Given, Text, is_given, is_well_given, may_be_value, options_of, plain_of, value_in}
 use Rattle.dp_words.specs.declared.job.Job.{Job}
-use Rattle.dp_words.specs.declared.job.Job.TheVariants.{Check, Plan, Value}
+use Rattle.dp_words.specs.declared.job.Job.TheVariants.{Check, Plan, Show, Sim, Value}
 use Rattle.dp_words.specs.declared.job.OrderWord.{OrderWord}
 use Rattle.dp_words.specs.declared.job.OrderWord.TheVariants.{First, Heavy, Spread}
 use Rattle.dp_words.specs.declared.job.WordFault.{WordFault}
@@ -61,9 +61,15 @@ look = setting (codes "look") 1 16 (Some 1)
 abbrev pub cert : Setting
 cert = setting (codes "cert") 1 2 (Some 1)
 
+abbrev pub seed : Setting
+seed = setting (codes "seed") 0 (2 ^ 64 - 1) None
+
+abbrev pub episodes : Setting
+episodes = setting (codes "episodes") 1 10000 (Some 1)
+
 -- the options whose values are numbers
 abbrev pub settings : List Setting
-settings = horizon ∷ nodes ∷ look ∷ cert ∷ []
+settings = horizon ∷ nodes ∷ look ∷ cert ∷ seed ∷ episodes ∷ []
 
 -- a row of the table of options: the name of an option that takes a value, and which texts may be it
 pub record OptionRow : Type 0 where
@@ -152,9 +158,23 @@ value_row = command_row (codes "value") 2 [] [] (λ read file. Value
 abbrev pub check_row : CommandRow
 check_row = command_row (codes "check") 2 [] [] (λ read file. Check (record { model = file 0; cert = file 1 }))
 
+-- `show MODEL CERT`
+abbrev pub show_row : CommandRow
+show_row = command_row (codes "show") 2 [] [] (λ read file. Show (record { model = file 0; cert = file 1 }))
+
+-- `sim MODEL CERT`
+abbrev pub sim_row : CommandRow
+sim_row = command_row (codes "sim") 2 (codes "seed" ∷ codes "episodes" ∷ []) (codes "seed" ∷ [])
+    (λ read file. Sim (record {
+      model = file 0;
+      cert = file 1;
+      seed = read.number seed;
+      episodes = read.number episodes;
+    }))
+
 -- the table of commands
 abbrev pub commands : List CommandRow
-commands = plan_row ∷ value_row ∷ check_row ∷ []
+commands = plan_row ∷ value_row ∷ check_row ∷ show_row ∷ sim_row ∷ []
 
 -- ---- the job
 
@@ -210,15 +230,21 @@ abbrev pub HasSomeStep : Job → Type 0
 HasSomeStep (Plan job) = 1 ≤ job.horizon
 HasSomeStep (Value job) = Unit {0}
 HasSomeStep (Check job) = Unit {0}
+HasSomeStep (Show job) = Unit {0}
+HasSomeStep (Sim job) = Unit {0}
 
 -- the look of a plan is from 1 to 16
 abbrev pub HasLook : Job → Type 0
 HasLook (Plan job) = (1 ≤ job.look) × (job.look ≤ 16)
 HasLook (Value job) = Unit {0}
 HasLook (Check job) = Unit {0}
+HasLook (Show job) = Unit {0}
+HasLook (Sim job) = Unit {0}
 
 -- the certificate of a plan is of version 1 or 2
 abbrev pub HasVersion : Job → Type 0
 HasVersion (Plan job) = (job.version ≡ 1) ⊎ (job.version ≡ 2)
 HasVersion (Value job) = Unit {0}
 HasVersion (Check job) = Unit {0}
+HasVersion (Show job) = Unit {0}
+HasVersion (Sim job) = Unit {0}

@@ -10,6 +10,10 @@ pub enum Job {
     Value(ValueJob),
     /// The check of a certificate.
     Check(CheckJob),
+    /// The policy of a certificate, in names.
+    Show(ShowJob),
+    /// Episodes of the policy of a certificate.
+    Sim(SimJob),
 }
 
 /// A plan for the model: the version of its certificate's text, its horizon, the budget of inner
@@ -38,6 +42,23 @@ pub struct ValueJob {
 pub struct CheckJob {
     pub model: Name,
     pub cert: Name,
+}
+
+/// The policy of the certificate of a second file, in the names of the model of a model file.
+#[derive(Drop)]
+pub struct ShowJob {
+    pub model: Name,
+    pub cert: Name,
+}
+
+/// Episodes of the policy of the certificate of a second file, in the model of a model file: how
+/// many, and the seed of the generator that draws them.
+#[derive(Drop)]
+pub struct SimJob {
+    pub model: Name,
+    pub cert: Name,
+    pub seed: u64,
+    pub episodes: u32,
 }
 
 /// The place of a front at which a plan's search branches.

@@ -8,6 +8,6 @@ mod number;
 mod parse;
 mod read;
 
-pub use job::{CheckJob, Job, OrderWord, PlanJob, ValueJob, WordFault};
+pub use job::{CheckJob, Job, OrderWord, PlanJob, ShowJob, SimJob, ValueJob, WordFault};
 pub use name::Name;
 pub use read::read_words;

@@ -9,7 +9,9 @@ use clap::{Arg, ArgAction, ArgMatches, Command};
 use std::alloc::{AllocError, Global};
 
 // The names of the options that take a value, in the order of the table.
-pub static OPTIONS: [&str; 5] = ["horizon", "nodes", "look", "cert", "order"];
+pub static OPTIONS: [&str; 7] = [
+    "horizon", "nodes", "look", "cert", "seed", "episodes", "order",
+];
 
 // The command with an option of each name.
 fn with_options<'a>(

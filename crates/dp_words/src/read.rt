@@ -1,10 +1,10 @@
 // The job of the words.
 ghost use Rattle.std.specs.Prelude.{◌≡◌, ◌∷◌, IfOk, map, true, string_bytes};
 ghost use Rattle.dp_words.specs.Words.{HasLook, HasSomeStep, HasVersion, IsReadAs, all_hold, check_row, command_job,
-    job_of, job_of_values, plan_row, row_job, value_row};
+    job_of, job_of_values, plan_row, row_job, show_row, sim_row, value_row};
 ghost use Rattle.dp_words.specs.Command.{merging_off, plain_words, values_of};
 
-use crate::job::{CheckJob, Job, PlanJob, ValueJob, WordFault};
+use crate::job::{CheckJob, Job, PlanJob, ShowJob, SimJob, ValueJob, WordFault};
 use crate::line::{Setting, all_hold, fits, merging_off, order, order_holds, value_of};
 use crate::name::Name;
 use crate::parse::parsed;
@@ -39,14 +39,34 @@ const CERT: Setting = Setting {
     default: Some(1),
 };
 
+const SEED: Setting = Setting {
+    name: "seed",
+    least: 0,
+    most: 18_446_744_073_709_551_615,
+    default: None,
+};
+
+const EPISODES: Setting = Setting {
+    name: "episodes",
+    least: 1,
+    most: 10_000,
+    default: Some(1),
+};
+
 // The options whose values are numbers, in the order of the table.
-static SETTINGS: [Setting; 4] = [HORIZON, NODES, LOOK, CERT];
+static SETTINGS: [Setting; 6] = [HORIZON, NODES, LOOK, CERT, SEED, EPISODES];
 
 // The options of `plan`.
 static PLAN: [&str; 6] = ["horizon", "nodes", "look", "cert", "order", "no-merge"];
 
 // Those that it requires.
 static PLAN_REQUIRES: [&str; 1] = ["horizon"];
+
+// The options of `sim`.
+static SIM: [&str; 2] = ["seed", "episodes"];
+
+// Those that it requires.
+static SIM_REQUIRES: [&str; 1] = ["seed"];
 
 // The options of a command that has none.
 static NONE: [&str; 0] = [];
@@ -115,6 +135,43 @@ fn check(alloc: Global, given: &ArgMatches<'_>, files: &[&str]) -> Result<Job, W
     }))
 }
 
+// `show MODEL CERT`
+fn show(alloc: Global, given: &ArgMatches<'_>, files: &[&str]) -> Result<Job, WordFault>
+    ensures { IsReadAs (row_job (values_of given.now) (merging_off given.now) (map (λ f. f.now) files.now)
+        show_row) result }
+{
+    let [model, cert] = files else {
+        return Err(WordFault::Usage);
+    };
+    if !fits(given, NONE.as_slice(), NONE.as_slice()) {
+        return Err(WordFault::Usage);
+    }
+    Ok(Job::Show(ShowJob {
+        model: Name::of(alloc, model)?,
+        cert: Name::of(alloc, cert)?,
+    }))
+}
+
+// `sim MODEL CERT`
+fn sim(alloc: Global, given: &ArgMatches<'_>, files: &[&str]) -> Result<Job, WordFault>
+    requires { all_hold (values_of given.now) ≡ true }
+    ensures { IsReadAs (row_job (values_of given.now) (merging_off given.now) (map (λ f. f.now) files.now)
+        sim_row) result }
+{
+    let [model, cert] = files else {
+        return Err(WordFault::Usage);
+    };
+    if !fits(given, SIM.as_slice(), SIM_REQUIRES.as_slice()) {
+        return Err(WordFault::Usage);
+    }
+    Ok(Job::Sim(SimJob {
+        model: Name::of(alloc, model)?,
+        cert: Name::of(alloc, cert)?,
+        seed: value_of(given, SEED),
+        episodes: value_of(given, EPISODES) as u32,
+    }))
+}
+
 // The job of a command.
 fn command_job(
     alloc: Global,
@@ -130,6 +187,8 @@ fn command_job(
         "plan" => plan(alloc, given, files),
         "value" => value(alloc, given, files),
         "check" => check(alloc, given, files),
+        "show" => show(alloc, given, files),
+        "sim" => sim(alloc, given, files),
         _ => Err(WordFault::Usage),
     }
 }
@@ -157,10 +216,12 @@ fn matches_job(alloc: Global, given: &ArgMatches<'_>) -> Result<Job, WordFault>
 /// command is unknown, its files are not as many as it takes, an option is unknown, is not the
 /// command's, is given twice or has no value in its range, or one that it requires is missing.
 ///
-/// Today the commands are `plan MODEL`, `value MODEL POLICY` and `check MODEL CERT`. A plan requires
-/// `--horizon`, from 1 to 4,294,967,295, and may have `--nodes`, from 0 to 4,294,967,295 (by default
-/// 100,000), `--look`, from 1 to 16 (1), `--cert`, 1 or 2 (1), `--order`, `first`, `heavy` or `spread`
-/// (`first`), and `--no-merge`. Numbers are in digits that do not begin with 0.
+/// Today the commands are `plan MODEL`, `value MODEL POLICY`, `check MODEL CERT`, `show MODEL CERT` and
+/// `sim MODEL CERT`. A plan requires `--horizon`, from 1 to 4,294,967,295, and may have `--nodes`, from 0
+/// to 4,294,967,295 (by default 100,000), `--look`, from 1 to 16 (1), `--cert`, 1 or 2 (1), `--order`,
+/// `first`, `heavy` or `spread` (`first`), and `--no-merge`. A simulation requires `--seed`, from 0 to
+/// 2^64 - 1, and may have `--episodes`, from 1 to 10,000 (1). Numbers are in digits that do not begin
+/// with 0.
 pub fn read_words(alloc: Global, words: &[String]) -> Result<Job, WordFault>
     ensures read { IsReadAs (job_of (map string_bytes words.now)) result }
     ensures some_step { IfOk result HasSomeStep }

@@ -8,8 +8,14 @@ use Rattle.dp_cluster.proofs.FrontParts.{unassigned_in}
 use Rattle.dp_check.specs.Bounding.{arithmetic_of}
 use Rattle.dp_check.specs.Walks.{passed, with_merge}
 use Rattle.dp_check.proofs.FrontBounds.{early}
-use Rattle.dp_check.proofs.EntrySteps.{merge_misplaced, merge_passes, mergeable, merged_with_room, may_fail,
-    merge_refused}
+use Rattle.dp_check.proofs.EntrySteps.{
+  merge_misplaced,
+  merge_passes,
+  mergeable,
+  merged_with_room,
+  may_fail,
+  merge_refused,
+}
 use Rattle.dp_check.proofs.NodeSteps.{below_is}
 use Rattle.dp_check.proofs.enter.enter_merge.Goals as goal
 

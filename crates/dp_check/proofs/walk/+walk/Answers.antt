@@ -8,8 +8,21 @@ use Rattle.dp_cluster.proofs.FrontParts.{unassigned_in}
 use Rattle.dp_check.specs.Bounding.{arithmetic_of}
 use Rattle.dp_check.specs.Nodes.{nodes_at}
 use Rattle.dp_check.specs.Walks.{walked}
-use Rattle.dp_check.proofs.WalkSteps.{branch_room, branch_starts, branch_stops, child_passes, child_room,
-    child_smaller, child_stops, choices_from, merge_goes_on, merge_room, merge_stops, merged_smaller, room_left}
+use Rattle.dp_check.proofs.WalkSteps.{
+  branch_room,
+  branch_starts,
+  branch_stops,
+  child_passes,
+  child_room,
+  child_smaller,
+  child_stops,
+  choices_from,
+  merge_goes_on,
+  merge_room,
+  merge_stops,
+  merged_smaller,
+  room_left,
+}
 use Rattle.dp_check.proofs.walk.+walk.Goals as goal
 
 pub returns-in-Leaf-clause-is : goal.returns-in-Leaf-clause-is

@@ -5,8 +5,10 @@ use Rattle.std.proofs.lemmas.Result.{err_from_is_err_and}
 use Rattle.dp_spec.specs.Certificate.{Certificate, IsValid}
 use Rattle.dp_spec.specs.Model.{IsModel, Model}
 use Rattle.dp_cert.specs.CertificateValue.{certificate_of}
+use Rattle.dp_cli.specs.CheckCommand.{reason_fault}
 use Rattle.dp_cli.proofs.CertificateSizes.{lower_fits, steps_within, upper_fits}
-use Rattle.dp_cli.proofs.Checks.{accepted_is, rejected_is, stops_reading}
+use Rattle.dp_cli.proofs.CertificateReading.{stops_reading}
+use Rattle.dp_cli.proofs.Checks.{accepted_is, rejected_is}
 use Rattle.dp_cli.proofs.WorthSizes.{unit_fits}
 use Rattle.dp_cli.proofs.check.check_of.Goals as goal
 
@@ -14,7 +16,7 @@ pub returns-in_err-cert : goal.returns-in_err-cert
 returns-in_err-cert c =
     let exit = err_from_is_err_and c.from_residual.result c.from_residual.ensures.1 in
     rw (exit.1, exit.2)
-    (stops_reading c.args.read.now.model.model c.invariant.ensures.model c.args.bytes.now
+    (stops_reading (reason_fault c.args.read.now.model.model) c.args.read.now.model.model c.invariant.ensures.model c.args.bytes.now
     c.in_err-cert.field-0.0
     c.in_err-cert.ensures.answers)
 

@@ -3,8 +3,8 @@ use Rattle.std.proofs.lemmas.List.{map_push}
 use Rattle.dp_spec.specs.Steps.{advanced_agents}
 use Rattle.dp_cluster.specs.AgentParts.{OwnPart}
 use Rattle.dp_cluster.specs.PastClasses.{past_after}
-use Rattle.dp_cluster.proofs.AdvancedParts.{advanced_length, next_taken, part_advanced_is, part_has_classes,
-    part_has_members, part_past_is, part_room, part_seen_is, taken_whole}
+use Rattle.dp_cluster.proofs.AdvancedParts.{advanced_length, next_taken, part_advanced_is, part_has_classes}
+use Rattle.dp_cluster.proofs.AdvancedParts.{part_past_is, part_room, part_seen_is, read_members, taken_whole}
 use Rattle.dp_cluster.proofs.ClassesBehind.{after_length}
 use Rattle.dp_cluster.proofs.ChosenActions.{seen_of}
 use Rattle.dp_cluster.proofs.advance.advanced_parts.Goals as goal
@@ -26,8 +26,7 @@ advanced-requires-clause-members c =
     let is = c.requires.of_model in
     let inside : c.loop-agent.agent < length k.front.agents = omega
     (arith, c.agents-agent-end.ensures, c.loop-agent-test.true) in
-    part_has_members m k is c.invariant.ensures c.requires.stage c.loop-agent.agent inside c.part.result.now
-    c.part.ensures.front c.part.ensures.observations
+    read_members m k is c.loop-agent.agent inside c.part.result.now c.part.ensures.front c.part.ensures.observations
 
 pub advanced-requires-clause-room : goal.advanced-requires-clause-room
 advanced-requires-clause-room c =

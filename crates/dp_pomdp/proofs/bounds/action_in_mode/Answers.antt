@@ -55,4 +55,4 @@ pub returns-else-fit-clause-memo : goal.returns-else-fit-clause-memo
 returns-else-fit-clause-memo c =
     mode_kept false c.args.fit.exact c.of-arith-else-fit.result c.args.model.now.model
     (c.of-arith-else-fit.ensures ∙ c.scales-else-fit.ensures) c.if-fit.false _
-        c.action_look_ahead-else-fit.ensures.memo
+    c.action_look_ahead-else-fit.ensures.memo

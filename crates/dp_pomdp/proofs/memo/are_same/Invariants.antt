@@ -1,4 +1,4 @@
-use Rattle.std.proofs.Common.{◌≡◌, ℕ, ◌<◌, length}
+use Rattle.std.proofs.Common.{◌≡◌, ℕ, ◌<◌}
 use Rattle.dp_pomdp.specs.Looking.{weights_of}
 use Rattle.dp_pomdp.proofs.memo.are_same.Given as goal
 

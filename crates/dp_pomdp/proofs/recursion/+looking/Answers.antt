@@ -1,5 +1,28 @@
-use Rattle.std.proofs.Common.{◌≡◌, ℕ, suc, ◌+◌, ◌-◌, ◌*ℤ◌, pos, length, ◌<◌, ◌≤◌, ◌^◌, ◌∙◌, ◌≤ℤ◌, to_z, [], ◌∷◌, List,
-    ℤ, Bool, false, unsigned_abs, sym, ap, subst, refl, arith, rules}
+use Rattle.std.proofs.Common.{
+  ◌≡◌,
+  ℕ,
+  suc,
+  ◌+◌,
+  ◌-◌,
+  length,
+  ◌<◌,
+  ◌≤◌,
+  ◌^◌,
+  ◌∙◌,
+  ◌≤ℤ◌,
+  to_z,
+  [],
+  ◌∷◌,
+  ℤ,
+  false,
+  unsigned_abs,
+  sym,
+  ap,
+  subst,
+  refl,
+  arith,
+  rules,
+}
 use Rattle.std.specs.Int.{int_min, w128}
 use Rattle.std.proofs.lemmas.Int.{ints, to_z-of_z}
 use mir.Val.{SFits}
@@ -10,11 +33,21 @@ use Rattle.dp_pomdp.specs.Memos.{look_of}
 use Rattle.dp_mdp.proofs.RunningSums.{next_greatest}
 use Rattle.dp_pomdp.proofs.Cuts.{greatest_or_cap, no_step, reached_cap}
 use Rattle.dp_pomdp.proofs.Scaled.{looking_times, next_look_fits, numbers_of, product_is}
-use Rattle.dp_pomdp.proofs.Steps.{looking_next, looks_are_action, offset_fits, offset_next, looks_part_fits,
-    deeper_room, table_before, zero_look}
+use Rattle.dp_pomdp.proofs.Steps.{
+  looking_next,
+  looks_are_action,
+  offset_fits,
+  offset_next,
+  looks_part_fits,
+  deeper_room,
+  table_before,
+  zero_look,
+}
 use Rattle.dp_pomdp.proofs.recursion.+looking.Goals as goal
-use Rattle.dp_pomdp.proofs.recursion.+looking.Goals.{look_ahead-then-rest-eq0-via-then-rest-eq0,
-    look_ahead-then-rest-eq0-via-else-rest-eq0+then-all_zero}
+use Rattle.dp_pomdp.proofs.recursion.+looking.Goals.{
+  look_ahead-then-rest-eq0-via-then-rest-eq0,
+  look_ahead-then-rest-eq0-via-else-rest-eq0+then-all_zero,
+}
 
 -- ---- look_ahead
 
@@ -44,7 +77,7 @@ greatest_look-returns-then-best-cap-clause-is g t c =
     let some : 0 < c.loop-action.action = omega arith in
     let le : c.loop-action.action ≤ joint_actions c.args.model.now.model = omega arith in
     let more : c.args.cap ≤ℤ to_z w128 c.loop-action.best-bits =
-        search (arith, ints, to_z-of_z, c.if-best-cap.true) in
+    search (arith, ints, to_z-of_z, c.if-best-cap.true) in
     let fits : SFits w128 c.args.cap = search rules in
     to_z-of_z w128 _ fits ∙ reached_cap (g.A.Arith.operations c.args.arith.now) c.args.model.now.model c.args.rest
     (c.args.look - 1)

@@ -1,4 +1,3 @@
-use Rattle.std.proofs.Common.{ℕ, ◌<◌}
 use Rattle.dp_pomdp.proofs.Multiples.{IsDividing}
 use Rattle.dp_pomdp.proofs.reduce.divide.Given as goal
 

@@ -1,22 +1,5 @@
-use Rattle.std.proofs.Common.{
-  ◌≡◌,
-  ℕ,
-  suc,
-  take,
-  ◌+◌,
-  ◌-◌,
-  ◌*◌,
-  ◌^◌,
-  ◌<◌,
-  ◌≤◌,
-  length,
-  add-one,
-  sym,
-  ap,
-  subst,
-  ◌∙◌,
-  arith,
-}
+use Rattle.std.proofs.Common.{◌≡◌, ℕ, suc, take, ◌+◌, ◌-◌, ◌*◌, ◌^◌, ◌<◌, ◌≤◌, length, add-one, sym, ap, subst, ◌∙◌}
+use Rattle.std.proofs.Common.{arith}
 use Rattle.dp_spec.specs.declared.span.Span.{Span}
 use Rattle.dp_spec.specs.Calls.{size}
 use Rattle.dp_spec.specs.Arithmetic.{Arithmetic}
@@ -26,20 +9,9 @@ use Rattle.dp_spec.specs.Value.{joint_root_action, trees_after}
 use Rattle.dp_value.specs.JointTrees.{IsEvaluable, first_trees}
 use Rattle.dp_value.specs.WeightUpdates.{weights_of}
 use Rattle.dp_value.proofs.RowUpdates.{rewarded_alike, updated_alike}
-use Rattle.dp_value.proofs.TreeWorths.{
-  after_part,
-  earned_first,
-  earned_last,
-  earned_room,
-  earned_step,
-  next_evaluable,
-  none_earned,
-  now_rewardable,
-  now_updatable,
-  recursion_alike,
-  skipped_step,
-  taken_at,
-}
+use Rattle.dp_value.proofs.TreeWorths.{after_part, earned_first, earned_last, earned_room, earned_step}
+use Rattle.dp_value.proofs.TreeWorths.{next_evaluable, none_earned, now_rewardable, now_updatable, recursion_alike}
+use Rattle.dp_value.proofs.TreeWorths.{skipped_step, taken_at}
 use Rattle.dp_value.proofs.tree_worth.+worth_from.Goals.{then-update_all, else-update_all}
 use Rattle.dp_value.proofs.tree_worth.+worth_from.Goals as goal
 

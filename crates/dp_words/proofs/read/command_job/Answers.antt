@@ -8,5 +8,14 @@ pub returns-in_default : goal.returns-in_default
 returns-in_default c = no_command (values_of c.args.given.now) (merging_off c.args.given.now)
     c.args.command.now (map (λ f. f.now) c.args.files.now) (
       c.in_default.not-plan,
-      (c.in_default.not-value, (c.in_default.not-check, tt)),
+      (
+        c.in_default.not-value,
+        (
+          c.in_default.not-check,
+          (
+            c.in_default.not-show,
+            (c.in_default.not-sim, tt),
+          ),
+        ),
+      ),
     )

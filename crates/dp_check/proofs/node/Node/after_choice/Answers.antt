@@ -1,6 +1,14 @@
 use Rattle.std.proofs.Common.{ap}
-use Rattle.dp_check.proofs.NodeSteps.{advance_room, advanced_is, advanced_with_room, below_is, chosen_is,
-    chosen_with_room, deeper, kept_looks}
+use Rattle.dp_check.proofs.NodeSteps.{
+  advance_room,
+  advanced_is,
+  advanced_with_room,
+  below_is,
+  chosen_is,
+  chosen_with_room,
+  deeper,
+  kept_looks,
+}
 use Rattle.dp_check.proofs.node.Node.after_choice.Goals as goal
 
 pub advance-requires-clause-room : goal.advance-requires-clause-room

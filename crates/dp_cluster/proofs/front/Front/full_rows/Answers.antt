@@ -1,8 +1,7 @@
-use Rattle.std.proofs.Common.{◌≡◌, ◌<◌, ◌≤◌, ℕ, [], ◌∷◌, List, length, map, get_or, sym, ap, subst, ◌∙◌, arith}
+use Rattle.std.proofs.Common.{◌≡◌, ◌≤◌, ℕ, [], ◌∷◌, length, map, get_or, sym, ap, subst, ◌∙◌, arith}
 use Rattle.std.proofs.lemmas.List.{length-append, length-map, map_push}
-use Rattle.dp_spec.specs.SharedPolicy.{IsSharedOf, SharedPolicy, unfolded}
+use Rattle.dp_spec.specs.SharedPolicy.{IsSharedOf, unfolded}
 use Rattle.dp_policy.specs.SharedRows.{HorizonRows}
-use Rattle.dp_cluster.specs.FullRows.{AreFullRows}
 use Rattle.dp_cluster.specs.PastClasses.{HasRowEachClass, no_classes}
 use Rattle.dp_cluster.proofs.FullFronts.{some_where, value_where}
 use Rattle.dp_cluster.proofs.JoinedRows.{rows_full, rows_more, rows_shared}

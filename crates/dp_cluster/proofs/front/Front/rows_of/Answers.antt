@@ -1,11 +1,12 @@
 use Rattle.std.proofs.Common.{map}
-use Rattle.dp_cluster.proofs.JoinedRows.{agent_rows_full, some_seen, some_stage}
+use Rattle.dp_cluster.proofs.AdvancedParts.{read_some_seen}
+use Rattle.dp_cluster.proofs.JoinedRows.{agent_rows_full, some_stage}
 use Rattle.dp_cluster.proofs.front.Front.rows_of.Goals as goal
 
 pub rows-requires-clause-observations : goal.rows-requires-clause-observations
 rows-requires-clause-observations c =
-    some_seen c.args.m.now.model c.args.self.now c.requires.of_model c.requires.full c.args.agent c.requires.agent
-    c.part.result.now c.part.ensures.front c.part.ensures.observations c.part.ensures.past
+    read_some_seen c.args.m.now.model c.args.self.now c.requires.of_model c.args.agent c.requires.agent
+    c.part.result.now c.part.ensures.front c.part.ensures.observations
 
 pub rows-requires-clause-some : goal.rows-requires-clause-some
 rows-requires-clause-some c =

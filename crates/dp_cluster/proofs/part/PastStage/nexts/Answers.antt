@@ -1,4 +1,4 @@
-use Rattle.std.proofs.Common.{◌+◌, ◌*◌, ap, ◌∙◌, arith}
+use Rattle.std.proofs.Common.{◌+◌, ◌*◌}
 use Rattle.dp_cluster.specs.AgentParts.{class_led_to}
 use Rattle.dp_cluster.proofs.OwnParts.{next_made}
 use Rattle.dp_cluster.proofs.part.PastStage.nexts.Goals as goal

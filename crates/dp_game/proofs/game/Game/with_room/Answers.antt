@@ -1,5 +1,27 @@
-use Rattle.std.proofs.Common.{◌≡◌, ◌<◌, ◌≤◌, ◌^◌, ◌+ℤ◌, ℕ, ℤ, pos, List, Option, map, length, get_or, ap, sym, subst,
-    ◌∙◌, rules, arith, unsigned_abs, to_z, of_z}
+use Rattle.std.proofs.Common.{
+  ◌≡◌,
+  ◌<◌,
+  ◌≤◌,
+  ◌^◌,
+  ◌+ℤ◌,
+  ℕ,
+  ℤ,
+  pos,
+  List,
+  Option,
+  map,
+  length,
+  get_or,
+  ap,
+  sym,
+  subst,
+  ◌∙◌,
+  rules,
+  arith,
+  unsigned_abs,
+  to_z,
+  of_z,
+}
 use Rattle.std.specs.Int.{w128}
 use Rattle.std.specs.List.{range_with_len}
 use Rattle.std.proofs.lemmas.Int.{to_z-of_z}

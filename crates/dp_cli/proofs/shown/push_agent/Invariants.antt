@@ -1,0 +1,12 @@
+use Rattle.std.proofs.Common.{◌≡◌, ◌++◌, [], get_or}
+use Rattle.std.specs.List.{flat_map, range_with_len}
+use Rattle.std.specs.Prelude.{slice_index}
+use Rattle.dp_spec.specs.SharedPolicy.{unfolded_tree}
+use Rattle.dp_cli.specs.ShownPolicies.{stage_text}
+use Rattle.dp_cli.proofs.shown.push_agent.Given as goal
+
+abbrev pub invariant-loop-stage : goal.invariant-loop-stage
+invariant-loop-stage l =
+    l.text.items ≡ l.fn.text.items ++ flat_map (stage_text l.model.names l.agent
+    (slice_index l.model.model.observations l.agent) (unfolded_tree (get_or l.policy.rows l.agent []) 0))
+    (range_with_len 0 l.stage)

@@ -1,0 +1,5 @@
+mod RowDraws
+pub mod TreesAlong
+mod JointActions
+mod Played
+mod EpisodeRows
