@@ -1,6 +1,6 @@
 //! Certificate texts written.
-ghost use Rattle.std.specs.Prelude.{◌≡◌, ◌<◌, ◌^◌, ◌++◌, ◌∷◌, ◌==◌, [], cond, true, false, codes, decimal, map,
-    length, FitsSigned, IfOk, OnOk};
+ghost use Rattle.std.specs.Prelude.{◌≡◌, ◌<◌, ◌^◌, ◌++◌, ◌∷◌, ◌==◌, [], cond, true, false, codes, decimal, map};
+ghost use Rattle.std.specs.Prelude.{length, FitsSigned, IfOk, OnOk};
 ghost use Rattle.std.specs.Int.{w128};
 ghost use Rattle.std.specs.Fmt.{signed_decimal};
 ghost use Rattle.dp_spec.specs.Certificate.{HasPolicyOfVersion, IsCertificateOf};

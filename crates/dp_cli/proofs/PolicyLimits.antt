@@ -1,6 +1,6 @@
 -- A limit that a policy text passes is one of its horizon.
-use Rattle.std.proofs.Common.{◌≡◌, ℕ, zero, suc, ◌+◌, List, [], ◌∷◌, map, Option, Some, None, Result, Ok, Err, false,
-    refl, ap, subst, ◌∙◌}
+use Rattle.std.proofs.Common.{◌≡◌, ℕ, zero, suc, ◌+◌, List, [], ◌∷◌, map, Option, Some, None, Result, Ok, Err, false}
+use Rattle.std.proofs.Common.{refl, ap, subst, ◌∙◌}
 use Rattle.std.specs.Prelude.{ℤ, unsigned_abs}
 use Rattle.dp_spec.specs.Model.{Model}
 use Rattle.dp_model.specs.declared.limit.TooLarge.{TooLarge}

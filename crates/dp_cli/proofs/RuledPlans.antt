@@ -1,7 +1,7 @@
 -- Plans by an order: what the rule of the code answers is what the order says, and a plan by one rule is a plan by
 -- every rule that allows as much.
-use Rattle.std.proofs.Common.{◌≡◌, ◌∙◌, ℕ, ◌<◌, ℤ, ◌≤ℤ◌, List, map, Option, Some, None, Result, Ok, Err, IfOk,
-    refl, sym, ap, subst}
+use Rattle.std.proofs.Common.{◌≡◌, ◌∙◌, ℕ, ◌<◌, ℤ, ◌≤ℤ◌, List, map, Option, Some, None, Result, Ok, Err, IfOk, refl}
+use Rattle.std.proofs.Common.{sym, ap, subst}
 use Rattle.std.specs.Prelude.{◌<ℤ◌, option_map, slice_get}
 use Rattle.std.proofs.lemmas.Option.{slice_get-map}
 use Rattle.dp_base.proofs.AllOfLists.{all_weaker}
@@ -85,7 +85,8 @@ pub if_also_planned : {E : Type 0} (r : Result Planned E) (m : Model) (May Also 
     → ((places : List Place) (x : ℕ) → May places x → Also places x) → (h : ℕ) (asked : PlanOptions)
     → IfOk r (λ c. IsPlanned m May h asked (certificate_of c))
     → IfOk r (λ c. IsPlanned m Also h asked (certificate_of c))
-if_also_planned (Ok c) m May Also as_much h asked plan = also_planned m May Also as_much (certificate_of c) h asked plan
+if_also_planned (Ok c) m May Also as_much h asked plan =
+    also_planned m May Also as_much (certificate_of c) h asked plan
 if_also_planned (Err e) m May Also as_much h asked plan = tt
 
 -- a rule of the code that answers the first greatest place answers that of the places of the definitions
