@@ -39,7 +39,8 @@ history_within b n (suc zero) (node a ks) (o ∷ os) some is has =
 history_within b n (suc (suc r)) q (o ∷ os) some is has =
     let counted : tree_count (subtrees q) ≡ n = observations_counted b n (suc (suc r)) q (omega arith) is in
     let first : o < n = omega (arith, counted, has.0) in
-    let rest = history_within b n (suc r) (subtree q o) os (omega arith) (subtree_fits b n (suc r) q o first is) has.1 in
+    let rest = history_within b n (suc r) (subtree q o) os (omega arith)
+        (subtree_fits b n (suc r) q o first is) has.1 in
     (omega (arith, rest.0), each first rest.1)
   where
     each : o < n → ((t : ℕ) → t < length os → get_or os t 0 < n) → (t : ℕ) → t < suc (length os)

@@ -41,7 +41,8 @@ played-requires c =
       answer = λ i d lt.
           let inside : i < c.loop-agent.agent = omega (arith, lt, counted, all) in
           let there : i < length p.rows = omega (arith, lt, counted) in
-          let agent : (get_or c.deref.result.now i d).rule.1 ≡ i = rw value (c.loop-agent.invariant.of_agent i d inside)
+          let agent : (get_or c.deref.result.now i d).rule.1 ≡ i =
+              rw value (c.loop-agent.invariant.of_agent i d inside)
           in
           let of_policy : (get_or c.deref.result.now i d).rule.0.now ≡ p =
           rw value (c.loop-agent.invariant.of_policy i d inside) in
