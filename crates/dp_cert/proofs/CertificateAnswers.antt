@@ -1,7 +1,7 @@
 -- Certificate texts have one answer.
-use Rattle.std.proofs.Common.{◌≡◌, ℕ, zero, suc, ◌+◌, ◌^◌, ◌<◌, Bool, true, false, cond, List, [], ◌∷◌, length, map,
-    Result, Ok, Err, refl, subst, arith}
-use Rattle.std.specs.Prelude.{ℤ, Option, Some, None, replicate, codes, unsigned_abs, ◌==◌}
+use Rattle.std.proofs.Common.{◌≡◌, ℕ, zero, suc, ◌+◌, ◌^◌, ◌<◌, Bool, true, false, cond, List, [], ◌∷◌, length, map}
+use Rattle.std.proofs.Common.{Result, Ok, Err, refl, subst, arith}
+use Rattle.std.specs.Prelude.{ℤ, replicate, codes, unsigned_abs, ◌==◌}
 use Rattle.std.specs.Fmt.{decimal}
 use Rattle.std.proofs.lemmas.Fmt.{decimal_digit}
 use Rattle.dp_spec.specs.BoundTree.{BoundTree, branch, merge, more_bound_trees}
@@ -9,57 +9,39 @@ use Rattle.dp_spec.specs.Model.{Model}
 use Rattle.dp_spec.specs.PlainForm.{observations_after}
 use Rattle.dp_spec.specs.PolicyText.{horizon_form, row_form, title_form}
 use Rattle.dp_spec.specs.SharedRows.{counts_form, products, shared_row_form}
-use Rattle.dp_spec.specs.TextLines.{Item, plain}
+use Rattle.dp_spec.specs.TextLines.{Item}
 use Rattle.dp_spec.specs.CertificateText.{look_form, signed_form, inner_form}
 use Rattle.dp_model.specs.declared.limit.TooLarge.{TooLarge}
 use Rattle.dp_lines.specs.Grammar.{ends, ◌>>=◌, IsAnswer}
-use Rattle.dp_lines.specs.Lines.{AreWords}
 use Rattle.dp_lines.specs.Scanning.{text_from}
 use Rattle.dp_lines.proofs.SpelledLines.{HasItems}
 use Rattle.dp_lines.proofs.LineAnswers.{words_have_items}
 use Rattle.dp_lines.proofs.FirstLines.{AreProper, are_apart}
+use Rattle.dp_lines.proofs.ProperTexts.{words_proper, numbers_proper, unless_proper, and_proper, replicate_items}
 use Rattle.dp_lines.proofs.OneAnswer.{IsProper, IsProper-bind, read_answer, one_answer}
 use Rattle.dp_cert.specs.declared.fault.CertFault.{CertFault}
 use Rattle.dp_cert.specs.declared.fault.CertFault.TheVariants as faults
-use Rattle.dp_cert.specs.CertificateGrammar.{branch_below, certificate_grammar, head_grammar, horizon_grammar,
-    horizon_passed, leaf_only, merge_below, node_below, node_forms, repeated, title_grammar, tree_grammar, tree_lines}
+use Rattle.dp_cert.specs.CertificateGrammar.{branch_below, certificate_grammar, head_grammar, horizon_grammar}
+use Rattle.dp_cert.specs.CertificateGrammar.{horizon_passed, leaf_only, merge_below, node_below, node_forms, repeated}
+use Rattle.dp_cert.specs.CertificateGrammar.{title_grammar, tree_grammar, tree_lines}
 use Rattle.dp_cert.specs.CertificateLaws.{EachCertificateTextHasOneAnswer}
-use Rattle.dp_cert.specs.PolicyGrammar.{agent_words, cells_passed, counts_grammar, first_of_counts, nexts_before,
-    plain_agent, plain_agents, plain_stage, plain_stages, policy_grammar, row_line, row_of, rows_from, rows_of_form,
-    shared_agents, shared_stages}
+use Rattle.dp_policy.specs.PolicyGrammar.{agent_words}
+use Rattle.dp_cert.specs.PolicyGrammar.{cells_passed, counts_grammar, first_of_counts, nexts_before, plain_agent}
+use Rattle.dp_cert.specs.PolicyGrammar.{plain_agents, plain_stage, plain_stages, policy_grammar, row_line, row_of}
+use Rattle.dp_cert.specs.PolicyGrammar.{rows_from, rows_of_form, shared_agents, shared_stages, Text}
 use Rattle.dp_cert.specs.Reading.{Gives, Answers}
-use Rattle.dp_cert.specs.TextSteps.{Text, and_then, first_plain, the_numbers, the_words, unless_passed}
-use Rattle.dp_cert.proofs.AgentWords.{agent_words_are}
+use Rattle.dp_lines.specs.Steps.{and_then, first_plain, the_numbers, the_words, unless_passed}
+use Rattle.dp_policy.proofs.AgentParts.{agent_words_are}
 use Rattle.dp_cert.proofs.CertificateParts.{behind_head, behind_horizon, behind_policy, behind_tree, behind_version}
-use Rattle.dp_cert.proofs.FixedLines.{one_is_word, two_is_word}
-
--- ---- steps
-
-words_proper : (ws : List (List ℕ)) → AreWords ws → IsProper (the_words ws)
-words_proper ws are = ((words_have_items ws are, tt, tt), λ k zs. tt)
-
-numbers_proper : (form : List Item) → HasItems form → IsProper (the_numbers form)
-numbers_proper form has = ((has, tt, tt), λ k zs. tt)
-
-unless_proper : (o : Option TooLarge) → IsProper (unless_passed o)
-unless_proper None = tt
-unless_proper (Some passed) = tt
-
-and_proper : {A : Type 0} (g : Text A) (G : Text (List A)) → IsProper g → IsProper G → IsProper (and_then g G)
-and_proper g G p q =
-    IsProper-bind g (λ x. G >>= λ xs. ends (x ∷ xs)) p (λ x. IsProper-bind G (λ xs. ends (x ∷ xs)) q (λ xs. tt))
-
-pub replicate_items : (k low high : ℕ) → HasItems (replicate k (plain low high))
-replicate_items zero low high = tt
-replicate_items (suc k) low high = replicate_items k low high
+use Rattle.dp_cert.proofs.TitleLines.{one_is_word, two_is_word}
 
 -- ---- the policy
 
 stage_proper : (b n h t : ℕ) → IsProper (plain_stage b n h t)
 stage_proper b n h t =
-    IsProper-bind (the_numbers (row_form b n t)) (λ zs. ends
+    IsProper-bind {L = TooLarge} (the_numbers (row_form b n t)) (λ zs. ends
     (rows_from n (observations_after n h t) 0 (map unsigned_abs zs)))
-    (numbers_proper (row_form b n t) (replicate_items (n ^ t) 0 _)) (λ zs. tt)
+    (numbers_proper TooLarge (row_form b n t) (replicate_items (n ^ t) 0 _)) (λ zs. tt)
 
 stages_proper : (b n h t left : ℕ) → IsProper (plain_stages b n h t left)
 stages_proper b n h t zero = tt
@@ -74,7 +56,8 @@ plain_proper h agent (b ∷ bs) [] few = tt
 plain_proper h agent (b ∷ bs) (n ∷ ns) few =
     and_proper (plain_agent h agent b n) (plain_agents h (agent + 1) bs ns)
     (IsProper-bind (the_words (agent_words agent)) (λ t. plain_stages b n h 0 h)
-    (words_proper (agent_words agent) (agent_words_are agent (omega arith))) (λ t. stages_proper b n h 0 h))
+    (words_proper TooLarge (agent_words agent) (agent_words_are agent (omega arith)))
+    (λ t. stages_proper b n h 0 h))
     (plain_proper h (agent + 1) bs ns (omega arith))
 
 pub counts_items : (h : ℕ) → HasItems (counts_form h)
@@ -85,7 +68,8 @@ rows_proper : (form : List Item) (count : ℕ) → HasItems form → IsProper (r
 rows_proper form zero has = tt
 rows_proper form (suc left) has =
     and_proper (row_line form) (rows_of_form form left)
-    (IsProper-bind (the_numbers form) (λ zs. ends (row_of zs)) (numbers_proper form has) (λ zs. tt))
+    (IsProper-bind {L = TooLarge} (the_numbers form) (λ zs. ends (row_of zs)) (numbers_proper TooLarge form has)
+    (λ zs. tt))
     (rows_proper form left has)
 
 shared_proper : (b n : ℕ) (counts : List ℕ) → IsProper (shared_stages b n counts)
@@ -99,10 +83,10 @@ grammar_proper : (h agent : ℕ) (cells : List ℕ) → agent < 10 ^ 64 → IsPr
 grammar_proper h agent cells few =
     IsProper-bind (the_words (agent_words agent)) (λ t. the_numbers (counts_form h) >>= λ zs. unless_passed
     (cells_passed (products cells (map unsigned_abs zs))) >>= λ kept. ends (map unsigned_abs zs))
-    (words_proper (agent_words agent) (agent_words_are agent few))
+    (words_proper TooLarge (agent_words agent) (agent_words_are agent few))
     (λ t. IsProper-bind (the_numbers (counts_form h)) (λ zs. unless_passed
     (cells_passed (products cells (map unsigned_abs zs))) >>= λ kept. ends (map unsigned_abs zs))
-    (numbers_proper (counts_form h) (counts_items h))
+    (numbers_proper TooLarge (counts_form h) (counts_items h))
     (λ zs. IsProper-bind (unless_passed (cells_passed (products cells (map unsigned_abs zs))))
     (λ kept. ends (map unsigned_abs zs))
     (unless_proper (cells_passed (products cells (map unsigned_abs zs)))) (λ kept. tt)))
@@ -184,11 +168,11 @@ part_proper : IsProper tree_grammar
 part_proper =
     IsProper-bind (the_words (codes "tree" ∷ [])) (λ t. tree_lines 2048 >>= λ tree. the_words (codes "end" ∷ [])
     >>= λ end. ends tree)
-    (words_proper (codes "tree" ∷ []) (assumption, tt))
+    (words_proper TooLarge (codes "tree" ∷ []) (assumption, tt))
     (λ t. IsProper-bind (tree_lines 2048) (λ tree. the_words (codes "end" ∷ []) >>= λ end. ends tree)
     (tree_proper 2048)
-    (λ tree. IsProper-bind (the_words (codes "end" ∷ [])) (λ end. ends tree)
-    (words_proper (codes "end" ∷ []) (assumption, tt)) (λ end. tt)))
+    (λ tree. IsProper-bind {L = TooLarge} (the_words (codes "end" ∷ [])) (λ end. ends tree)
+    (words_proper TooLarge (codes "end" ∷ []) (assumption, tt)) (λ end. tt)))
 
 -- ---- the head
 
@@ -216,25 +200,25 @@ horizon_proper : (m : Model) (version : ℕ) → IsProper (horizon_grammar m ver
 horizon_proper m version =
     IsProper-bind (the_numbers horizon_form) (λ zs. unless_passed (horizon_passed m version (first_plain zs))
     >>= λ kept. ends (first_plain zs))
-    (numbers_proper horizon_form (assumption, tt))
+    (numbers_proper TooLarge horizon_form (assumption, tt))
     (λ zs. IsProper-bind (unless_passed (horizon_passed m version (first_plain zs)))
     (λ kept. ends (first_plain zs))
     (unless_proper (horizon_passed m version (first_plain zs))) (λ kept. tt))
 
 head_proper : IsProper head_grammar
 head_proper = (
-  (numbers_proper look_form (assumption, tt)).0,
+  (numbers_proper TooLarge look_form (assumption, tt)).0,
   λ k look. (
     ((assumption, (assumption, tt)), (refl, tt), ((assumption, (assumption, tt)), tt, tt)),
     λ mode zs. (
-      (numbers_proper (signed_form (codes "unit")) (assumption, tt)).0,
+      (numbers_proper TooLarge (signed_form (codes "unit")) (assumption, tt)).0,
       λ k unit. (
-        (numbers_proper (signed_form (codes "lower")) (assumption, tt)).0,
+        (numbers_proper TooLarge (signed_form (codes "lower")) (assumption, tt)).0,
         λ k lower. (
-          (numbers_proper (signed_form (codes "upper")) (assumption, tt)).0,
+          (numbers_proper TooLarge (signed_form (codes "upper")) (assumption, tt)).0,
           λ k upper. (
-            (numbers_proper inner_form (assumption, tt)).0,
-            λ k inner. ((words_proper (codes "policy" ∷ []) (assumption, tt)).0, λ k zs. tt),
+            (numbers_proper TooLarge inner_form (assumption, tt)).0,
+            λ k inner. ((words_proper TooLarge (codes "policy" ∷ []) (assumption, tt)).0, λ k zs. tt),
           ),
         ),
       ),

@@ -1,6 +1,5 @@
 -- The parts of a certificate text.
-use Rattle.std.proofs.Common.{◌≡◌, ℕ, ◌<◌, ◌≤◌, Bool, true, false, cond, List, [], ◌∷◌, length, Result, Ok, Err, refl,
-    ap, arith}
+use Rattle.std.proofs.Common.{◌≡◌, ℕ, ◌≤◌, Bool, true, false, cond, List, ◌∷◌, refl, arith}
 use Rattle.std.specs.Prelude.{nat_lt, ◌==◌, Option, Some, None, replicate}
 use Rattle.std.proofs.lemmas.Bool.Decides.{nat_tests}
 use Rattle.dp_spec.specs.BoundTree.{BoundTree}
@@ -13,14 +12,10 @@ use Rattle.dp_model.specs.declared.limit.Limit.TheVariants as limits
 use Rattle.dp_model.specs.declared.limit.TooLarge.{TooLarge}
 use Rattle.dp_model.specs.Horizons.{horizon_limits, long_horizon_passed}
 use Rattle.dp_model.specs.Limits.{first_passed, greatest_allowed, passed_by}
-use Rattle.dp_lines.specs.declared.why.FileWhy.TheVariants.{Shape}
-use Rattle.dp_lines.specs.Grammar.{ends, ◌>>=◌, Fault, bad}
-use Rattle.dp_lines.specs.Scanning.{Rest, front_of, text_from, whole}
-use Rattle.dp_cert.specs.CertificateGrammar.{Head, certificate_from, certificate_grammar, head_grammar,
-    horizon_grammar, horizon_passed, title_grammar, tree_grammar}
-use Rattle.dp_cert.specs.PolicyGrammar.{plain_agents, policy_grammar, shared_agents}
-use Rattle.dp_cert.specs.Reading.{rest_at}
-use Rattle.dp_cert.specs.TextSteps.{Text}
+use Rattle.dp_lines.specs.Grammar.{ends, ◌>>=◌}
+use Rattle.dp_cert.specs.CertificateGrammar.{Head, certificate_from, certificate_grammar, head_grammar}
+use Rattle.dp_cert.specs.CertificateGrammar.{horizon_grammar, horizon_passed, title_grammar, tree_grammar}
+use Rattle.dp_cert.specs.PolicyGrammar.{plain_agents, policy_grammar, shared_agents, Text}
 
 -- ---- limits that are kept
 
@@ -111,26 +106,3 @@ behind_version m version = horizon_grammar m version >>= behind_horizon m versio
 pub from_version : (m : Model) → certificate_grammar m ≡ (title_grammar >>= behind_version m)
 unfolding certificate_grammar
 from_version m = refl
-
--- ---- the whole text
-
--- what is said of all bytes
-abbrev answered : {V : Type 0} → Result (Rest V) (Fault TooLarge) → Result V (Fault TooLarge)
-answered r = elim r [ Ok rest ↦ whole rest | Err fault ↦ Err fault ]
-
-pub text_fails : {V : Type 0} (g : Text V) (bytes : List ℕ) (fault : Fault TooLarge)
-    → front_of g 1 bytes ≡ Err fault
-    → text_from g 1 bytes ≡ Err fault
-text_fails {V = V} g bytes fault e = ap (λ (r : Result (Rest V) (Fault TooLarge)). answered r) e
-
-pub text_ends : {V : Type 0} (g : Text V) (bytes : List ℕ) (v : V) (line : ℕ) (rest : List ℕ)
-    → front_of g 1 bytes ≡ Ok (rest_at v line rest) → length rest ≡ 0 → text_from g 1 bytes ≡ Ok v
-text_ends {V = V} g bytes v line [] e none = ap (λ (r : Result (Rest V) (Fault TooLarge)). answered r) e
-text_ends g bytes v line (b ∷ rest) e none = absurd (omega (arith, none))
-
-pub text_goes_on : {V : Type 0} (g : Text V) (bytes : List ℕ) (v : V) (line : ℕ) (rest : List ℕ)
-    → front_of g 1 bytes ≡ Ok (rest_at v line rest) → 0 < length rest
-    → text_from g 1 bytes ≡ Err (bad line Shape)
-text_goes_on g bytes v line [] e some = absurd (omega (arith, some))
-text_goes_on {V = V} g bytes v line (b ∷ rest) e some = ap (λ (r : Result (Rest V) (Fault TooLarge)).
-    answered r) e

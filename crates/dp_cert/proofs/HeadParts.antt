@@ -5,8 +5,9 @@ use Rattle.dp_spec.specs.CertificateText.{mode_form, inner_form}
 use Rattle.dp_lines.specs.Grammar.{ends, ◌>>=◌}
 use Rattle.dp_lines.specs.Scanning.{front_of}
 use Rattle.dp_cert.specs.CertificateGrammar.{Head, Interval, interval_grammar}
-use Rattle.dp_cert.specs.Reading.{rest_at}
-use Rattle.dp_cert.specs.TextSteps.{Text, the_words, the_numbers, one_of, first_plain}
+use Rattle.dp_lines.specs.Reading.{rest_at}
+use Rattle.dp_cert.specs.PolicyGrammar.{Text}
+use Rattle.dp_lines.specs.Steps.{the_words, the_numbers, one_of, first_plain}
 
 abbrev pub behind_title : List ℤ → ℕ → Interval → List ℤ → Unit {0} → Text Head
 behind_title look mode interval inner title =

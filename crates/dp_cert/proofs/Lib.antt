@@ -1,14 +1,10 @@
 pub mod PolicyHorizons
 pub mod TreeSizeSteps
-pub mod TextParts
-pub mod FixedLines
-pub mod LineCounts
+pub mod TitleLines
 pub mod HeadParts
 pub mod NodeLines
 pub mod OpenTrees
-pub mod ListParts
 pub mod RowParts
-pub mod AgentWords
 pub mod StageParts
 pub mod CertificateParts
 pub mod CertificateAnswers
@@ -20,5 +16,10 @@ pub mod ReadPlainRows
 pub mod ReadHeads
 pub mod ReadCertificates
 pub mod ReadTexts
+pub mod LineReads
+pub mod TreeReads
+pub mod PlainReads
+pub mod SharedReads
+pub mod CertificateReads
 pub mod WrittenTexts
 mod TypedTexts

@@ -1,6 +1,6 @@
 -- What open nodes make of a node's line and of a finished child.
-use Rattle.std.proofs.Common.{◌≡◌, ℕ, zero, suc, ◌-◌, ◌<◌, List, [], ◌∷◌, ◌++◌, length, map, Result, Ok, Err, refl,
-    sym, ap, subst, ◌∙◌, arith}
+use Rattle.std.proofs.Common.{◌≡◌, ℕ, zero, suc, ◌-◌, ◌<◌, List, [], ◌∷◌, ◌++◌, length, map, Result, Ok, Err, refl}
+use Rattle.std.proofs.Common.{sym, ap, subst, ◌∙◌, arith}
 use Rattle.std.specs.Prelude.{ℤ, pos, reverse}
 use Rattle.std.proofs.lemmas.List.{reverse-append, length-append}
 use Rattle.dp_spec.specs.BoundTree.{BoundTree, BoundTrees, leaf, branch, merge, more_bound_trees}
@@ -19,11 +19,13 @@ use Rattle.dp_cert.specs.declared.tree_text.Given.{Given}
 use Rattle.dp_cert.specs.declared.tree_text.Given.TheVariants as given
 use Rattle.dp_cert.specs.CertificateGrammar.{deepest, leaf_only, node_below, node_forms, repeated, tree_lines}
 use Rattle.dp_cert.specs.NodeLines.{NodeFails, found_of}
-use Rattle.dp_cert.specs.OpenNodes.{Frame, branch_frame, merge_frame, frame_of, frames_of, Run, given_to,
-    behind_children, closed, opened, left_below, after_line, behind_node, IsBranchWith, IsGiven, Places}
-use Rattle.dp_cert.specs.Reading.{Fails, rest_at}
-use Rattle.dp_cert.specs.TextSteps.{Text}
-use Rattle.dp_cert.proofs.TextParts.{then_front, front_bind, by_first}
+use Rattle.dp_cert.specs.OpenNodes.{Frame, branch_frame, merge_frame, frame_of, frames_of, Run, given_to}
+use Rattle.dp_cert.specs.OpenNodes.{behind_children, closed, opened, left_below, after_line, behind_node}
+use Rattle.dp_cert.specs.OpenNodes.{IsBranchWith, IsGiven, Places}
+use Rattle.dp_cert.specs.Reading.{Fails}
+use Rattle.dp_lines.specs.Reading.{rest_at}
+use Rattle.dp_cert.specs.PolicyGrammar.{Text}
+use Rattle.dp_lines.proofs.TextParts.{then_front, front_bind, by_first}
 use Rattle.dp_cert.proofs.TreeSizeSteps.{mapped_length}
 
 -- ---- children behind those of a list

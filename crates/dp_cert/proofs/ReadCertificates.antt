@@ -1,6 +1,6 @@
 -- Certificates that were read: they are certificates of the model, and their lines.
-use Rattle.std.proofs.Common.{◌≡◌, ℕ, zero, suc, ◌*◌, ◌-◌, ◌^◌, ◌<◌, ◌≤◌, Bool, true, false, cond, List, [], ◌∷◌,
-    ◌++◌, length, get_or, Result, Ok, Err, refl, sym, ap, subst, ◌∙◌, arith}
+use Rattle.std.proofs.Common.{◌≡◌, ℕ, zero, suc, ◌*◌, ◌-◌, ◌^◌, ◌<◌, ◌≤◌, Bool, true, false, cond, List, [], ◌∷◌}
+use Rattle.std.proofs.Common.{◌++◌, length, get_or, Result, Ok, Err, refl, sym, ap, subst, ◌∙◌, arith}
 use Rattle.std.specs.Prelude.{◌⊎◌, ◌==◌, replicate, IfOk, None, codes}
 use Rattle.std.specs.List.{AllByRecursion}
 use Rattle.std.proofs.Math.Nat.{mul-le-mul_left, pow-le-pow_right}
@@ -26,14 +26,15 @@ use Rattle.dp_lines.specs.Scanning.{Rest, front_of, text_from, whole}
 use Rattle.dp_lines.proofs.OneAnswer.{one_answer, read_answer}
 use Rattle.dp_policy.proofs.ReadBytes.{same_rest, split}
 use Rattle.dp_cert.specs.declared.fault.CertFault.{CertFault}
-use Rattle.dp_cert.specs.CertificateGrammar.{certificate_from, certificate_grammar, head_grammar, horizon_grammar,
-    horizon_passed, title_grammar, tree_grammar, tree_lines}
+use Rattle.dp_cert.specs.CertificateGrammar.{certificate_from, certificate_grammar, head_grammar, horizon_grammar}
+use Rattle.dp_cert.specs.CertificateGrammar.{horizon_passed, title_grammar, tree_grammar, tree_lines}
 use Rattle.dp_cert.specs.PolicyGrammar.{plain_agents, policy_grammar, shared_agents}
-use Rattle.dp_cert.specs.Reading.{Gives, rest_at}
-use Rattle.dp_cert.specs.TextSteps.{the_words}
+use Rattle.dp_cert.specs.Reading.{Gives}
+use Rattle.dp_lines.specs.Reading.{rest_at}
+use Rattle.dp_lines.specs.Steps.{the_words}
 use Rattle.dp_cert.proofs.CertificateAnswers.{certificate_proper}
-use Rattle.dp_cert.proofs.CertificateParts.{behind_head, behind_horizon, behind_policy, behind_tree, behind_version,
-    from_version, kept_steps, kept_version_one, policy_one, policy_two}
+use Rattle.dp_cert.proofs.CertificateParts.{behind_head, behind_horizon, behind_policy, behind_tree, behind_version}
+use Rattle.dp_cert.proofs.CertificateParts.{from_version, kept_steps, kept_version_one, policy_one, policy_two}
 use Rattle.dp_cert.proofs.ReadHeads.{head_read, horizon_read, lines_of_head, title_read}
 use Rattle.dp_cert.proofs.ReadLines.{AreLines, few_lines, line_then, lines_then, no_lines, words_read}
 use Rattle.dp_cert.proofs.ReadPlainRows.{plain_lines, plain_read}

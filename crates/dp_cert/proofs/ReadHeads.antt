@@ -1,6 +1,6 @@
 -- The lines of a certificate before its policy, as they were read.
-use Rattle.std.proofs.Common.{◌≡◌, ℕ, zero, suc, ◌+◌, ◌≤◌, true, false, List, [], ◌∷◌, ◌++◌, inl, inr, Ok, refl, sym,
-    subst, arith}
+use Rattle.std.proofs.Common.{◌≡◌, ℕ, zero, suc, ◌+◌, ◌≤◌, true, false, List, [], ◌∷◌, ◌++◌, inl, inr, Ok, refl, sym}
+use Rattle.std.proofs.Common.{subst, arith}
 use Rattle.std.specs.Prelude.{ℤ, pos, negsuc, ◌⊎◌, ◌==◌, Option, Some, None, codes, decimal}
 use Rattle.dp_spec.specs.CertificateText.{inner_form, look_form, mode_form, signed_form, signed_line}
 use Rattle.dp_spec.specs.Model.{Model}
@@ -13,10 +13,10 @@ use Rattle.dp_lines.specs.Scanning.{Rest, front_of}
 use Rattle.dp_lines.proofs.FirstLines.{AllHaveItems, proper_items}
 use Rattle.dp_lines.proofs.SpelledLines.{HasItems}
 use Rattle.dp_policy.proofs.ReadBytes.{IsLine, line_is, same_rest, split}
-use Rattle.dp_cert.specs.CertificateGrammar.{Head, Interval, head_grammar, horizon_grammar, horizon_passed,
-    interval_grammar, title_grammar}
-use Rattle.dp_cert.specs.Reading.{rest_at}
-use Rattle.dp_cert.specs.TextSteps.{first_number, first_plain, one_of, the_numbers, the_words, unless_passed}
+use Rattle.dp_cert.specs.CertificateGrammar.{Head, Interval, head_grammar, horizon_grammar, horizon_passed}
+use Rattle.dp_cert.specs.CertificateGrammar.{interval_grammar, title_grammar}
+use Rattle.dp_lines.specs.Reading.{rest_at}
+use Rattle.dp_lines.specs.Steps.{first_number, first_plain, one_of, the_numbers, the_words, unless_passed}
 use Rattle.dp_cert.proofs.CertificateAnswers.{title_proper}
 use Rattle.dp_cert.proofs.HeadParts.{behind_inner, behind_interval, behind_look, behind_mode, behind_title}
 use Rattle.dp_cert.proofs.ReadLines.{AreLines, line_then, next_read, no_lines, words_read}

@@ -1,9 +1,10 @@
 -- Lines that were read: what they are, and what follows them.
-use Rattle.std.proofs.Common.{◌≡◌, ℕ, suc, ◌+◌, ◌≤◌, List, [], ◌∷◌, ◌++◌, length, Result, Ok, Err, refl, sym, ap, ◌∙◌,
-    append_assoc, arith}
+use Rattle.std.proofs.Common.{◌≡◌, ℕ, suc, ◌+◌, ◌≤◌, List, [], ◌∷◌, ◌++◌, length, Result, Ok, Err, refl, sym, ap, ◌∙◌}
+use Rattle.std.proofs.Common.{append_assoc, arith}
 use Rattle.std.specs.Prelude.{ℤ, Some}
 use Rattle.std.specs.List.{join_with_byte}
 use Rattle.std.proofs.lemmas.List.{length-append}
+use Rattle.dp_spec.proofs.TextLemmas.{text_of_lines-append}
 use Rattle.dp_spec.specs.TextLines.{AllAllowed, Allows, Item, Line, line_text, spelled_items, text_of_lines}
 use Rattle.dp_model.specs.declared.limit.TooLarge.{TooLarge}
 use Rattle.dp_lines.specs.declared.why.FileWhy.{FileWhy}
@@ -13,7 +14,8 @@ use Rattle.dp_lines.specs.Scanning.{Found, Rest, front_of, lines_at}
 use Rattle.dp_lines.proofs.FirstLines.{AllHaveItems, IsLineAnswer, lines_answer}
 use Rattle.dp_lines.proofs.WrittenLines.{says-line_text, typed_allowed}
 use Rattle.dp_policy.proofs.ReadBytes.{IsLine, words_are}
-use Rattle.dp_cert.specs.TextSteps.{Text, the_words}
+use Rattle.dp_cert.specs.PolicyGrammar.{Text}
+use Rattle.dp_lines.specs.Steps.{the_words}
 
 -- ---- lines at the front of bytes
 
@@ -38,19 +40,13 @@ all_then : (ls ks : List Line) → AllAllowed ls → AllAllowed ks → AllAllowe
 all_then [] ks a b = b
 all_then (l ∷ ls) ks a b = (a.0, all_then ls ks a.1 b)
 
-pub text_then : (ls ks : List Line) → text_of_lines (ls ++ ks) ≡ text_of_lines ls ++ text_of_lines ks
-text_then [] ks = refl
-text_then (l ∷ ls) ks =
-    ap (λ (x : List ℕ). line_text l.form l.numbers ++ 10 ∷ x) (text_then ls ks)
-    ∙ sym (append_assoc (line_text l.form l.numbers) (10 ∷ text_of_lines ls) (text_of_lines ks))
-
 pub lines_then : (ls ks : List Line) (bytes mid more : List ℕ) → AreLines ls bytes mid → AreLines ks mid more
     → AreLines (ls ++ ks) bytes more
 lines_then ls ks bytes mid more are others = record {
   allowed = all_then ls ks are.allowed others.allowed;
   text = are.text ∙ ap (λ (l : List ℕ). text_of_lines ls ++ l) others.text
       ∙ sym (append_assoc (text_of_lines ls) (text_of_lines ks) more)
-      ∙ ap (λ (l : List ℕ). l ++ more) (sym (text_then ls ks));
+      ∙ ap (λ (l : List ℕ). l ++ more) (sym (text_of_lines-append ls ks));
 }
 
 -- each line takes a byte
@@ -110,7 +106,7 @@ spelled_words : (ws : List (List ℕ)) → spelled_items (fixed_form ws) [] ≡ 
 spelled_words [] = refl
 spelled_words (w ∷ ws) = ap (λ (l : List (List ℕ)). w ∷ l) (spelled_words ws)
 
-allowed_words : (ws : List (List ℕ)) → Allows (fixed_form ws) []
+pub allowed_words : (ws : List (List ℕ)) → Allows (fixed_form ws) []
 allowed_words [] = tt
 allowed_words (w ∷ ws) = allowed_words ws
 

@@ -1,6 +1,6 @@
 -- Rows of own histories, as they were read: they are plain rows of a policy, and their lines.
-use Rattle.std.proofs.Common.{◌≡◌, ℕ, zero, suc, ◌+◌, ◌*◌, ◌-◌, ◌^◌, ◌<◌, ◌≤◌, List, [], ◌∷◌, ◌++◌, length, get_or,
-    map, Ok, refl, sym, ap, subst, ◌∙◌, arith}
+use Rattle.std.proofs.Common.{◌≡◌, ℕ, zero, suc, ◌+◌, ◌*◌, ◌-◌, ◌^◌, ◌<◌, ◌≤◌, List, [], ◌∷◌, ◌++◌, length, get_or}
+use Rattle.std.proofs.Common.{map, Ok, refl, sym, ap, subst, ◌∙◌, arith}
 use Rattle.std.specs.Prelude.{ℤ, pos, unsigned_abs}
 use Rattle.std.specs.List.{AllByRecursion, range_with_len}
 use Rattle.std.proofs.Math.Nat.{one-le-pow, pow-zero}
@@ -8,8 +8,8 @@ use Rattle.std.proofs.lemmas.List.FromFn.{get_or-map-range_with_len, length-map-
 use Rattle.dp_spec.specs.PlainForm.{ArePlain, ArePlainRows, observations_after}
 use Rattle.dp_spec.specs.PlainForm.ArePlain.{and_agent as and_plain, no_agents as none_plain}
 use Rattle.dp_spec.specs.PolicyText.{agent_form, agent_lines, row_form}
-use Rattle.dp_spec.specs.SharedPolicy.{AgentRows, AreAgentRows, AreRowsOfAgents, PolicyRow, SharedPolicy, no_row,
-    row_at, row_count}
+use Rattle.dp_spec.specs.SharedPolicy.{AgentRows, AreAgentRows, AreRowsOfAgents, PolicyRow, SharedPolicy, no_row}
+use Rattle.dp_spec.specs.SharedPolicy.{row_at, row_count}
 use Rattle.dp_spec.specs.SharedPolicy.AreRowsOfAgents.{and_agent, no_agents}
 use Rattle.dp_spec.specs.TextLines.{Line}
 use Rattle.dp_model.specs.declared.limit.TooLarge.{TooLarge}
@@ -18,11 +18,12 @@ use Rattle.dp_laws.proofs.PlainForms.{all_observations, first_by_place, no_obser
 use Rattle.dp_lines.specs.Grammar.{ends, ◌>>=◌}
 use Rattle.dp_lines.specs.Scanning.{Rest, front_of}
 use Rattle.dp_policy.proofs.ReadBytes.{IsLine, line_is, same_rest, split}
-use Rattle.dp_cert.specs.PolicyGrammar.{agent_words, plain_agent, plain_agents, plain_stage, plain_stages, rows_from}
-use Rattle.dp_cert.specs.Reading.{rest_at}
-use Rattle.dp_cert.specs.TextSteps.{the_numbers, the_words}
-use Rattle.dp_cert.proofs.AgentWords.{agent_words_are}
-use Rattle.dp_cert.proofs.CertificateAnswers.{replicate_items}
+use Rattle.dp_policy.specs.PolicyGrammar.{agent_words}
+use Rattle.dp_cert.specs.PolicyGrammar.{plain_agent, plain_agents, plain_stage, plain_stages, rows_from}
+use Rattle.dp_lines.specs.Reading.{rest_at}
+use Rattle.dp_lines.specs.Steps.{the_numbers, the_words}
+use Rattle.dp_policy.proofs.AgentParts.{agent_words_are}
+use Rattle.dp_lines.proofs.ProperTexts.{replicate_items}
 use Rattle.dp_cert.proofs.ReadLines.{AreLines, line_then, lines_then, no_lines, words_read}
 use Rattle.dp_cert.proofs.ReadSharedRows.{numbers_in}
 

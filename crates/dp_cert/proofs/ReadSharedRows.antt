@@ -1,27 +1,29 @@
 -- Rows that own histories share, as they were read: they are rows of a policy, and their lines.
-use Rattle.std.proofs.Common.{◌≡◌, ℕ, zero, suc, ◌+◌, ◌*◌, ◌-◌, ◌^◌, ◌<◌, ◌≤◌, List, [], ◌∷◌, ◌++◌, length, get_or,
-    map, Ok, refl, sym, ap, subst, ◌∙◌, arith}
+use Rattle.std.proofs.Common.{◌≡◌, ℕ, zero, suc, ◌+◌, ◌*◌, ◌-◌, ◌^◌, ◌<◌, ◌≤◌, List, [], ◌∷◌, ◌++◌, length, get_or}
+use Rattle.std.proofs.Common.{map, Ok, refl, sym, ap, subst, ◌∙◌, arith}
 use Rattle.std.specs.Prelude.{ℤ, pos, negsuc, replicate, unsigned_abs, Option, Some, None}
 use Rattle.std.specs.List.{AllByRecursion}
 use Rattle.dp_spec.specs.JointNumbers.{product}
 use Rattle.dp_spec.specs.PolicyText.{agent_form, agent_lines}
-use Rattle.dp_spec.specs.SharedPolicy.{AgentRows, AreRowsOfAgents, AreStages, IsRow, PolicyRow, SharedPolicy,
-    first_count, next_count, no_row, row_count, row_counts}
+use Rattle.dp_spec.specs.SharedPolicy.{AgentRows, AreRowsOfAgents, AreStages, IsRow, PolicyRow, SharedPolicy}
+use Rattle.dp_spec.specs.SharedPolicy.{first_count, next_count, no_row, row_count, row_counts}
 use Rattle.dp_spec.specs.SharedPolicy.AreRowsOfAgents.{and_agent, no_agents}
-use Rattle.dp_spec.specs.SharedRows.{counts_form, counts_line, products, shared_policy_rows, shared_row_form,
-    shared_row_line, stage_counts, stage_lines}
+use Rattle.dp_spec.specs.SharedRows.{counts_form, counts_line, products, shared_policy_rows, shared_row_form}
+use Rattle.dp_spec.specs.SharedRows.{shared_row_line, stage_counts, stage_lines}
 use Rattle.dp_spec.specs.TextLines.{Allows, Line, fixed_line, plain}
 use Rattle.dp_model.specs.declared.limit.TooLarge.{TooLarge}
 use Rattle.dp_lines.specs.Grammar.{ends, ◌>>=◌}
 use Rattle.dp_lines.specs.Scanning.{Rest, front_of}
 use Rattle.dp_lines.proofs.SpelledLines.{HasItems}
 use Rattle.dp_policy.proofs.ReadBytes.{IsLine, line_is, same_rest, split}
-use Rattle.dp_cert.specs.PolicyGrammar.{agent_words, cells_passed, counts_grammar, first_of_counts, nexts_before,
-    row_line, row_of, rows_of_form, shared_agents, shared_stages}
-use Rattle.dp_cert.specs.Reading.{rest_at}
-use Rattle.dp_cert.specs.TextSteps.{Text, and_then, the_numbers, the_words, unless_passed}
-use Rattle.dp_cert.proofs.AgentWords.{agent_words_are}
-use Rattle.dp_cert.proofs.CertificateAnswers.{counts_items, replicate_items}
+use Rattle.dp_policy.specs.PolicyGrammar.{agent_words}
+use Rattle.dp_cert.specs.PolicyGrammar.{cells_passed, counts_grammar, first_of_counts, nexts_before, row_line, row_of}
+use Rattle.dp_cert.specs.PolicyGrammar.{rows_of_form, shared_agents, shared_stages, Text}
+use Rattle.dp_lines.specs.Reading.{rest_at}
+use Rattle.dp_lines.specs.Steps.{and_then, the_numbers, the_words, unless_passed}
+use Rattle.dp_policy.proofs.AgentParts.{agent_words_are}
+use Rattle.dp_cert.proofs.CertificateAnswers.{counts_items}
+use Rattle.dp_lines.proofs.ProperTexts.{replicate_items}
 use Rattle.dp_cert.proofs.ReadLines.{AreLines, line_then, lines_then, no_lines, words_read}
 use Rattle.dp_cert.proofs.RowParts.{kept_cells}
 
@@ -276,13 +278,13 @@ cell_few [] t all = omega arith
 cell_few (c ∷ cells) zero all = all.0
 cell_few (c ∷ cells) (suc t) all = cell_few cells t all.1
 
-product_at : (cells xs : List ℕ) (t : ℕ) → get_or (products cells xs) t 0 ≡ get_or cells t 0 * get_or xs t 0
+pub product_at : (cells xs : List ℕ) (t : ℕ) → get_or (products cells xs) t 0 ≡ get_or cells t 0 * get_or xs t 0
 product_at [] xs t = omega arith
 product_at (c ∷ cells) [] t = omega arith
 product_at (c ∷ cells) (x ∷ xs) zero = refl
 product_at (c ∷ cells) (x ∷ xs) (suc t) = product_at cells xs t
 
-count_at : (stages : AgentRows) (t : ℕ) → get_or (stage_counts stages) t 0 ≡ row_count stages t
+pub count_at : (stages : AgentRows) (t : ℕ) → get_or (stage_counts stages) t 0 ≡ row_count stages t
 count_at [] t = refl
 count_at (rows ∷ stages) zero = refl
 count_at (rows ∷ stages) (suc t) = count_at stages t

@@ -1,13 +1,13 @@
 -- What was read is the text of a certificate.
-use Rattle.std.proofs.Common.{◌≡◌, ℕ, zero, suc, ◌+◌, ◌^◌, Bool, true, false, cond, List, [], ◌∷◌, ◌++◌, map, Result,
-    Ok, Err, refl, ap, subst, ◌∙◌, arith}
+use Rattle.std.proofs.Common.{◌≡◌, ℕ, zero, suc, ◌+◌, ◌^◌, Bool, true, false, cond, List, [], ◌∷◌, ◌++◌, map, Result}
+use Rattle.std.proofs.Common.{Ok, Err, refl, ap, subst, ◌∙◌, arith}
 use Rattle.std.specs.Prelude.{◌==◌, codes, pos, IfOk}
 use Rattle.std.specs.List.{range_with_len}
 use Rattle.std.proofs.lemmas.Bool.Decides.{nat_tests}
 use Rattle.std.proofs.lemmas.List.{append-nil}
 use Rattle.dp_spec.specs.Certificate.{Certificate, HasPolicyOfVersion}
-use Rattle.dp_spec.specs.CertificateText.{IsCertificateText, certificate_lines, certificate_rows, certificate_text,
-    head_lines}
+use Rattle.dp_spec.specs.CertificateText.{IsCertificateText, certificate_lines, certificate_rows, certificate_text}
+use Rattle.dp_spec.specs.CertificateText.{head_lines}
 use Rattle.dp_spec.specs.Keeping.{tree_at}
 use Rattle.dp_spec.specs.Model.{IsModel, Model}
 use Rattle.dp_spec.specs.PlainForm.{plain_form, plain_row, plain_rows_of}

@@ -1,10 +1,11 @@
 -- Trees that were read: their lines, their depth and their branches.
-use Rattle.std.proofs.Common.{◌≡◌, ℕ, zero, suc, ◌+◌, ◌≤◌, List, [], ◌∷◌, length, max, Ok, refl, sym, ap, subst, ◌∙◌,
-    arith}
+use Rattle.std.proofs.Common.{◌≡◌, ℕ, zero, suc, ◌+◌, ◌≤◌, List, [], ◌∷◌, length, max, Ok, refl, sym, ap, subst, ◌∙◌}
+use Rattle.std.proofs.Common.{arith}
 use Rattle.std.specs.Prelude.{ℤ, pos, negsuc, Some}
 use Rattle.std.proofs.lemmas.List.{length-append}
-use Rattle.dp_spec.specs.BoundTree.{BoundTree, BoundTrees, HasSmallBranches, HaveSmallBranches, branch, child_count,
-    depth_of, greatest_depth, leaf, merge, more_bound_trees, no_bound_trees, node_count, node_counts}
+use Rattle.dp_spec.specs.BoundTree.{BoundTree, BoundTrees, HasSmallBranches, HaveSmallBranches, branch, child_count}
+use Rattle.dp_spec.specs.BoundTree.{depth_of, greatest_depth, leaf, merge, more_bound_trees, no_bound_trees}
+use Rattle.dp_spec.specs.BoundTree.{node_count, node_counts}
 use Rattle.dp_spec.specs.CertificateText.{branch_form, branch_line, children_lines, leaf_form, merge_form, node_lines}
 use Rattle.dp_spec.specs.TextLines.{Item}
 use Rattle.dp_model.specs.declared.limit.TooLarge.{TooLarge}
@@ -12,10 +13,11 @@ use Rattle.dp_lines.specs.Grammar.{ends, nth_form, ◌>>=◌}
 use Rattle.dp_lines.specs.Scanning.{Rest, front_of}
 use Rattle.dp_lines.proofs.FirstLines.{AllHaveItems, proper_items}
 use Rattle.dp_policy.proofs.ReadBytes.{IsLine, same_rest, split}
-use Rattle.dp_cert.specs.CertificateGrammar.{branch_below, leaf_only, merge_below, node_below, node_forms, repeated,
-    tree_lines}
-use Rattle.dp_cert.specs.Reading.{rest_at}
-use Rattle.dp_cert.specs.TextSteps.{Text, first_number}
+use Rattle.dp_cert.specs.CertificateGrammar.{branch_below, leaf_only, merge_below, node_below, node_forms, repeated}
+use Rattle.dp_cert.specs.CertificateGrammar.{tree_lines}
+use Rattle.dp_lines.specs.Reading.{rest_at}
+use Rattle.dp_cert.specs.PolicyGrammar.{Text}
+use Rattle.dp_lines.specs.Steps.{first_number}
 use Rattle.dp_cert.proofs.CertificateAnswers.{forms_proper}
 use Rattle.dp_cert.proofs.ReadLines.{AreLines, line_then, lines_then, next_read, no_lines}
 

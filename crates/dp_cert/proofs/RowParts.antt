@@ -1,11 +1,12 @@
 -- Rows, cells and ranges, one after the other.
-use Rattle.std.proofs.Common.{◌≡◌, ℕ, zero, suc, ◌+◌, ◌*◌, ◌^◌, ◌<◌, ◌≤◌, Bool, true, false, cond, List, [], ◌∷◌,
-    ◌++◌, length, drop, get_or, map, refl, sym, ap, ◌∙◌, append_assoc, add-one, arith}
-use Rattle.std.specs.Prelude.{pos, unsigned_abs, replicate, nat_lt, Option, Some, None, option_map}
+use Rattle.std.proofs.Common.{◌≡◌, ℕ, zero, suc, ◌+◌, ◌*◌, ◌^◌, ◌<◌, ◌≤◌, Bool, true, false, cond, List, [], ◌∷◌}
+use Rattle.std.proofs.Common.{◌++◌, length, drop, get_or, map, refl, sym, ap, ◌∙◌, append_assoc, add-one, arith}
+use Rattle.std.specs.Prelude.{pos, replicate, nat_lt, Option, Some, None, option_map}
 use Rattle.std.specs.List.{AllByRecursion}
 use Rattle.std.proofs.Math.Seq.{drop-cons}
 use Rattle.std.proofs.lemmas.Bool.Decides.{nat_tests}
-use Rattle.std.proofs.lemmas.List.{map-append, drop_all, append-nil}
+use Rattle.dp_lines.proofs.LineCounts.{numbers_back}
+use Rattle.std.proofs.lemmas.List.{replicate_more, map-append, drop_all, append-nil}
 use Rattle.dp_model.specs.declared.limit.Limit.TheVariants.{PolicyCells}
 use Rattle.dp_model.specs.declared.limit.TooLarge.{TooLarge}
 use Rattle.dp_spec.specs.TextLines.{plain}
@@ -15,16 +16,6 @@ use Rattle.dp_lines.specs.declared.line.PlainRange.{PlainRange}
 use Rattle.dp_lines.specs.Forms.{AreInRange}
 use Rattle.dp_lines.specs.Lines.{plain_form}
 use Rattle.dp_cert.specs.PolicyGrammar.{cells_passed, row_of, rows_from}
-
--- ---- lists
-
-pub replicate-snoc : {A : Type 0} (k : ℕ) (x : A) → replicate k x ++ x ∷ [] ≡ replicate (suc k) x
-replicate-snoc zero x = refl
-replicate-snoc (suc k) x = ap (λ l. x ∷ l) (replicate-snoc k x)
-
-pub numbers_back : (xs : List ℕ) → map unsigned_abs (map pos xs) ≡ xs
-numbers_back [] = refl
-numbers_back (x ∷ xs) = ap (λ l. x ∷ l) (numbers_back xs)
 
 -- ---- ranges
 
@@ -37,7 +28,8 @@ ranges_step first done more k range so_far e =
     ∙ ap (λ l. l ++ plain range.low range.high ∷ []) so_far
     ∙ append_assoc (plain_form first) (replicate k (plain range.low range.high))
     (plain range.low range.high ∷ [])
-    ∙ ap (λ l. plain_form first ++ l) (replicate-snoc k (plain range.low range.high))
+    ∙ ap (λ l. plain_form first ++ l) (replicate_more k (plain range.low range.high)
+    ∙ ap (λ n. replicate n (plain range.low range.high)) (add-one k))
 
 -- ---- cells
 

@@ -1,63 +1,32 @@
 -- Stages and agents, one after the other.
-use Rattle.std.proofs.Common.{◌≡◌, ℕ, zero, suc, ◌+◌, ◌*◌, ◌-◌, ◌^◌, ◌<◌, ◌≤◌, List, [], ◌∷◌, length, drop, get_or,
-    map, Result, Ok, Err, refl, sym, ap, ◌∙◌, inl, inr, add-one, arith}
+use Rattle.std.proofs.Common.{◌≡◌, ℕ, suc, ◌+◌, ◌-◌, ◌<◌, ◌≤◌, List, ◌∷◌, length, drop, get_or, map, Result, Ok, Err}
+use Rattle.std.proofs.Common.{refl, sym, ap, ◌∙◌, add-one, arith}
 use Rattle.std.specs.Prelude.{ℤ, pos, unsigned_abs, Some, None}
 use Rattle.std.proofs.Math.Seq.{drop-cons}
-use Rattle.std.proofs.lemmas.Bool.{cases_lt}
 use Rattle.std.proofs.lemmas.List.{drop_all, append-nil}
-use Rattle.dp_base.specs.Sums.{nat_sum}
-use Rattle.dp_spec.specs.JointNumbers.{product}
-use Rattle.dp_spec.specs.Mode.{own_history_count}
-use Rattle.dp_spec.specs.Model.{Model, IsModel, joint_actions}
 use Rattle.dp_spec.specs.PlainForm.{observations_after}
 use Rattle.dp_spec.specs.PolicyText.{row_form}
 use Rattle.dp_spec.specs.SharedPolicy.{AgentRows, PolicyRow, SharedPolicy}
 use Rattle.dp_spec.specs.SharedRows.{counts_form, products, shared_row_form}
 use Rattle.dp_spec.specs.TextLines.{Item}
-use Rattle.dp_spec.proofs.JointNumberLaws.{positive_right}
 use Rattle.dp_lines.specs.Grammar.{ends, ◌>>=◌, Fault, limit}
 use Rattle.dp_lines.specs.Scanning.{Rest, front_of}
 use Rattle.dp_model.specs.declared.limit.TooLarge.{TooLarge}
-use Rattle.dp_cert.specs.PolicyGrammar.{agent_words, cells_passed, first_of_counts, nexts_before, plain_agent,
-    plain_agents, plain_stage, plain_stages, row_line, rows_from, rows_of_form, shared_agents, shared_stages,
-    counts_grammar}
-use Rattle.dp_cert.specs.Reading.{onto, rest_at}
-use Rattle.dp_cert.specs.TextSteps.{Text, and_then, the_numbers, the_words, unless_passed}
-use Rattle.dp_cert.proofs.RowParts.{numbers_back}
-use Rattle.dp_cert.proofs.TextParts.{bind_ok}
-
--- ---- sizes
-
-product_part : (bs : List ℕ) (i : ℕ) → 0 < product bs → i < length bs → 0 < get_or bs i 0
-product_part [] i some lt = absurd (omega arith)
-product_part (b ∷ bs) zero some lt = let some' : 0 < product bs * b = omega arith in
-    positive_right (product bs) b 0 some'
-product_part (b ∷ bs) (suc i) some lt = product_part bs i (positive_right b (product bs) 0 some) (omega arith)
-
--- each agent of a model has an action
-pub action_some : (m : Model) (i : ℕ) → IsModel m → i < length m.actions → 0 < get_or m.actions i 0
-unfolding joint_actions
-action_some m i is lt = product_part m.actions i is.sizes.some_action lt
-
-nat_sum_part : (h : ℕ) (f : ℕ → ℕ) (t : ℕ) → t < h → f t ≤ nat_sum h f
-nat_sum_part zero f t lt = absurd (omega arith)
-nat_sum_part (suc h) f t lt = elim (cases_lt t h) [
-  | inl earlier ↦ omega (arith, nat_sum_part h f t earlier)
-  | inr last ↦ (let same : t ≡ h = omega arith in let e : f t ≡ f h = ap f same in omega (arith, e))
-]
-
--- each stage of each agent has few own histories
-pub histories_few : (ns : List ℕ) (h i t : ℕ) → own_history_count ns h ≤ 2048 → i < length ns → t < h
-    → get_or ns i 0 ^ t ≤ 2048
-histories_few [] h i t few lt in_time = absurd (omega arith)
-histories_few (n ∷ ns) h zero t few lt in_time = omega (arith, nat_sum_part h (λ u. n ^ u) t in_time)
-histories_few (n ∷ ns) h (suc i) t few lt in_time = histories_few ns h i t (omega arith) (omega arith) in_time
+use Rattle.dp_policy.specs.PolicyGrammar.{agent_words}
+use Rattle.dp_cert.specs.PolicyGrammar.{cells_passed, first_of_counts, nexts_before, plain_agent, plain_agents}
+use Rattle.dp_cert.specs.PolicyGrammar.{plain_stage, plain_stages, row_line, rows_from, rows_of_form, shared_agents}
+use Rattle.dp_cert.specs.PolicyGrammar.{shared_stages, counts_grammar, Text}
+use Rattle.dp_lines.specs.Reading.{onto, rest_at}
+use Rattle.dp_lines.specs.Steps.{and_then, the_numbers, the_words, unless_passed}
+use Rattle.dp_lines.proofs.LineCounts.{numbers_back}
+use Rattle.dp_lines.proofs.TextParts.{bind_ok}
 
 -- ---- version 1
 
 pub plain_stage_read : (b n h t : ℕ) (form : List Item) (line to : ℕ) (bytes more xs : List ℕ)
     (rows : List PolicyRow)
-    → form ≡ row_form b n t → front_of (the_numbers form) line bytes ≡ Ok (rest_at (map pos xs) to more)
+    → form ≡ row_form b n t
+    → front_of {L = TooLarge} (the_numbers form) line bytes ≡ Ok (rest_at (map pos xs) to more)
     → rows ≡ rows_from n (observations_after n h t) 0 xs → front_of (plain_stage b n h t) line bytes
     ≡ Ok (rest_at rows to more)
 plain_stage_read b n h t form line to bytes more xs rows is read made =
@@ -150,8 +119,8 @@ counts_pass h cells xs line bytes passed e = rw (numbers_back xs, e) refl
 
 pub counts_at : (h agent : ℕ) (cells xs : List ℕ) (form : List Item) (line named to : ℕ)
     (bytes titled more : List ℕ) → form ≡ counts_form h
-    → front_of (the_words (agent_words agent)) line bytes ≡ Ok (rest_at tt named titled)
-    → front_of (the_numbers form) named titled ≡ Ok (rest_at (map pos xs) to more)
+    → front_of {L = TooLarge} (the_words (agent_words agent)) line bytes ≡ Ok (rest_at tt named titled)
+    → front_of {L = TooLarge} (the_numbers form) named titled ≡ Ok (rest_at (map pos xs) to more)
     → front_of (counts_grammar h agent cells) line bytes ≡ front_of (behind_counts h cells (map pos xs)) to more
 unfolding behind_counts
 counts_at h agent cells xs form line named to bytes titled more is title read =
@@ -163,7 +132,7 @@ counts_at h agent cells xs form line named to bytes titled more is title read =
 
 pub counts_title : (h agent : ℕ) (cells : List ℕ) (form : List Item) (line named : ℕ) (bytes titled : List ℕ)
     → form ≡ counts_form h
-    → front_of (the_words (agent_words agent)) line bytes ≡ Ok (rest_at tt named titled)
+    → front_of {L = TooLarge} (the_words (agent_words agent)) line bytes ≡ Ok (rest_at tt named titled)
     → front_of (counts_grammar h agent cells) line bytes ≡ front_of (the_numbers form >>= behind_counts h cells)
     named titled
 unfolding behind_counts

@@ -1,9 +1,9 @@
 -- The sizes of a branch, child after child.
-use Rattle.std.proofs.Common.{◌≡◌, ℕ, zero, suc, ◌+◌, ◌-◌, ◌<◌, ◌≤◌, List, [], ◌∷◌, length, drop, get_or, map, max,
-    refl, sym, ap, arith}
+use Rattle.std.proofs.Common.{◌≡◌, ℕ, zero, suc, ◌+◌, ◌-◌, ◌<◌, ◌≤◌, List, [], ◌∷◌, length, drop, get_or, map, max}
+use Rattle.std.proofs.Common.{refl, sym, ap, arith}
 use Rattle.std.specs.Prelude.{◌↔◌}
-use Rattle.dp_spec.specs.BoundTree.{BoundTree, leaf, branch, merge, node_count, node_counts, depth_of, greatest_depth,
-    HaveSmallBranches, child_count}
+use Rattle.dp_spec.specs.BoundTree.{BoundTree, leaf, branch, merge, node_count, node_counts, depth_of, greatest_depth}
+use Rattle.dp_spec.specs.BoundTree.{HaveSmallBranches, child_count}
 use Rattle.dp_tree.specs.TreeValue.{bound_trees}
 use Rattle.dp_cert.specs.TreeSizes.{IsSmallTree}
 

@@ -1,10 +1,10 @@
 -- A certificate whose numbers are of their types has a text.
 use Rattle.std.proofs.Common.{◌≡◌, ℕ, ◌-◌, ◌^◌, ◌<◌, ◌≤◌, List, sym, subst, ⊎_elim, arith}
-use Rattle.dp_spec.specs.BoundTree.{BoundTree, BoundTrees, HasSmallBranches, HaveSmallBranches, branch, leaf, merge,
-    more_bound_trees, no_bound_trees}
+use Rattle.dp_spec.specs.BoundTree.{BoundTree, BoundTrees, HasSmallBranches, HaveSmallBranches, branch, leaf, merge}
+use Rattle.dp_spec.specs.BoundTree.{more_bound_trees, no_bound_trees}
 use Rattle.dp_spec.specs.Certificate.{Certificate, IsCertificateOf}
-use Rattle.dp_spec.specs.CertificateText.{HasTextNumbers, IsCertificateText, certificate_text, children_lines,
-    node_lines}
+use Rattle.dp_spec.specs.CertificateText.{HasTextNumbers, IsCertificateText, certificate_text, children_lines}
+use Rattle.dp_spec.specs.CertificateText.{node_lines}
 use Rattle.dp_spec.specs.Mode.{IsWithinVersion}
 use Rattle.dp_spec.specs.Model.{IsModel, Model}
 use Rattle.dp_spec.specs.TextLines.{AllAllowed}

@@ -1,50 +1,40 @@
 -- What is written is the text of the certificate.
-use Rattle.std.proofs.Common.{◌≡◌, ℕ, zero, suc, ◌+◌, ◌-◌, ◌^◌, ◌<◌, Bool, true, false, cond, List, [], ◌∷◌, ◌++◌,
-    length, get_or, map, refl, sym, ap, ◌∙◌, append_assoc, arith}
+use Rattle.std.proofs.Common.{◌≡◌, ℕ, zero, suc, ◌+◌, ◌-◌, ◌^◌, ◌<◌, Bool, true, false, cond, List, [], ◌∷◌, ◌++◌}
+use Rattle.std.proofs.Common.{length, get_or, map, refl, sym, ap, ◌∙◌, append_assoc, arith}
 use Rattle.std.specs.Prelude.{◌==◌, codes, decimal, pos, replicate}
 use Rattle.std.specs.Fmt.{signed_decimal}
 use Rattle.std.specs.List.{join_with_byte}
 use Rattle.std.proofs.lemmas.Bool.Decides.{nat_tests}
-use Rattle.std.proofs.lemmas.List.{append-nil}
-use Rattle.dp_spec.specs.BoundTree.{BoundTree, BoundTrees, branch, child_count, leaf, merge, more_bound_trees,
-    no_bound_trees}
+use Rattle.dp_spec.specs.BoundTree.{BoundTree, BoundTrees, branch, child_count, leaf, merge, more_bound_trees}
+use Rattle.dp_spec.specs.BoundTree.{no_bound_trees}
 use Rattle.dp_spec.specs.Certificate.{Certificate, HasPolicyOfVersion}
-use Rattle.dp_spec.specs.CertificateText.{certificate_text, children_lines, head_lines, inner_form, node_lines,
-    signed_line}
+use Rattle.dp_spec.specs.CertificateText.{certificate_text, children_lines, head_lines, inner_form, node_lines}
+use Rattle.dp_spec.specs.CertificateText.{signed_line}
 use Rattle.dp_spec.specs.Model.{Model}
 use Rattle.dp_spec.specs.PlainForm.{ArePlain}
 use Rattle.dp_spec.specs.PlainForm.ArePlain.{and_agent as and_plain, no_agents as none_plain}
 use Rattle.dp_spec.specs.PolicyText.{agent_form, agent_lines, end_form, row_form}
-use Rattle.dp_spec.specs.SharedPolicy.{AgentRows, AreRowsOfAgents, AreStages, IsRow, PolicyRow, SharedPolicy,
-    first_count, next_count, no_row, row_count}
+use Rattle.dp_spec.specs.SharedPolicy.{AgentRows, AreRowsOfAgents, AreStages, IsRow, PolicyRow, SharedPolicy}
+use Rattle.dp_spec.specs.SharedPolicy.{first_count, next_count, no_row, row_count}
 use Rattle.dp_spec.specs.SharedPolicy.AreRowsOfAgents.{and_agent, no_agents}
-use Rattle.dp_spec.specs.SharedRows.{counts_form, counts_line, shared_policy_rows, shared_row_form, shared_row_line,
-    stage_counts, stage_lines}
+use Rattle.dp_spec.specs.SharedRows.{counts_form, counts_line, shared_policy_rows, shared_row_form, shared_row_line}
+use Rattle.dp_spec.specs.SharedRows.{stage_counts, stage_lines}
 use Rattle.dp_spec.specs.TextLines.{Line, fixed, fixed_line, line_text, plain, spelled_items, text_of_lines}
-use Rattle.dp_cert.specs.CertificateBytes.{actions_bytes, agents_bytes, certificate_bytes, children_bytes,
-    counted_bytes, head_bytes, node_bytes, plain_bytes, row_tail, rows_bytes, signed_bytes, stages_bytes}
+use Rattle.dp_cert.specs.CertificateBytes.{actions_bytes, agents_bytes, certificate_bytes, children_bytes}
+use Rattle.dp_cert.specs.CertificateBytes.{counted_bytes, head_bytes, node_bytes, plain_bytes, rows_bytes}
+use Rattle.dp_cert.specs.CertificateBytes.{signed_bytes, stages_bytes}
+use Rattle.dp_lines.specs.Lines.{row_tail}
 use Rattle.dp_cert.proofs.ReadCertificates.{rows_lines, tree_part_lines}
-use Rattle.dp_cert.proofs.ReadLines.{text_then}
+use Rattle.dp_spec.proofs.TextLemmas.{spelled_items-replicate, text_of_lines-append}
+use Rattle.dp_lines.proofs.WrittenLines.{all_joined, tail_joined}
 use Rattle.dp_cert.proofs.ReadPlainRows.{action_lines, actions_of, plain_lines}
 use Rattle.dp_cert.proofs.ReadTexts.{lines_read_are}
 
 -- ---- a line of numbers
 
-pub spelled_row : (k low high : ℕ) (xs : List ℕ) → length xs ≡ k
+spelled_row : (k low high : ℕ) (xs : List ℕ) → length xs ≡ k
     → spelled_items (replicate k (plain low high)) (map pos xs) ≡ map decimal xs
-spelled_row zero low high [] e = refl
-spelled_row zero low high (x ∷ xs) e = absurd (omega (arith, e))
-spelled_row (suc k) low high [] e = absurd (omega (arith, e))
-spelled_row (suc k) low high (x ∷ xs) e =
-    ap (λ (l : List (List ℕ)). decimal x ∷ l) (spelled_row k low high xs (omega (arith, e)))
-
-pub tail_joined : (w : List ℕ) (xs : List ℕ) → join_with_byte 32 (w ∷ map decimal xs) ≡ w ++ row_tail false xs
-tail_joined w [] = sym (append-nil w)
-tail_joined w (x ∷ xs) = ap (λ (l : List ℕ). w ++ 32 ∷ l) (tail_joined (decimal x) xs)
-
-all_joined : (xs : List ℕ) → join_with_byte 32 (map decimal xs) ≡ row_tail true xs
-all_joined [] = refl
-all_joined (x ∷ xs) = tail_joined (decimal x) xs
+spelled_row k low high xs e = rw (← e) (spelled_items-replicate low high xs)
 
 -- a line feed and what follows it
 feed : (line : List ℕ) (others : List ℕ) → line ++ 10 ∷ others ≡ (line ++ 10 ∷ []) ++ others
@@ -84,7 +74,7 @@ mutual
   children_written : (ks : BoundTrees) → text_of_lines (children_lines ks) ≡ children_bytes ks
   children_written no_bound_trees = refl
   children_written (more_bound_trees k ks) =
-      text_then (node_lines k) (children_lines ks)
+      text_of_lines-append (node_lines k) (children_lines ks)
       ∙ (λ j. nodes_written k j ++ children_written ks j)
 
 -- ---- shared rows
@@ -114,7 +104,8 @@ stages_written : (b n : ℕ) (stages : AgentRows) → AreStages b n stages
     → text_of_lines (stage_lines b n stages) ≡ stages_bytes stages
 stages_written b n [] are = refl
 stages_written b n (rows ∷ stages) are =
-    text_then (map (shared_row_line b (next_count n stages) (first_count stages)) rows) (stage_lines b n stages)
+    text_of_lines-append (map (shared_row_line b (next_count n stages) (first_count stages)) rows)
+    (stage_lines b n stages)
     ∙ (λ j. rows_written b (next_count n stages) (first_count stages) rows are.1 j
     ++ stages_written b n stages are.2 j)
 
@@ -152,7 +143,7 @@ agent_then : (agent : ℕ) (rows others : List Line) (mine more : List ℕ) → 
     ++ (mine ++ more)
 agent_then agent rows others mine more e f =
     number_then (codes "agent ") (decimal agent) (text_of_lines (rows ++ others)) (mine ++ more)
-    (text_then rows others ∙ (λ j. e j ++ f j))
+    (text_of_lines-append rows others ∙ (λ j. e j ++ f j))
 
 shared_written : {h : ℕ} {bs ns : List ℕ} {p : SharedPolicy} → AreRowsOfAgents h bs ns p → (agent : ℕ)
     → text_of_lines (agent_lines agent (shared_policy_rows bs ns p)) ≡ agents_bytes counted_bytes agent p
@@ -220,7 +211,7 @@ tree_written : (T : BoundTree) → text_of_lines (tree_part_lines T) ≡ codes "
     ++ (node_bytes T ++ codes "end\n")
 tree_written T =
     ap (λ (l : List ℕ). codes "tree\n" ++ l)
-    (text_then (node_lines T) (fixed_line end_form ∷ [])
+    (text_of_lines-append (node_lines T) (fixed_line end_form ∷ [])
     ∙ ap (λ (l : List ℕ). l ++ codes "end\n") (nodes_written T))
 
 -- parts of a head one after the other, and what follows them
@@ -291,5 +282,5 @@ unfolding certificate_text
 bytes_are_text m c has =
     let rows = agent_lines 0 (rows_lines m c.version c.policy) in
     sym (head_then c (rows ++ tree_part_lines c.tree) _
-    (text_then rows (tree_part_lines c.tree) ∙ (λ j. rows_bytes_of m c has j ++ tree_written c.tree j)))
+    (text_of_lines-append rows (tree_part_lines c.tree) ∙ (λ j. rows_bytes_of m c has j ++ tree_written c.tree j)))
     ∙ ap text_of_lines (lines_read_are m c has)

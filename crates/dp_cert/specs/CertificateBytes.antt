@@ -1,9 +1,10 @@
 -- The bytes of a certificate text, as they are written.
-use Rattle.std.specs.Prelude.{ℕ, ◌+◌, ℤ, Bool, true, false, cond, ◌==◌, List, [], ◌∷◌, ◌++◌, map, length, codes}
+use Rattle.std.specs.Prelude.{ℕ, ◌+◌, ℤ, true, false, cond, ◌==◌, List, [], ◌∷◌, ◌++◌, map, length, codes}
 use Rattle.std.specs.Fmt.{decimal, signed_decimal}
-use Rattle.dp_spec.specs.BoundTree.{BoundTree, BoundTrees, child_count, leaf, branch, merge, no_bound_trees,
-    more_bound_trees}
+use Rattle.dp_spec.specs.BoundTree.{BoundTree, BoundTrees, child_count, leaf, branch, merge, no_bound_trees}
+use Rattle.dp_spec.specs.BoundTree.{more_bound_trees}
 use Rattle.dp_spec.specs.Certificate.{Certificate}
+use Rattle.dp_lines.specs.Lines.{row_tail}
 use Rattle.dp_spec.specs.SharedPolicy.{AgentRows, PolicyRow, SharedPolicy}
 
 -- a word with its space, a number, and a line feed
@@ -12,12 +13,6 @@ plain_bytes word n = word ++ (decimal n ++ 10 ∷ [])
 
 abbrev pub signed_bytes : List ℕ → ℤ → List ℕ
 signed_bytes word z = word ++ (signed_decimal z ++ 10 ∷ [])
-
--- numbers, with a space before each but the first of a line
-abbrev pub row_tail : Bool → List ℕ → List ℕ
-row_tail first [] = []
-row_tail true (n ∷ row) = decimal n ++ row_tail false row
-row_tail false (n ∷ row) = 32 ∷ (decimal n ++ row_tail false row)
 
 -- the lines before the interval
 abbrev pub manner_bytes : Certificate → List ℕ

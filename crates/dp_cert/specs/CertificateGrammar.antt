@@ -1,21 +1,21 @@
 -- The grammar of certificate texts of both versions: what each line has to be, given the lines before it. (Own.)
-use Rattle.std.specs.Prelude.{ℕ, zero, suc, ◌+◌, ℤ, pos, unsigned_abs, Bool, true, false, ◌==◌, cond, List, [], ◌∷◌,
-    Option, codes}
+use Rattle.std.specs.Prelude.{ℕ, zero, suc, ◌+◌, ℤ, pos, unsigned_abs, Bool, true, false, ◌==◌, cond, List, [], ◌∷◌}
+use Rattle.std.specs.Prelude.{Option, codes}
 use Rattle.dp_spec.specs.Model.{Model}
 use Rattle.dp_spec.specs.BoundTree.{BoundTree, BoundTrees, leaf, branch, merge, no_bound_trees, more_bound_trees}
 use Rattle.dp_spec.specs.Certificate.{Certificate}
 use Rattle.dp_spec.specs.SharedPolicy.{SharedPolicy}
 use Rattle.dp_spec.specs.TextLines.{Item}
 use Rattle.dp_spec.specs.PolicyText.{horizon_form, title_form}
-use Rattle.dp_spec.specs.CertificateText.{look_form, mode_form, signed_form, inner_form, leaf_form, branch_form,
-    merge_form}
+use Rattle.dp_spec.specs.CertificateText.{look_form, mode_form, signed_form, inner_form, leaf_form, branch_form}
+use Rattle.dp_spec.specs.CertificateText.{merge_form}
 use Rattle.dp_model.specs.Horizons.{horizon_limits, long_horizon_passed}
 use Rattle.dp_model.specs.Limits.{first_passed}
 use Rattle.dp_model.specs.declared.limit.Limit.TheVariants.{Depth}
 use Rattle.dp_model.specs.declared.limit.TooLarge.{TooLarge}
 use Rattle.dp_lines.specs.Grammar.{ends, passes, next, ◌>>=◌}
-use Rattle.dp_cert.specs.TextSteps.{Text, the_words, the_numbers, one_of, unless_passed, first_number, first_plain}
-use Rattle.dp_cert.specs.PolicyGrammar.{policy_grammar}
+use Rattle.dp_cert.specs.PolicyGrammar.{Text, policy_grammar}
+use Rattle.dp_lines.specs.Steps.{the_words, the_numbers, one_of, unless_passed, first_number, first_plain}
 
 -- ---- the lines before the policy
 

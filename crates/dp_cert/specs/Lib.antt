@@ -1,6 +1,5 @@
 pub mod CertificateValue
 pub mod TreeSizes
-pub mod TextSteps
 pub mod PolicyGrammar
 pub mod CertificateGrammar
 pub mod Reading

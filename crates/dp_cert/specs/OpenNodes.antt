@@ -1,6 +1,6 @@
 -- Open nodes: branches and merges of which not all children are read, and what they make of a finished child.
-use Rattle.std.specs.Prelude.{◌≡◌, ℕ, ℤ, zero, suc, ◌-◌, List, [], ◌∷◌, length, map, reverse, Option, Some, None,
-    Result, Ok, Err}
+use Rattle.std.specs.Prelude.{◌≡◌, ℕ, ℤ, zero, suc, ◌-◌, List, [], ◌∷◌, length, map, reverse, Option, Some, None}
+use Rattle.std.specs.Prelude.{Result, Ok, Err}
 use Rattle.dp_spec.specs.BoundTree.{BoundTree, BoundTrees, branch, merge, more_bound_trees}
 use Rattle.dp_model.specs.declared.limit.TooLarge.{TooLarge}
 use Rattle.dp_lines.specs.Grammar.{Fault, limit}
@@ -16,8 +16,8 @@ use Rattle.dp_cert.specs.declared.tree_text.Open.{Open}
 use Rattle.dp_cert.specs.declared.tree_text.Open.TheVariants as opens
 use Rattle.dp_cert.specs.CertificateGrammar.{deepest, leaf_only, node_below, repeated, tree_lines}
 use Rattle.dp_cert.specs.NodeLines.{kind_of, numbers_of}
-use Rattle.dp_cert.specs.Reading.{rest_at}
-use Rattle.dp_cert.specs.TextSteps.{Text}
+use Rattle.dp_lines.specs.Reading.{rest_at}
+use Rattle.dp_cert.specs.PolicyGrammar.{Text}
 
 -- a branch with the children so far, where so many follow the one that is being read; or a merge
 pub data Frame : Type 0 where

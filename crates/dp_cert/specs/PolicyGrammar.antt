@@ -1,7 +1,6 @@
 -- The policy in a certificate text, in the rows of its version. (Own.)
-use Rattle.std.specs.Prelude.{ℕ, zero, suc, ◌+◌, ◌*◌, ◌^◌, ℤ, unsigned_abs, cond, ◌==◌, List, [], ◌∷◌, map, replicate,
-    option_map, Option, codes}
-use Rattle.std.specs.Fmt.{decimal}
+use Rattle.std.specs.Prelude.{ℕ, zero, suc, ◌+◌, ◌*◌, ◌^◌, ℤ, unsigned_abs, cond, ◌==◌, List, [], ◌∷◌, map, replicate}
+use Rattle.std.specs.Prelude.{option_map, Option}
 use Rattle.dp_spec.specs.Model.{Model}
 use Rattle.dp_spec.specs.TextLines.{Item}
 use Rattle.dp_spec.specs.PolicyText.{row_form}
@@ -10,12 +9,13 @@ use Rattle.dp_spec.specs.SharedPolicy.{AgentRows, PolicyRow, SharedPolicy}
 use Rattle.dp_spec.specs.SharedRows.{counts_form, first_past, products, shared_row_form}
 use Rattle.dp_model.specs.declared.limit.Limit.TheVariants.{PolicyCells}
 use Rattle.dp_model.specs.declared.limit.TooLarge.{TooLarge}
-use Rattle.dp_lines.specs.Grammar.{ends, ◌>>=◌}
-use Rattle.dp_cert.specs.TextSteps.{Text, and_then, the_words, the_numbers, unless_passed}
+use Rattle.dp_lines.specs.Grammar.{Grammar, ends, ◌>>=◌}
+use Rattle.dp_lines.specs.Steps.{and_then, the_words, the_numbers, unless_passed}
+use Rattle.dp_policy.specs.PolicyGrammar.{agent_words}
 
--- the words of the line before an agent's rows
-abbrev pub agent_words : ℕ → List (List ℕ)
-agent_words agent = codes "agent" ∷ decimal agent ∷ []
+-- a text of lines that says a value, or passes a limit
+abbrev pub Text : Type 0 → Type 0
+Text V = Grammar TooLarge V
 
 -- ---- version 1: for each own history an action
 

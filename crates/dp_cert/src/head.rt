@@ -2,11 +2,12 @@
 ghost use Rattle.std.specs.Prelude.{◌≡◌, ◌+◌, ◌≤◌, [], ◌∷◌, None, IfOk, codes, cond, true, false};
 ghost use Rattle.dp_spec.specs.CertificateText.{mode_form};
 ghost use Rattle.dp_lines.specs.Scanning.{front_of};
-ghost use Rattle.dp_cert.specs.CertificateGrammar.{head_grammar, horizon_grammar, horizon_passed};
-ghost use Rattle.dp_cert.specs.CertificateGrammar.{interval_grammar, title_grammar};
-ghost use Rattle.dp_cert.specs.TextSteps.{one_of, the_words};
+ghost use Rattle.dp_cert.specs.CertificateGrammar.{head_grammar, horizon_grammar, horizon_passed, interval_grammar};
+ghost use Rattle.dp_cert.specs.CertificateGrammar.{title_grammar};
+ghost use Rattle.dp_lines.specs.Steps.{one_of, the_words};
 ghost use Rattle.dp_cert.specs.HeadValue.{head_of, interval_of};
-ghost use Rattle.dp_cert.specs.Reading.{Gives, rest_at};
+ghost use Rattle.dp_cert.specs.Reading.{Gives};
+ghost use Rattle.dp_lines.specs.Reading.{rest_at};
 
 use crate::CertFault;
 use crate::lines::{Lines, number, one_of, with_sign, words};

@@ -17,6 +17,6 @@ mod write;
 pub use certificate::Certificate;
 pub use dp_lines::FileWhy;
 pub use fault::CertFault;
-pub use laws::certificate_texts_have_one_answer;
+pub use laws::{certificate_texts_have_one_answer, certificate_texts_say_their_certificates};
 pub use read::read_cert;
 pub use write::write_cert;

@@ -5,8 +5,9 @@ ghost use Rattle.dp_spec.specs.TextLines.{fixed, plain, signed};
 ghost use Rattle.dp_lines.specs.Forms.{AreInRange};
 ghost use Rattle.dp_lines.specs.Lines.{AreWords, fixed_form, plain_form};
 ghost use Rattle.dp_lines.specs.Scanning.{front_of};
-ghost use Rattle.dp_cert.specs.TextSteps.{one_of, the_numbers, the_words};
-ghost use Rattle.dp_cert.specs.Reading.{Gives, rest_at};
+ghost use Rattle.dp_lines.specs.Steps.{one_of, the_numbers, the_words};
+ghost use Rattle.dp_cert.specs.Reading.{Gives};
+ghost use Rattle.dp_lines.specs.Reading.{rest_at};
 
 use crate::CertFault;
 use dp_lines::{LineFault, PlainRange, fixed_line, plain_line, plain_row, signed_line};

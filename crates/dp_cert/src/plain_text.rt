@@ -1,16 +1,17 @@
 //! The policy of a certificate text of version 1: for each own history an action.
-ghost use Rattle.std.specs.Prelude.{◌≡◌, ℕ, ◌+◌, ◌*◌, ◌^◌, ◌<◌, ◌≤◌, map, replicate, length, get_or, suc, cond,
-    nat_lt, IfOk, IfErr};
+ghost use Rattle.std.specs.Prelude.{◌≡◌, ℕ, ◌+◌, ◌*◌, ◌^◌, ◌<◌, ◌≤◌, map, replicate, length, get_or, suc, cond};
+ghost use Rattle.std.specs.Prelude.{nat_lt, IfOk, IfErr};
 ghost use Rattle.std.specs.List.{join_with_byte, range_with_len};
 ghost use Rattle.dp_spec.specs.Mode.{IsWithinLimits};
 ghost use Rattle.dp_spec.specs.TextLines.{plain};
 ghost use Rattle.dp_lines.specs.Lines.{plain_form};
 ghost use Rattle.dp_lines.specs.Scanning.{front_of};
 ghost use Rattle.dp_cert.specs.declared.fault.CertFault.TheVariants as faults;
-ghost use Rattle.dp_cert.specs.PolicyGrammar.{agent_words, plain_agent, plain_agents, plain_stage, plain_stages,
-    rows_from};
-ghost use Rattle.dp_cert.specs.Reading.{Gives, rest_at};
-ghost use Rattle.dp_cert.specs.TextSteps.{the_words};
+ghost use Rattle.dp_policy.specs.PolicyGrammar.{agent_words};
+ghost use Rattle.dp_cert.specs.PolicyGrammar.{plain_agent, plain_agents, plain_stage, plain_stages, rows_from};
+ghost use Rattle.dp_cert.specs.Reading.{Gives};
+ghost use Rattle.dp_lines.specs.Reading.{rest_at};
+ghost use Rattle.dp_lines.specs.Steps.{the_words};
 
 use crate::CertFault;
 use crate::lines::{Lines, row, words};

@@ -4,12 +4,14 @@ ghost use Rattle.dp_spec.specs.Certificate.{IsCertificateOf};
 ghost use Rattle.dp_spec.specs.CertificateText.{IsCertificateText};
 ghost use Rattle.dp_lines.specs.Scanning.{front_of, text_from};
 ghost use Rattle.dp_tree.specs.TreeValue.{bound_tree};
-ghost use Rattle.dp_cert.specs.CertificateGrammar.{certificate_from, certificate_grammar, horizon_passed,
-    tree_grammar};
+ghost use Rattle.dp_cert.specs.CertificateGrammar.{certificate_from, certificate_grammar, horizon_passed};
+ghost use Rattle.dp_cert.specs.CertificateGrammar.{tree_grammar};
+ghost use Rattle.dp_cert.specs.CertificateLaws.{IsReadWhole};
 ghost use Rattle.dp_cert.specs.CertificateValue.{certificate_of};
 ghost use Rattle.dp_cert.specs.HeadValue.{head_of};
 ghost use Rattle.dp_cert.specs.PolicyGrammar.{policy_grammar};
-ghost use Rattle.dp_cert.specs.Reading.{Answers, Gives, rest_at};
+ghost use Rattle.dp_cert.specs.Reading.{Answers, Gives};
+ghost use Rattle.dp_lines.specs.Reading.{rest_at};
 
 use crate::head::{Head, head_lines, horizon, title};
 use crate::lines::{Lines, words};
@@ -29,12 +31,14 @@ use std::alloc::Global;
 /// version 2, `policy-cells` at the line of an agent's counts, with the first product of states and joint
 /// rows that is too large, and `depth`, with 2049, at the line of the 2,049th branch or merge on a path.
 /// The bytes are the one text of what is read, and that can be a certificate for the model, as `fits` asks.
-/// `Memory` is for want of memory alone.
+/// The text of each certificate of the model whose horizon and tree keep the limits is read as this
+/// certificate. `Memory` is for want of memory alone.
 pub fn read_cert(alloc: Global, bytes: &[u8], model: &Model) -> Result<Certificate, CertFault>
     requires { length bytes.now ≤ 2 ^ 28 }
     ensures answers { Answers certificate_of result (certificate_grammar model.now.model) bytes.now }
     ensures text { IfOk result (λ c. IsCertificateText model.now.model bytes.now (certificate_of c)) }
     ensures fits { IfOk result (λ c. IsCertificateOf model.now.model (certificate_of c)) }
+    ensures each { IsReadWhole certificate_of result model.now.model bytes.now }
 {
     model.invariant();
     read(alloc, bytes, model)

@@ -1,15 +1,16 @@
 //! The policy of a certificate text of version 2: rows that own histories share.
-ghost use Rattle.std.specs.Prelude.{◌≡◌, ℕ, ◌+◌, ◌*◌, ◌-◌, ◌^◌, ◌<◌, ◌≤◌, map, pos, replicate, drop, length, IfOk,
-    IfErr, None, [], ◌∷◌, codes};
+ghost use Rattle.std.specs.Prelude.{◌≡◌, ℕ, ◌+◌, ◌*◌, ◌-◌, ◌^◌, ◌<◌, ◌≤◌, map, pos, replicate, drop, length, IfOk};
+ghost use Rattle.std.specs.Prelude.{IfErr, None, [], ◌∷◌, codes};
 ghost use Rattle.std.specs.List.{AllByRecursion};
 ghost use Rattle.dp_spec.specs.SharedRows.{counts_form, first_past, products, shared_row_form};
 ghost use Rattle.dp_spec.specs.TextLines.{fixed, plain};
 ghost use Rattle.dp_lines.specs.Lines.{plain_form};
 ghost use Rattle.dp_lines.specs.Scanning.{front_of};
 ghost use Rattle.dp_cert.specs.declared.fault.CertFault.TheVariants as faults;
-ghost use Rattle.dp_cert.specs.PolicyGrammar.{cells_passed, counts_grammar, first_of_counts, nexts_before};
-ghost use Rattle.dp_cert.specs.PolicyGrammar.{row_line, row_of, rows_of_form, shared_agents, shared_stages};
-ghost use Rattle.dp_cert.specs.Reading.{Gives, rest_at};
+ghost use Rattle.dp_cert.specs.PolicyGrammar.{cells_passed, counts_grammar, first_of_counts, nexts_before, row_line};
+ghost use Rattle.dp_cert.specs.PolicyGrammar.{row_of, rows_of_form, shared_agents, shared_stages};
+ghost use Rattle.dp_cert.specs.Reading.{Gives};
+ghost use Rattle.dp_lines.specs.Reading.{rest_at};
 
 use crate::CertFault;
 use crate::lines::{Lines, numbers, row};

@@ -8,7 +8,8 @@ ghost use Rattle.dp_tree.specs.TreeValue.{bound_tree};
 ghost use Rattle.dp_cert.specs.declared.fault.CertFault.TheVariants as faults;
 ghost use Rattle.dp_cert.specs.CertificateGrammar.{deepest, node_forms, tree_lines};
 ghost use Rattle.dp_cert.specs.OpenNodes.{Closes, IsBranchWith, IsDeep, IsGiven, Places, frame_of, frames_of};
-ghost use Rattle.dp_cert.specs.Reading.{Gives, rest_at};
+ghost use Rattle.dp_cert.specs.Reading.{Gives};
+ghost use Rattle.dp_lines.specs.Reading.{rest_at};
 ghost use Rattle.dp_cert.specs.NodeLines.{GivesFound, GivesNode, HasChild, found_of, kind_of, numbers_of};
 
 use crate::CertFault;

@@ -1,6 +1,6 @@
 //! Certificate texts written.
-ghost use Rattle.std.specs.Prelude.{◌≡◌, ◌<◌, ◌^◌, ◌++◌, ◌∷◌, ◌==◌, [], cond, true, false, codes, decimal, map,
-    length, FitsSigned, IfOk, OnOk};
+ghost use Rattle.std.specs.Prelude.{◌≡◌, ◌<◌, ◌^◌, ◌++◌, ◌∷◌, ◌==◌, [], cond, true, false, codes, decimal, map};
+ghost use Rattle.std.specs.Prelude.{length, FitsSigned, IfOk, OnOk};
 ghost use Rattle.std.specs.Int.{w128};
 ghost use Rattle.std.specs.Fmt.{signed_decimal};
 ghost use Rattle.dp_spec.specs.Certificate.{HasPolicyOfVersion, IsCertificateOf};
@@ -8,9 +8,10 @@ ghost use Rattle.dp_spec.specs.CertificateText.{IsCertificateText, certificate_t
 ghost use Rattle.dp_spec.specs.Model.{IsModel, Model};
 ghost use Rattle.dp_tree.specs.TreeValue.{bound_tree};
 ghost use Rattle.dp_cert.specs.CertificateBytes.{actions_bytes, agents_bytes, certificate_bytes, counted_bytes};
-ghost use Rattle.dp_cert.specs.CertificateBytes.{counts_bytes, head_bytes, interval_bytes, manner_bytes, node_bytes,
-    plain_bytes, row_bytes, row_tail, rows_bytes};
-ghost use Rattle.dp_cert.specs.CertificateBytes.{signed_bytes, stages_bytes, three_bytes};
+ghost use Rattle.dp_cert.specs.CertificateBytes.{counts_bytes, head_bytes, interval_bytes, manner_bytes, node_bytes};
+ghost use Rattle.dp_cert.specs.CertificateBytes.{plain_bytes, row_bytes, rows_bytes, signed_bytes, stages_bytes};
+ghost use Rattle.dp_cert.specs.CertificateBytes.{three_bytes};
+ghost use Rattle.dp_lines.specs.Lines.{row_tail};
 ghost use Rattle.dp_cert.specs.CertificateValue.{certificate_of};
 ghost use Rattle.dp_cert.specs.TypedNumbers.{HasTypedEnds, HasTypedHead, HasTypedNumbers, IsTyped};
 

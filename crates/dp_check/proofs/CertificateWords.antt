@@ -1,6 +1,30 @@
 -- Whether a certificate whose nodes passed is closed, lean and merged.
-use Rattle.std.proofs.Common.{◌≡◌, ◌<◌, ◌⊎◌, inl, inr, ℕ, true, false, [], ◌∷◌, ℤ, ◌≤ℤ◌, ◌<ℤ◌, List, All, Option,
-    Some, None, refl, sym, ap, ◌∙◌, subst, arith}
+use Rattle.std.proofs.Common.{
+  ◌≡◌,
+  ◌<◌,
+  ◌⊎◌,
+  inl,
+  inr,
+  ℕ,
+  true,
+  false,
+  [],
+  ◌∷◌,
+  ℤ,
+  ◌≤ℤ◌,
+  ◌<ℤ◌,
+  List,
+  All,
+  Option,
+  Some,
+  None,
+  refl,
+  sym,
+  ap,
+  ◌∙◌,
+  subst,
+  arith,
+}
 use Rattle.std.specs.Prelude.{◌↔◌}
 use Rattle.std.specs.Int.{int_max}
 use Rattle.std.proofs.lemmas.Int.{ints, clamps}
@@ -11,8 +35,19 @@ use Rattle.dp_spec.specs.BoundTree.{BoundTree, HasSmallBranches, LeavesAtMost, b
 use Rattle.dp_spec.specs.Certificate.{Certificate, arithmetic_for}
 use Rattle.dp_spec.specs.Fitting.{front_bound}
 use Rattle.dp_spec.specs.Model.{Model}
-use Rattle.dp_spec.specs.Qualities.{HasNoEquivalent, IfBranch, IfInner, IfLeaf, IfNarrowLeaf, IfOpenLeaf, IsClosed,
-    IsLean, IsMerged, Node, certificate_nodes}
+use Rattle.dp_spec.specs.Qualities.{
+  HasNoEquivalent,
+  IfBranch,
+  IfInner,
+  IfLeaf,
+  IfNarrowLeaf,
+  IfOpenLeaf,
+  IsClosed,
+  IsLean,
+  IsMerged,
+  Node,
+  certificate_nodes,
+}
 use Rattle.dp_spec.specs.Steps.{root_front}
 use Rattle.dp_spec.specs.Wide.{is_wide}
 use Rattle.dp_laws.proofs.SizeLaws.{arithmetic_is_exact}
@@ -21,8 +56,15 @@ use Rattle.dp_check.specs.Walks.{passed, walked}
 use Rattle.dp_check.specs.Words.{AreInOrder, AtLeast, AtMost}
 use Rattle.dp_check.specs.declared.tally.Tally.{Tally}
 use Rattle.dp_check.proofs.Tallies.{greatest_is_leaf, passed_is, tally_after}
-use Rattle.dp_check.proofs.WordLaws.{IsMergedAt, least_after, leaves_from, leaves_to, merged_after, narrow_after,
-    not_full_after}
+use Rattle.dp_check.proofs.WordLaws.{
+  IsMergedAt,
+  least_after,
+  leaves_from,
+  leaves_to,
+  merged_after,
+  narrow_after,
+  not_full_after,
+}
 
 -- ---- facts of a node's tree
 

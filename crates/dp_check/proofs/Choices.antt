@@ -1,8 +1,44 @@
 -- The actions that are chosen for the classes of a joint class, agent by agent, and the joint actions that agree
 -- with them.
-use Rattle.std.proofs.Common.{◌≡◌, ℕ, zero, suc, ◌+◌, ◌*◌, ◌/◌, ◌%◌, ◌^◌, ◌<◌, ◌≤◌, Bool, true, false, cond, ℤ, pos,
-    List, [], ◌∷◌, length, get_or, set, drop, filter, add-one, Option, Some, None, refl, sym, ap, ◌∙◌, subst, arith,
-    inl, inr}
+use Rattle.std.proofs.Common.{
+  ◌≡◌,
+  ℕ,
+  zero,
+  suc,
+  ◌+◌,
+  ◌*◌,
+  ◌/◌,
+  ◌%◌,
+  ◌^◌,
+  ◌<◌,
+  ◌≤◌,
+  Bool,
+  true,
+  false,
+  cond,
+  ℤ,
+  pos,
+  List,
+  [],
+  ◌∷◌,
+  length,
+  get_or,
+  set,
+  drop,
+  filter,
+  add-one,
+  Option,
+  Some,
+  None,
+  refl,
+  sym,
+  ap,
+  ◌∙◌,
+  subst,
+  arith,
+  inl,
+  inr,
+}
 use Rattle.std.specs.Prelude.{◌&&◌, unwrap_or}
 use Rattle.std.specs.Int.{int_max}
 use Rattle.std.proofs.Math.Seq.{drop-cons}

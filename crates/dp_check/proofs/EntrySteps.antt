@@ -1,6 +1,23 @@
 -- Branches and merges: what a walk finds at one.
-use Rattle.std.proofs.Common.{◌≡◌, inl, inr, ℕ, ◌<◌, ◌≤◌, Bool, true, false, not, get_or, refl, sym, ap, ◌∙◌, subst,
-    arith}
+use Rattle.std.proofs.Common.{
+  ◌≡◌,
+  inl,
+  inr,
+  ℕ,
+  ◌<◌,
+  ◌≤◌,
+  Bool,
+  true,
+  false,
+  not,
+  get_or,
+  refl,
+  sym,
+  ap,
+  ◌∙◌,
+  subst,
+  arith,
+}
 use Rattle.std.specs.Prelude.{◌&&◌, ◌==◌, nat_lt}
 use Rattle.std.specs.Option.{option_or}
 use Rattle.std.proofs.lemmas.Bool.{and_parts}
@@ -10,8 +27,17 @@ use Rattle.dp_spec.specs.BoundTree.{BoundTree, BoundTrees, branch, child_count, 
 use Rattle.dp_spec.specs.Merge.{AreEquivalent, merged_front}
 use Rattle.dp_spec.specs.Model.{Model}
 use Rattle.dp_spec.specs.Qualities as qualities
-use Rattle.dp_spec.specs.Reasons.{children_are, is_unassigned, may_branch, may_merge, may_refine, no_place,
-    unequal_at, unequal_reason, unless}
+use Rattle.dp_spec.specs.Reasons.{
+  children_are,
+  is_unassigned,
+  may_branch,
+  may_merge,
+  may_refine,
+  no_place,
+  unequal_at,
+  unequal_reason,
+  unless,
+}
 use Rattle.dp_spec.specs.Steps.{IsUnassigned}
 use Rattle.dp_spec.specs.UnequalPlaces.{IsFirstUnequal, first_unequal}
 use Rattle.dp_spec.specs.Wide.{has_room, is_wide}
@@ -33,7 +59,7 @@ use Rattle.dp_cluster.specs.Merging.{IsMergeFault}
 use Rattle.dp_check.specs.Verdicts.{reason_of}
 use Rattle.dp_check.proofs.FrontBounds.{same_mode}
 use Rattle.dp_check.proofs.EquivalentPairs.{unassigned_decides}
-use Rattle.dp_check.proofs.WideNodes.{wide_below}
+use Rattle.dp_cluster.proofs.WideFronts.{wide_below}
 
 -- ---- tests
 

@@ -1,6 +1,29 @@
 -- Whether two classes could be merged, as a test.
-use Rattle.std.proofs.Common.{◌≡◌, ℕ, zero, suc, ◌+◌, ◌<◌, Bool, true, false, not, List, [], ◌∷◌, length, get_or,
-    add-one, Option, Some, None, refl, ap, ◌∙◌, ltb}
+use Rattle.std.proofs.Common.{
+  ◌≡◌,
+  ℕ,
+  zero,
+  suc,
+  ◌+◌,
+  ◌<◌,
+  Bool,
+  true,
+  false,
+  not,
+  List,
+  [],
+  ◌∷◌,
+  length,
+  get_or,
+  add-one,
+  Option,
+  Some,
+  None,
+  refl,
+  ap,
+  ◌∙◌,
+  ltb,
+}
 use Rattle.std.specs.Prelude.{is_none, ◌&&◌}
 use Rattle.std.specs.Bool.{Decides}
 use Rattle.std.proofs.lemmas.Bool.Decides.{Decides-and, Decides-below_and, Decides-like, Decides-ltb, Decides-not}

@@ -1,6 +1,24 @@
 -- The first reason against a certificate, part by part.
-use Rattle.std.proofs.Common.{◌≡◌, ℕ, suc, ℤ, pos, List, [], ◌∷◌, ◌++◌, Option, Some, None, refl, sym, ap, ◌∙◌, arith,
-    eqb}
+use Rattle.std.proofs.Common.{
+  ◌≡◌,
+  ℕ,
+  suc,
+  ℤ,
+  pos,
+  List,
+  [],
+  ◌∷◌,
+  ◌++◌,
+  Option,
+  Some,
+  None,
+  refl,
+  sym,
+  ap,
+  ◌∙◌,
+  arith,
+  eqb,
+}
 use Rattle.std.specs.Cmp.{booleans_Decides}
 use Rattle.std.specs.Option.{option_or}
 use Rattle.std.specs.Ordering.{int_eq}
@@ -11,8 +29,20 @@ use Rattle.dp_spec.specs.Certificate.{Certificate, arithmetic_for}
 use Rattle.dp_spec.specs.Mode.{is_exact_mode, unit_of}
 use Rattle.dp_spec.specs.Model.{Model}
 use Rattle.dp_spec.specs.Qualities.{Node, certificate_nodes}
-use Rattle.dp_spec.specs.Reasons.{Reason, first_of, first_reason, inner_is, lower_is, lower_of, mode_is, node_reasons,
-    tree_reason, unit_is, unless, upper_is}
+use Rattle.dp_spec.specs.Reasons.{
+  Reason,
+  first_of,
+  first_reason,
+  inner_is,
+  lower_is,
+  lower_of,
+  mode_is,
+  node_reasons,
+  tree_reason,
+  unit_is,
+  unless,
+  upper_is,
+}
 use Rattle.dp_check.specs.Verdicts.{last_of, nothing_counted}
 use Rattle.dp_check.specs.Walks.{Walked, counted, or_stopped, passed, stopped, walked}
 use Rattle.dp_check.specs.declared.tally.Tally.{Tally}

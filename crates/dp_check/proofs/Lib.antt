@@ -2,7 +2,7 @@ pub mod Choices
 pub mod LookRows
 pub mod FrontBounds
 pub mod NodeSteps
-pub mod WideNodes
+pub mod FreeClasses
 pub mod EquivalentPairs
 pub mod EntrySteps
 pub mod WalkSteps

@@ -5,12 +5,19 @@ use Rattle.dp_spec.specs.Front.{Front}
 use Rattle.dp_spec.specs.JointNumbers.{product}
 use Rattle.dp_spec.specs.Model.{Model, joint_actions, joint_observations}
 use Rattle.dp_spec.specs.Quantities.{action_look_ahead_in, class_weight_in, history_weight_in, span_history_sum}
-use Rattle.dp_spec.specs.Steps.{IsUnassigned, advanced_front, advanced_if, chosen_front, front_after_choice,
-    is_complete, root_front}
+use Rattle.dp_spec.specs.Steps.{
+  IsUnassigned,
+  advanced_front,
+  advanced_if,
+  chosen_front,
+  front_after_choice,
+  is_complete,
+  root_front,
+}
 use Rattle.dp_spec.specs.Wide.{has_room, is_wide}
 use Rattle.dp_laws.proofs.ChosenFronts.{actions_chosen, counts_chosen, joint_class_chosen}
 use Rattle.dp_laws.proofs.FrontRoom.{choice_keeps_room, root_has_room}
-use Rattle.dp_check.proofs.WideNodes.{wide_below}
+use Rattle.dp_cluster.proofs.WideFronts.{wide_below}
 use Rattle.dp_cluster.specs.KeptFronts.{IsFrontOf, KeptFront}
 use Rattle.dp_check.specs.Bounding.{AreLookAheads, IsBounding, IsWithRoom, arithmetic_of, rows_of}
 use Rattle.dp_check.specs.Nodes.{IsBelow, IsNodeOf}

@@ -1,11 +1,43 @@
 -- What is counted over the nodes of a tree: the branches and merges, and the greatest bound of a leaf.
-use Rattle.std.proofs.Common.{◌≡◌, ℕ, suc, ◌+◌, ◌≤◌, ℤ, List, [], ◌∷◌, ◌++◌, Option, Some, None, refl, sym, ap, ◌∙◌,
-    arith}
+use Rattle.std.proofs.Common.{
+  ◌≡◌,
+  ℕ,
+  suc,
+  ◌+◌,
+  ◌≤◌,
+  ℤ,
+  List,
+  [],
+  ◌∷◌,
+  ◌++◌,
+  Option,
+  Some,
+  None,
+  refl,
+  sym,
+  ap,
+  ◌∙◌,
+  arith,
+}
 use Rattle.std.specs.Int.{int_max, int_min}
 use Rattle.std.proofs.lemmas.Int.{ints, clamps}
 use Rattle.dp_spec.specs.Arithmetic.{Arithmetic}
-use Rattle.dp_spec.specs.BoundTree.{BoundTree, BoundTrees, HasSmallBranches, HaveSmallBranches, branch, child_count,
-    greatest_leaf, greatest_leaf_of, inner_count, inner_counts, leaf, merge, more_bound_trees, no_bound_trees}
+use Rattle.dp_spec.specs.BoundTree.{
+  BoundTree,
+  BoundTrees,
+  HasSmallBranches,
+  HaveSmallBranches,
+  branch,
+  child_count,
+  greatest_leaf,
+  greatest_leaf_of,
+  inner_count,
+  inner_counts,
+  leaf,
+  merge,
+  more_bound_trees,
+  no_bound_trees,
+}
 use Rattle.dp_spec.specs.Fitting.{front_bound}
 use Rattle.dp_spec.specs.Front.{Front}
 use Rattle.dp_spec.specs.Merge.{merged_front}

@@ -1,6 +1,26 @@
 -- The words of a verdict: what is counted decides whether a valid certificate is closed, lean and merged.
-use Rattle.std.proofs.Common.{◌≡◌, ℕ, ◌<◌, ◌≤◌, Bool, true, false, not, cond, ℤ, ◌≤ℤ◌, List, [], ◌∷◌, All, Option,
-    Some, None, refl, arith}
+use Rattle.std.proofs.Common.{
+  ◌≡◌,
+  ℕ,
+  ◌<◌,
+  ◌≤◌,
+  Bool,
+  true,
+  false,
+  not,
+  cond,
+  ℤ,
+  ◌≤ℤ◌,
+  List,
+  [],
+  ◌∷◌,
+  All,
+  Option,
+  Some,
+  None,
+  refl,
+  arith,
+}
 use Rattle.std.specs.Prelude.{◌↔◌, ◌&&◌, nat_lt}
 use Rattle.std.specs.Int.{int_max, int_min}
 use Rattle.std.specs.Bool.{Decides}
@@ -8,8 +28,22 @@ use Rattle.std.proofs.lemmas.Bool.Decides.{Decides-and, Decides-ltb, not_from_De
 use Rattle.std.proofs.lemmas.Int.{ints, clamps}
 use Rattle.std.proofs.lemmas.List.Elements.{All-cons, All-head, All-nil, All-tail}
 use Rattle.dp_spec.specs.Arithmetic.{Arithmetic}
-use Rattle.dp_spec.specs.BoundTree.{AllLeavesAtMost, BoundTree, BoundTrees, HasSmallBranches, HaveSmallBranches,
-    LeavesAtMost, branch, child_count, greatest_leaf, greatest_leaf_of, leaf, merge, more_bound_trees, no_bound_trees}
+use Rattle.dp_spec.specs.BoundTree.{
+  AllLeavesAtMost,
+  BoundTree,
+  BoundTrees,
+  HasSmallBranches,
+  HaveSmallBranches,
+  LeavesAtMost,
+  branch,
+  child_count,
+  greatest_leaf,
+  greatest_leaf_of,
+  leaf,
+  merge,
+  more_bound_trees,
+  no_bound_trees,
+}
 use Rattle.dp_spec.specs.Model.{Model}
 use Rattle.dp_spec.specs.Qualities.{HasNoEquivalent, IfBranch, IfInner, IfLeaf, IfNarrowLeaf, IfOpenLeaf, Node}
 use Rattle.dp_spec.specs.Wide.{is_wide}

@@ -1,6 +1,24 @@
 -- What the bounds of fronts are computed from. (Own.)
-use Rattle.std.specs.Prelude.{ℕ, zero, suc, ◌-◌, ◌<◌, ◌≤◌, ◌≡◌, true, ℤ, List, [], ◌++◌, map, Option, None, Some,
-    get_or, length}
+use Rattle.std.specs.Prelude.{
+  ℕ,
+  zero,
+  suc,
+  ◌-◌,
+  ◌<◌,
+  ◌≤◌,
+  ◌≡◌,
+  true,
+  ℤ,
+  List,
+  [],
+  ◌++◌,
+  map,
+  Option,
+  None,
+  Some,
+  get_or,
+  length,
+}
 use Rattle.std.specs.Int.{int_max}
 use Rattle.std.specs.List.{range_with_len}
 use Rattle.dp_spec.specs.Arithmetic.{Arithmetic, arithmetic}
@@ -11,6 +29,7 @@ use Rattle.dp_spec.specs.Model.{Model, joint_actions}
 use Rattle.dp_spec.specs.Quantities.{action_look_ahead_in, class_weight_in}
 use Rattle.dp_spec.specs.Wide.{has_room}
 use Rattle.dp_mdp.specs.TableRows.{IsTable}
+use Rattle.dp_pomdp.specs.Rooms.{IsRoomFor, KeptRoom}
 use Rattle.dp_cluster.specs.KeptFronts.{IsFrontOf, KeptFront, choice_at}
 use Rattle.dp_check.specs.declared.bounds.Bounds.{Bounds}
 
@@ -23,6 +42,10 @@ pub record IsBounding (m : Model) (b : Bounds) : Type 0 where
 -- the arithmetic of its mode
 abbrev pub arithmetic_of : Model → Bounds → Arithmetic
 arithmetic_of m b = arithmetic b.fit.exact m.scales
+
+-- room to look ahead for its bounds
+abbrev pub IsLookRoom : Model → Bounds → KeptRoom → Type 0
+IsLookRoom m b room = IsRoomFor b.fit.exact m b.look room
 
 -- a front of the model over that horizon, which has room
 pub record IsWithRoom (m : Model) (b : Bounds) (k : KeptFront) : Type 0 where

@@ -1,6 +1,26 @@
 -- A walk over the nodes of a bound tree: the first reason at a node, or what is kept of all of them. (Own.)
-use Rattle.std.specs.Prelude.{ℕ, zero, suc, ◌+◌, Bool, true, not, ◌&&◌, nat_lt, cond, ℤ, List, [], ◌∷◌, length,
-    get_or, Option, Some, None, is_none}
+use Rattle.std.specs.Prelude.{
+  ℕ,
+  zero,
+  suc,
+  ◌+◌,
+  Bool,
+  true,
+  not,
+  ◌&&◌,
+  nat_lt,
+  cond,
+  ℤ,
+  List,
+  [],
+  ◌∷◌,
+  length,
+  get_or,
+  Option,
+  Some,
+  None,
+  is_none,
+}
 use Rattle.std.specs.Int.{int_min}
 use Rattle.dp_spec.specs.Arithmetic.{Arithmetic}
 use Rattle.dp_spec.specs.BoundTree.{BoundTree, branch, leaf, merge}

@@ -9,8 +9,16 @@ ghost use Rattle.dp_spec.specs.Front.{class_counts};
 ghost use Rattle.dp_spec.specs.JointNumbers.{parts_of, product};
 ghost use Rattle.dp_spec.specs.WellFormed.{IsFront};
 ghost use Rattle.dp_spec.specs.Model.{joint_actions};
-ghost use Rattle.dp_check.specs.Bounding.{AreChoices, with_greater, AreLookAheads, IsBounding, IsWithRoom,
-    arithmetic_of, look_ahead_at};
+ghost use Rattle.dp_check.specs.Bounding.{
+  AreChoices,
+  with_greater,
+  AreLookAheads,
+  IsBounding,
+  IsLookRoom,
+  IsWithRoom,
+  arithmetic_of,
+  look_ahead_at,
+};
 
 use dp_base::Memory;
 use dp_cluster::Front;
@@ -30,25 +38,27 @@ pub struct Bounds {
 
 /// The look-ahead of each joint action from the weights of each joint class, joint class by joint class;
 /// none at the horizon. It depends on the weights alone, so one list serves every front with the same
-/// weights. The only error is want of memory.
+/// weights. What the room keeps is not looked ahead again. The only error is want of memory.
 pub fn look_aheads(
     alloc: Global,
     m: &Model,
     bounds: &Bounds,
     front: &Front,
+    room: &mut LookRoom,
 ) -> Result<Vec<i128>, Memory>
     requires bounds { IsBounding m.now.model bounds.now }
     requires front { IsWithRoom m.now.model bounds.now front.now }
-    ensures { IfOk result (λ v. AreLookAheads m.now.model bounds.now front.now.front v.items) }
+    requires room { IsLookRoom m.now.model bounds.now room.old }
+    ensures are { IfOk result (λ v. AreLookAheads m.now.model bounds.now front.now.front v.items) }
+    ensures room { IsLookRoom m.now.model bounds.now room.new }
 {
     m.invariant();
     if front.stage() == bounds.fit.horizon {
         return Ok(Vec::new(alloc));
     }
-    let mut room = LookRoom::new(alloc, m, bounds.look)?;
     let mut all = Vec::new(alloc);
     for class in 0..front.joint_classes() {
-        push_class(m, bounds, front, class, &mut room, &mut all)?;
+        push_class(m, bounds, front, class, room, &mut all)?;
     }
     Ok(all)
 }
@@ -66,27 +76,23 @@ fn push_class(
     requires front { IsWithRoom m.now.model bounds.now front.now }
     requires stage { front.now.front.stage < bounds.now.fit.horizon }
     requires class { class < product (class_counts front.now.front.agents) }
-    requires room { bounds.now.look * m.now.model.states ≤ room.old }
+    requires room { IsLookRoom m.now.model bounds.now room.old }
     ensures row { IfOk result (λ _. all.new.items ≡ all.old.items ++
         map (look_ahead_at m.now.model bounds.now front.now.front class)
         (range_with_len 0 (joint_actions m.now.model))) }
-    ensures room { room.new ≡ room.old }
+    ensures room { IsLookRoom m.now.model bounds.now room.new }
 {
-    m.invariant();
     let weights = front.class_weights(class);
     let stage = front.stage();
-    for action in 0..m.joint_actions() {
-        let bound = room.action_bound(
-            m,
-            bounds.fit,
-            &bounds.table,
-            weights,
-            stage,
-            action,
-            bounds.look,
-        );
-        all.push(bound)?;
-    }
+    room.push_row(
+        m,
+        bounds.fit,
+        &bounds.table,
+        weights,
+        stage,
+        bounds.look,
+        all,
+    )?;
     Ok(())
 }
 

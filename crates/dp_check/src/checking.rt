@@ -8,8 +8,16 @@ ghost use Rattle.dp_spec.specs.Reasons.{first_reason, lower_of};
 ghost use Rattle.dp_spec.specs.SharedPolicy.{unfolded};
 ghost use Rattle.dp_model.specs.Horizons.{fit_of};
 ghost use Rattle.dp_cert.specs.CertificateValue.{certificate_of};
-ghost use Rattle.dp_check.specs.Verdicts.{IfAccepted, IfRejected, IsAccepted, last_of, names, nothing_counted,
-    outcome, reason_of};
+ghost use Rattle.dp_check.specs.Verdicts.{
+  IfAccepted,
+  IfRejected,
+  IsAccepted,
+  last_of,
+  names,
+  nothing_counted,
+  outcome,
+  reason_of,
+};
 ghost use Rattle.dp_check.specs.Words.{AreInOrder, AtMost};
 ghost use Rattle.dp_check.specs.Walks.{passed, walked};
 
@@ -22,6 +30,7 @@ use dp_base::Memory;
 use dp_cert::Certificate;
 use dp_mdp::MdpTable;
 use dp_model::{Fit, Model, fits_two};
+use dp_pomdp::LookRoom;
 use dp_value::{SharedRoom, worth_shared};
 use std::alloc::Global;
 
@@ -105,8 +114,9 @@ fn walk_tree(
         look: c.look,
         table,
     };
-    let root = Node::root(alloc, m, &bounds)?;
-    let found = walk(alloc, m, &bounds, &c.tree, &root, tally)?;
+    let mut room = LookRoom::new(alloc, m, c.look)?;
+    let root = Node::root(alloc, m, &bounds, &mut room)?;
+    let found = walk(alloc, m, &bounds, &c.tree, &root, tally, &mut room)?;
     Ok(found)
 }
 

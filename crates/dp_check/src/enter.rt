@@ -2,7 +2,7 @@
 ghost use Rattle.std.specs.Prelude.{◌≡◌, ◌+◌, ◌<◌, ◌^◌, ◌&&◌, None, IfOk};
 ghost use Rattle.dp_spec.specs.BoundTree.{BoundTree, BoundTrees, branch, child_count};
 ghost use Rattle.dp_spec.specs.Reasons.{may_branch, may_merge, may_refine};
-ghost use Rattle.dp_check.specs.Bounding.{IsBounding, arithmetic_of};
+ghost use Rattle.dp_check.specs.Bounding.{IsBounding, IsLookRoom, arithmetic_of};
 ghost use Rattle.dp_check.specs.Entries.{IsEnterable, IsEntered, MayFail, NamesPlace};
 ghost use Rattle.dp_check.specs.Nodes.{IsNodeOf, node_with};
 ghost use Rattle.dp_check.specs.Verdicts.{outcome};
@@ -12,10 +12,11 @@ use crate::bounds::{Bounds, look_aheads};
 use crate::node::Node;
 use crate::tally::Tally;
 use crate::verdict::Reason;
-use crate::wide::{has_no_pairs, is_unassigned, is_wide};
+use crate::classes::{has_no_pairs, is_unassigned};
 use dp_base::Memory;
 use dp_cluster::MergeFault;
 use dp_model::Model;
+use dp_pomdp::LookRoom;
 use std::alloc::Global;
 use std::rc::Rc;
 
@@ -98,7 +99,7 @@ fn may_refine(m: &Model, bounds: &Bounds, node: &Node) -> bool
     requires node { IsNodeOf m.now.model bounds.now node.now }
     ensures { (T : BoundTree) → result ≡ may_refine m.now.model bounds.now.fit.horizon (node_with T node.now) }
 {
-    node.front.stage() < bounds.fit.horizon && !is_wide(m, &node.front, node.above)
+    node.front.stage() < bounds.fit.horizon && !node.front.is_wide(m, node.above)
 }
 
 // Whether a merge of two classes of an agent may stand at a node, if they are equivalent.
@@ -142,19 +143,23 @@ pub fn enter_merge(
     first: u32,
     second: u32,
     tally: &mut Tally,
+    room: &mut LookRoom,
 ) -> Result<Entered, Memory>
     requires bounds { IsBounding m.now.model bounds.now }
     requires node { IsNodeOf m.now.model bounds.now node.now }
     requires nodes { tally.old.nodes + 1 < 2 ^ 32 }
     requires inner { tally.old.inner + 1 < 2 ^ 32 }
-    ensures { IfOk result (IsEntered m.now.model bounds.now node.now agent first second tally.old tally.new) }
+    requires room { IsLookRoom m.now.model bounds.now room.old }
+    ensures entered { IfOk result
+        (IsEntered m.now.model bounds.now node.now agent first second tally.old tally.new) }
+    ensures room { IsLookRoom m.now.model bounds.now room.new }
 {
     if !may_merge(m, bounds, node, agent, first, second) {
         return Ok(Entered::Wrong(Reason::Place { node: tally.nodes }));
     }
     match node.front.merge(alloc, agent, first, second) {
         Ok(front) => {
-            let looks = Rc::new(alloc, look_aheads(alloc, m, bounds, &front)?)?;
+            let looks = Rc::new(alloc, look_aheads(alloc, m, bounds, &front, room)?)?;
             let cap = node.cap();
             tally.add_merge(cap);
             Ok(Entered::Below(node.below(m, bounds, front, looks)))

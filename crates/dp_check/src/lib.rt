@@ -4,12 +4,12 @@
 
 mod bounds;
 mod checking;
+mod classes;
 mod enter;
 mod node;
 mod tally;
 mod verdict;
 mod walk;
-mod wide;
 
 pub use checking::check;
 pub use verdict::{Reason, Verdict};

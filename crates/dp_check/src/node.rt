@@ -4,13 +4,14 @@ ghost use Rattle.std.specs.Int.{int_min};
 ghost use Rattle.dp_spec.specs.Fitting.{front_bound};
 ghost use Rattle.dp_spec.specs.Steps.{IsUnassigned, front_after_choice, root_front};
 ghost use Rattle.dp_spec.specs.Wide.{is_wide};
-ghost use Rattle.dp_check.specs.Bounding.{AreLookAheads, IsBounding, IsWithRoom, arithmetic_of};
+ghost use Rattle.dp_check.specs.Bounding.{AreLookAheads, IsBounding, IsLookRoom, IsWithRoom, arithmetic_of};
 ghost use Rattle.dp_check.specs.Nodes.{IsBelow, IsNodeOf};
 
 use crate::bounds::{Bounds, front_bound, look_aheads};
 use dp_base::Memory;
 use dp_cluster::Front;
 use dp_model::Model;
+use dp_pomdp::LookRoom;
 use std::alloc::Global;
 use std::rc::Rc;
 
@@ -26,17 +27,24 @@ pub struct Node {
 
 impl Node {
     /// The root of a tree.
-    pub fn root(alloc: Global, m: &Model, bounds: &Bounds) -> Result<Node, Memory>
-        requires { IsBounding m.now.model bounds.now }
+    pub fn root(
+        alloc: Global,
+        m: &Model,
+        bounds: &Bounds,
+        room: &mut LookRoom,
+    ) -> Result<Node, Memory>
+        requires bounds { IsBounding m.now.model bounds.now }
+        requires room { IsLookRoom m.now.model bounds.now room.old }
         ensures of_model { IfOk result (IsNodeOf m.now.model bounds.now) }
         ensures front { IfOk result (λ n. n.front.front ≡ root_front m.now.model) }
         ensures above { IfOk result (λ n. n.above ≡ 0) }
         ensures cap { IfOk result (λ n. n.cap ≡ front_bound (arithmetic_of m.now.model bounds.now) m.now.model
             bounds.now.fit.horizon bounds.now.look (root_front m.now.model)) }
+        ensures room { IsLookRoom m.now.model bounds.now room.new }
     {
         m.invariant();
         let front = Front::root(alloc, m, bounds.fit)?;
-        let looks = look_aheads(alloc, m, bounds, &front)?;
+        let looks = look_aheads(alloc, m, bounds, &front, room)?;
         let cap = front_bound(m, bounds, &front, &looks);
         let looks = Rc::new(alloc, looks)?;
         Ok(Node {
@@ -64,6 +72,7 @@ impl Node {
         agent: u32,
         class: u32,
         action: u32,
+        room: &mut LookRoom,
     ) -> Result<Node, Memory>
         requires bounds { IsBounding m.now.model bounds.now }
         requires of_model { IsNodeOf m.now.model bounds.now self.now }
@@ -71,13 +80,15 @@ impl Node {
         requires unassigned { IsUnassigned agent class self.now.front.front.agents }
         requires action { action < get_or m.now.model.actions agent 0 }
         requires narrow { is_wide m.now.model bounds.now.fit.horizon self.now.above self.now.front.front ≡ false }
-        ensures { IfOk result (IsBelow m.now.model bounds.now self.now
+        requires room { IsLookRoom m.now.model bounds.now room.old }
+        ensures below { IfOk result (IsBelow m.now.model bounds.now self.now
             (front_after_choice m.now.model self.now.front.front agent class action)) }
+        ensures room { IsLookRoom m.now.model bounds.now room.new }
     {
         let front = self.front.assign(alloc, agent, class, action)?;
         if front.complete() {
             let next = front.advance(alloc, m)?;
-            let looks = Rc::new(alloc, look_aheads(alloc, m, bounds, &next)?)?;
+            let looks = Rc::new(alloc, look_aheads(alloc, m, bounds, &next, room)?)?;
             Ok(self.below(m, bounds, next, looks))
         } else {
             let looks = self.looks.clone()?;

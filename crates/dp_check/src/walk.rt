@@ -2,7 +2,7 @@
 ghost use Rattle.std.specs.Prelude.{◌≡◌, ◌+◌, ◌≤◌, ◌^◌, ◌<◌, IfOk};
 ghost use Rattle.dp_spec.specs.BoundTree.{leaf, node_count};
 ghost use Rattle.dp_tree.specs.TreeValue.{bound_tree};
-ghost use Rattle.dp_check.specs.Bounding.{IsBounding, arithmetic_of};
+ghost use Rattle.dp_check.specs.Bounding.{IsBounding, IsLookRoom, arithmetic_of};
 ghost use Rattle.dp_check.specs.Nodes.{IsNodeOf, nodes_at};
 ghost use Rattle.dp_check.specs.Verdicts.{outcome};
 ghost use Rattle.dp_check.specs.Walks.{walked};
@@ -12,9 +12,9 @@ use crate::enter::{Entered, enter_branch, enter_merge};
 use crate::node::Node;
 use crate::tally::Tally;
 use crate::verdict::Reason;
-use crate::wide::is_wide;
 use dp_base::Memory;
 use dp_model::Model;
+use dp_pomdp::LookRoom;
 use dp_tree::Tree;
 use std::alloc::Global;
 
@@ -35,7 +35,7 @@ fn leaf(m: &Model, bounds: &Bounds, bound: &i128, node: &Node, tally: &mut Tally
         });
     }
     let not_full = node.front.stage() < bounds.fit.horizon;
-    let narrow = not_full && !is_wide(m, &node.front, node.above);
+    let narrow = not_full && !node.front.is_wide(m, node.above);
     tally.add_leaf(bound, not_full, narrow);
     None
 }
@@ -49,13 +49,16 @@ pub fn walk(
     tree: &Tree,
     node: &Node,
     tally: &mut Tally,
+    room: &mut LookRoom,
 ) -> Result<Option<Reason>, Memory>
     requires bounds { IsBounding m.now.model bounds.now }
     requires node { IsNodeOf m.now.model bounds.now node.now }
     requires nodes { tally.old.nodes + node_count (bound_tree tree.now) ≤ 2 ^ 28 }
     requires inner { tally.old.inner ≤ tally.old.nodes }
-    ensures { IfOk result (λ o. walked (arithmetic_of m.now.model bounds.now) m.now.model bounds.now.fit.horizon
+    requires room { IsLookRoom m.now.model bounds.now room.old }
+    ensures is { IfOk result (λ o. walked (arithmetic_of m.now.model bounds.now) m.now.model bounds.now.fit.horizon
         (nodes_at m.now.model bounds.now (bound_tree tree.now) node.now) tally.old ≡ outcome o tally.new) }
+    ensures room { IsLookRoom m.now.model bounds.now room.new }
 {
     match tree {
         Tree::Leaf { bound } => Ok(leaf(m, bounds, bound, node, tally)),
@@ -73,7 +76,7 @@ pub fn walk(
                 return Ok(Some(reason));
             }
             for action in 0..m.actions(*agent) {
-                let child = node.after_choice(alloc, m, bounds, *agent, *class, action)?;
+                let child = node.after_choice(alloc, m, bounds, *agent, *class, action, room)?;
                 if let Some(reason) = walk(
                     alloc,
                     m,
@@ -81,6 +84,7 @@ pub fn walk(
                     &kids[action as usize],
                     &child,
                     tally,
+                    room,
                 )? {
                     return Ok(Some(reason));
                 }
@@ -92,9 +96,9 @@ pub fn walk(
             first,
             second,
             kid,
-        } => match enter_merge(alloc, m, bounds, node, *agent, *first, *second, tally)? {
+        } => match enter_merge(alloc, m, bounds, node, *agent, *first, *second, tally, room)? {
             Entered::Below(child) => {
-                let found = walk(alloc, m, bounds, kid, &child, tally)?;
+                let found = walk(alloc, m, bounds, kid, &child, tally, room)?;
                 Ok(found)
             }
             Entered::Wrong(reason) => Ok(Some(reason)),

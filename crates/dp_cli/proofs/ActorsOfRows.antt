@@ -1,12 +1,12 @@
 -- Actors that walk the rows of a shared policy: what they may be asked, and that they answer its trees.
-use Rattle.std.proofs.Common.{◌≡◌, ℕ, zero, suc, ◌^◌, ◌<◌, List, [], ◌∷◌, length, get_or, map, refl, sym, ap, ◌∙◌,
-    subst, arith}
+use Rattle.std.proofs.Common.{◌≡◌, ℕ, zero, suc, ◌^◌, ◌<◌, List, [], ◌∷◌, length, get_or, map, refl, sym, ap, ◌∙◌}
+use Rattle.std.proofs.Common.{subst, arith}
 use Rattle.std.specs.Prelude.{replicate}
 use Rattle.std.proofs.lemmas.List.{get_or-map, length-map, length-replicate}
 use Rattle.dp_spec.specs.Model.{IsModel, Model}
 use Rattle.dp_spec.specs.PolicyTree.{IsPolicyTree, PolicyTree, no_trees, node, root_action, subtree}
-use Rattle.dp_spec.specs.SharedPolicy.{AgentRows, AreAgentRows, IsSharedOf, SharedPolicy, first_count, row_at,
-    row_count, unfolded, unfolded_tree}
+use Rattle.dp_spec.specs.SharedPolicy.{AgentRows, AreAgentRows, IsSharedOf, SharedPolicy, first_count, row_at}
+use Rattle.dp_spec.specs.SharedPolicy.{row_count, unfolded, unfolded_tree}
 use Rattle.dp_spec.specs.JointNumbers.{product}
 use Rattle.dp_spec.proofs.JointNumberLaws.{below_at, length-parts_of, parts_below}
 use Rattle.dp_laws.proofs.Trees.{root_action_below, subtree_fits}

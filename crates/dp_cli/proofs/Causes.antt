@@ -1,6 +1,6 @@
 -- Plain facts that follow from how a command goes on.
-use Rattle.std.proofs.Common.{◌≡◌, ◌≢◌, ◌<◌, ◌↔◌, ℕ, ◌+◌, List, [], ◌∷◌, ◌++◌, map, cond, Option, Some, None, Result,
-    Ok, Err, ⊎_elim, refl, sym, ap, ◌∙◌, arith, append_assoc, append-nil}
+use Rattle.std.proofs.Common.{◌≡◌, ◌≢◌, ◌<◌, ◌↔◌, ℕ, ◌+◌, List, [], ◌∷◌, ◌++◌, map, cond, Option, Some, None, Result}
+use Rattle.std.proofs.Common.{Ok, Err, ⊎_elim, refl, sym, ap, ◌∙◌, arith, append_assoc, append-nil}
 use Rattle.std.proofs.lemmas.List.Sums.{sum_by-append}
 use Rattle.dp_io.specs.declared.shelf.Ending.TheVariants.{Failed}
 use Rattle.dp_io.specs.declared.shelf.FetchFault.{FetchFault}

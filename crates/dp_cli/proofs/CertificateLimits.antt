@@ -1,6 +1,6 @@
 -- A limit that a certificate text passes is none on the bytes of a file.
-use Rattle.std.proofs.Common.{◌≡◌, ℕ, zero, suc, ◌+◌, ◌^◌, Bool, true, false, cond, List, [], ◌∷◌, map, Option, Some,
-    None, Err, refl}
+use Rattle.std.proofs.Common.{◌≡◌, ℕ, zero, suc, ◌+◌, ◌^◌, Bool, true, false, cond, List, [], ◌∷◌, map, Option, Some}
+use Rattle.std.proofs.Common.{None, Err, refl}
 use Rattle.std.specs.Prelude.{ℤ, unsigned_abs, replicate, nat_lt, option_map, codes, ◌==◌}
 use Rattle.dp_spec.specs.BoundTree.{BoundTree, branch, merge, more_bound_trees}
 use Rattle.dp_spec.specs.Model.{Model}
@@ -11,11 +11,14 @@ use Rattle.dp_model.specs.Horizons.{horizon_limits, long_horizon_passed}
 use Rattle.dp_model.specs.Limits.{first_passed}
 use Rattle.dp_lines.specs.Grammar.{ends, limit, ◌>>=◌}
 use Rattle.dp_lines.specs.Scanning.{text_from}
-use Rattle.dp_cert.specs.CertificateGrammar.{branch_below, certificate_grammar, head_grammar, horizon_grammar,
-    horizon_passed, leaf_only, merge_below, node_below, repeated, title_grammar, tree_grammar, tree_lines}
-use Rattle.dp_cert.specs.PolicyGrammar.{cells_passed, counts_grammar, first_of_counts, nexts_before, plain_agent,
-    plain_agents, plain_stage, plain_stages, policy_grammar, row_line, rows_of_form, shared_agents, shared_stages}
-use Rattle.dp_cert.specs.TextSteps.{Text, and_then, first_plain, the_words, unless_passed}
+use Rattle.dp_cert.specs.CertificateGrammar.{branch_below, certificate_grammar, head_grammar, horizon_grammar}
+use Rattle.dp_cert.specs.CertificateGrammar.{horizon_passed, leaf_only, merge_below, node_below, repeated}
+use Rattle.dp_cert.specs.CertificateGrammar.{title_grammar, tree_grammar, tree_lines}
+use Rattle.dp_cert.specs.PolicyGrammar.{cells_passed, counts_grammar, first_of_counts, nexts_before, plain_agent}
+use Rattle.dp_cert.specs.PolicyGrammar.{plain_agents, plain_stage, plain_stages, policy_grammar, row_line}
+use Rattle.dp_cert.specs.PolicyGrammar.{rows_of_form, shared_agents, shared_stages}
+use Rattle.dp_lines.specs.Steps.{and_then, first_plain, the_words, unless_passed}
+use Rattle.dp_cert.specs.PolicyGrammar.{Text}
 use Rattle.dp_cert.proofs.CertificateParts.{behind_head, behind_horizon, behind_policy, behind_tree, behind_version}
 use Rattle.dp_cli.proofs.FileLimits.{IsOther, horizon_is_other, is_of_file}
 use Rattle.dp_cli.proofs.PolicyLimits.{AreOther, AreOther-bind, text_limit}

@@ -1,6 +1,6 @@
 -- The ends of a valid certificate are at most 2^126 in magnitude.
-use Rattle.std.proofs.Common.{◌≡◌, ℕ, zero, suc, ◌+◌, ◌-◌, ◌*◌, ◌^◌, ◌<◌, ◌≤◌, Bool, true, false, unsigned_abs, List,
-    refl, sym, ap, subst, ◌∙◌, ⊎_elim, arith}
+use Rattle.std.proofs.Common.{◌≡◌, ℕ, zero, suc, ◌+◌, ◌-◌, ◌*◌, ◌^◌, ◌<◌, ◌≤◌, Bool, true, false, unsigned_abs, List}
+use Rattle.std.proofs.Common.{refl, sym, ap, subst, ◌∙◌, ⊎_elim, arith}
 use Rattle.std.specs.Prelude.{ℤ, ◌+ℤ◌, ◌≤ℤ◌}
 use Rattle.std.specs.Int.{int_min}
 use Rattle.std.proofs.Math.Nat.{le-mul_of_pos_right, mul-le-mul_right, pow-zero}
@@ -11,8 +11,8 @@ use Rattle.dp_base.proofs.NaturalSumLaws.{nat_sum_le, nat_sum_most}
 use Rattle.dp_spec.proofs.ModelLaws.{some_state}
 use Rattle.dp_spec.specs.Arithmetic.{Arithmetic, arithmetic, exact, outward}
 use Rattle.dp_spec.specs.Bound.{agreeing_actions}
-use Rattle.dp_spec.specs.BoundTree.{AllLeavesAtMost, BoundTree, BoundTrees, LeavesAtMost, branch, greatest_leaf, leaf,
-    merge, more_bound_trees, no_bound_trees}
+use Rattle.dp_spec.specs.BoundTree.{AllLeavesAtMost, BoundTree, BoundTrees, LeavesAtMost, branch, greatest_leaf, leaf}
+use Rattle.dp_spec.specs.BoundTree.{merge, more_bound_trees, no_bound_trees}
 use Rattle.dp_spec.specs.Calls.{size}
 use Rattle.dp_spec.specs.Certificate.{Certificate, IsValid, arithmetic_for}
 use Rattle.dp_spec.specs.Fitting.{FitEachAction, FitsFront, front_bound}
@@ -21,8 +21,8 @@ use Rattle.dp_spec.specs.JointNumbers.{product}
 use Rattle.dp_spec.specs.Mode.{IsWithinVersion, is_exact_mode}
 use Rattle.dp_spec.specs.Model.{IsModel, Model, joint_observations, start_at}
 use Rattle.dp_spec.specs.PolicyTree.{IsPolicyOf, PolicyTree}
-use Rattle.dp_spec.specs.Quantities.{action_look_ahead_in, bound_in, class_weight_in, earned_reward_in, span_sum,
-    weighted_reward_in}
+use Rattle.dp_spec.specs.Quantities.{action_look_ahead_in, bound_in, class_weight_in, earned_reward_in, span_sum}
+use Rattle.dp_spec.specs.Quantities.{weighted_reward_in}
 use Rattle.dp_spec.specs.SharedPolicy.{IsSharedOf, SharedPolicy, unfolded}
 use Rattle.dp_spec.specs.SharedWorth.{joint_row_action, joint_row_count, row_weight_in, rows_earn_in, shared_worth_in}
 use Rattle.dp_spec.specs.Sizes.{AreWeights, reward_size}
@@ -40,8 +40,8 @@ use Rattle.dp_laws.proofs.RootFront.{root_is_front}
 use Rattle.dp_laws.proofs.RowSizes.{row_acts}
 use Rattle.dp_laws.proofs.SharedTrees.{unfolded_is_policy}
 use Rattle.dp_laws.proofs.SizeLaws.{mode_can_refine, mode_can_update_weights}
-use Rattle.dp_laws.proofs.SizeSums.{abs_add, earned_size_le, int_sum_abs, reward_size_le, size_add, span_sum_size,
-    worth_size_le}
+use Rattle.dp_laws.proofs.SizeSums.{abs_add, earned_size_le, int_sum_abs, reward_size_le, size_add, span_sum_size}
+use Rattle.dp_laws.proofs.SizeSums.{worth_size_le}
 use Rattle.dp_laws.proofs.ValidCertificates.{ends_in_order, lower_is_value}
 use Rattle.dp_cli.proofs.WorthSizes.{exact_worth_fits}
 

@@ -1,6 +1,6 @@
 -- A call that is done was given all its files, and what its command claims is so.
-use Rattle.std.proofs.Common.{◌≡◌, ◌≢◌, ℕ, ◌+◌, List, [], ◌∷◌, ◌++◌, length, map, Option, Some, None, Ok, Vec, IfSome,
-    ⊎_elim, refl, sym, ap, ◌∙◌, subst, length-append, append_assoc, append-nil}
+use Rattle.std.proofs.Common.{◌≡◌, ◌≢◌, ℕ, ◌+◌, List, [], ◌∷◌, ◌++◌, length, map, Option, Some, None, Ok, Vec, IfSome}
+use Rattle.std.proofs.Common.{⊎_elim, refl, sym, ap, ◌∙◌, subst, length-append, append_assoc, append-nil}
 use Rattle.std.specs.declared.alloc.Global.{Global}
 use Rattle.dp_io.specs.declared.shelf.FetchFault.{FetchFault}
 use Rattle.dp_io.specs.declared.shelf.FetchFault.TheVariants as faults

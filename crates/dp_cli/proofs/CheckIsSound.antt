@@ -8,8 +8,8 @@ use Rattle.dp_spec.specs.Reasons.{first_reason}
 use Rattle.dp_laws.proofs.ValidCertificates.{claims_hold, closed_is_optimal, ends_in_order}
 use Rattle.dp_words.specs.declared.job.CheckJob.{CheckJob}
 use Rattle.dp_cli.specs.declared.refusal.JobFault.TheVariants as job_faults
-use Rattle.dp_cli.specs.CheckCommand.{ClaimsOfCheck, IsCheckOfText, IsTextOfCheck, TellsCertificate,
-    certificate_fault, check_command, fault_of_check, reason_fault, told_reason}
+use Rattle.dp_cli.specs.CheckCommand.{ClaimsOfCheck, IsCheckOfText, IsTextOfCheck, TellsCertificate}
+use Rattle.dp_cli.specs.CheckCommand.{certificate_fault, check_command, fault_of_check, reason_fault, told_reason}
 use Rattle.dp_cli.specs.ModelText.{model_meant}
 use Rattle.dp_cli.proofs.CertificateReading.{certificate_or_is_other}
 use Rattle.dp_cli.proofs.FileLimits.{IsOther, limit_told, model_fault_is_other, of_no_role}

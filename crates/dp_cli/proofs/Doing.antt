@@ -1,7 +1,7 @@
 -- How a command goes on, by what the steps of the code do. A command's own proof cites `lacks_file`,
 -- `stops_by`, `works_by` and `works_on`, and for its model `lacks_model` and `has_model`.
-use Rattle.std.proofs.Common.{◌≡◌, ◌≢◌, ℕ, List, [], ◌∷◌, ◌++◌, Option, Some, None, Result, Ok, Err, Vec, String,
-    IfOk, IfErr, ◌⊎◌, string_bytes, inl, inr, ⊎_elim, refl, sym, ap, ◌∙◌, subst}
+use Rattle.std.proofs.Common.{◌≡◌, ◌≢◌, ℕ, List, [], ◌∷◌, ◌++◌, Option, Some, None, Result, Ok, Err, Vec, String}
+use Rattle.std.proofs.Common.{IfOk, IfErr, ◌⊎◌, string_bytes, inl, inr, ⊎_elim, refl, sym, ap, ◌∙◌, subst}
 use Rattle.std.specs.declared.alloc.Global.{Global}
 use Rattle.dp_io.specs.declared.shelf.FetchFault.{FetchFault}
 use Rattle.dp_io.specs.declared.shelf.FetchFault.TheVariants.{Failed, TooLong, Memory}

@@ -1,6 +1,6 @@
 -- Lines of episodes that are appended one after the other.
-use Rattle.std.proofs.Common.{◌≡◌, ℕ, suc, ◌+◌, ◌-◌, ◌*◌, List, [], ◌∷◌, ◌++◌, drop, length, get_or, refl, sym, ap,
-    ◌∙◌, add-one, append_assoc, arith, ◌<◌}
+use Rattle.std.proofs.Common.{◌≡◌, ℕ, suc, ◌+◌, ◌-◌, ◌*◌, List, [], ◌∷◌, ◌++◌, drop, length, get_or, refl, sym, ap}
+use Rattle.std.proofs.Common.{◌∙◌, add-one, append_assoc, arith, ◌<◌}
 use Rattle.std.proofs.Math.Seq.{drop-cons}
 use Rattle.rand_core.specs.Stream.{Stream}
 use Rattle.dp_spec.specs.Model.{Model}
@@ -27,8 +27,8 @@ pub step_pushed : (before here after : List ℕ) (t : ℕ) (steps : List SimStep
     → before ≡ after ++ steps_text (t + 1) (drop (t + 1) steps)
 step_pushed before here after t steps step lt is so_far pushed =
     let first : drop t steps ≡ step ∷ drop (t + 1) steps =
-        drop-cons steps t step lt ∙ ap (λ (s : SimStep). s ∷ drop (suc t) steps) (sym is)
-        ∙ ap (λ n. step ∷ drop n steps) (sym (add-one t)) in
+    drop-cons steps t step lt ∙ ap (λ (s : SimStep). s ∷ drop (suc t) steps) (sym is)
+    ∙ ap (λ n. step ∷ drop n steps) (sym (add-one t)) in
     so_far ∙ ap (λ (ss : List SimStep). here ++ steps_text t ss) first
     ∙ sym (append_assoc here (step_text t step) (steps_text (suc t) (drop (t + 1) steps)))
     ∙ ap (λ l. l ++ steps_text (suc t) (drop (t + 1) steps)) (sym pushed)

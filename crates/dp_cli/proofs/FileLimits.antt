@@ -1,6 +1,6 @@
 -- The limits of a model and of a horizon are none on the bytes of a file.
-use Rattle.std.proofs.Common.{◌≡◌, ℕ, List, [], ◌∷◌, length, Bool, true, false, cond, Option, Some, None, Result, Ok,
-    Err, IfSome, refl, sym, ap, ◌∙◌, subst}
+use Rattle.std.proofs.Common.{◌≡◌, ℕ, List, [], ◌∷◌, length, Bool, true, false, cond, Option, Some, None, Result, Ok}
+use Rattle.std.proofs.Common.{Err, IfSome, refl, sym, ap, ◌∙◌, subst}
 use Rattle.std.specs.Prelude.{nat_lt}
 use Rattle.dp_model.specs.declared.limit.Limit.{Limit}
 use Rattle.dp_model.specs.declared.limit.Limit.TheVariants as limits
@@ -10,8 +10,8 @@ use Rattle.dp_model.specs.Limits.{first_passed, greatest_allowed, passed_by}
 use Rattle.dp_meaning.specs.declared.text.Text.{Text}
 use Rattle.dp_meaning.specs.declared.why.Fault.{Fault}
 use Rattle.dp_meaning.specs.Limits.{passed_limit, tried_limits}
-use Rattle.dp_meaning.specs.Meaning.{FaultAt, Meaning, Means, Passes, ReadModel, meaning, meaning_of_model,
-    meaning_of_text, meaning_within, repaired_model, text_of}
+use Rattle.dp_meaning.specs.Meaning.{FaultAt, Meaning, Means, Passes, ReadModel, meaning, meaning_of_model}
+use Rattle.dp_meaning.specs.Meaning.{meaning_of_text, meaning_within, repaired_model, text_of}
 use Rattle.dp_spec.specs.Model.{Model}
 use Rattle.dp_cli.specs.declared.refusal.FileRole.{FileRole}
 use Rattle.dp_cli.specs.declared.refusal.FileRole.TheVariants as roles

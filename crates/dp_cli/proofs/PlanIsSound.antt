@@ -18,8 +18,9 @@ use Rattle.dp_cli.specs.Orders.{order_rule}
 use Rattle.dp_cli.specs.PlanCommand.{ClaimsOfPlan, fault_of_plan, IsTextOfPlan, plan_command}
 use Rattle.dp_cli.specs.Planned.{IsPlanOf, limits_fault, options_of, plan_limits}
 use Rattle.dp_cli.proofs.CertificateLimits.{passed_is_other}
-use Rattle.dp_cli.proofs.FileLimits.{AreOthers, IsOther, first_is_other, limit_told, model_fault_is_other, of_no_role,
-    other}
+use Rattle.dp_cli.proofs.FileLimits.{AreOthers, IsOther, first_is_other, limit_told, model_fault_is_other, of_no_role}
+use Rattle.dp_cli.proofs.FileLimits.{other}
+use Rattle.dp_cli.proofs.PlanTexts.{plan_is_accepted}
 use Rattle.dp_cli.proofs.Sound.{IsSound}
 
 -- the text of a plan certifies it for its model
@@ -48,6 +49,7 @@ plan_claims job (file ∷ []) text h = record {
   meant = h.meant;
   is_model = h.plan.is_model;
   certified = plan_certifies h.model job text h.plan;
+  accepted = plan_is_accepted file text h.model job h.meant h.plan;
 }
 plan_claims job (file ∷ next ∷ texts) text h = absurd h
 

@@ -1,6 +1,6 @@
 -- A limit that a policy text passes is one of its horizon.
-use Rattle.std.proofs.Common.{◌≡◌, ℕ, zero, suc, ◌+◌, List, [], ◌∷◌, map, Option, Some, None, Result, Ok, Err, false,
-    refl, ap, subst, ◌∙◌}
+use Rattle.std.proofs.Common.{◌≡◌, ℕ, zero, suc, ◌+◌, List, [], ◌∷◌, map, Option, Some, None, Result, Ok, Err, false}
+use Rattle.std.proofs.Common.{refl, ap, subst, ◌∙◌}
 use Rattle.std.specs.Prelude.{ℤ, unsigned_abs}
 use Rattle.dp_spec.specs.Model.{Model}
 use Rattle.dp_model.specs.declared.limit.TooLarge.{TooLarge}
@@ -10,7 +10,7 @@ use Rattle.dp_lines.specs.declared.why.FileWhy.{FileWhy}
 use Rattle.dp_lines.specs.Grammar.{Grammar, ends, passes, next, ◌>>=◌, Fault, bad, limit}
 use Rattle.dp_lines.specs.Scanning.{Found, Rest, front_of, lines_at, text_from, whole}
 use Rattle.dp_policy.specs.PolicyGrammar.{agent_rows, policy_grammar, stage_rows}
-use Rattle.dp_policy.specs.TextSteps.{first_plain, unless_passed}
+use Rattle.dp_lines.specs.Steps.{first_plain, unless_passed}
 use Rattle.dp_policy.proofs.PolicyParts.{behind_limits, behind_agents}
 use Rattle.dp_cli.proofs.FileLimits.{IsOther, horizon_is_other, is_of_file}
 

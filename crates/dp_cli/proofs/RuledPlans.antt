@@ -1,6 +1,7 @@
 -- Plans by an order: what the rule of the code answers is what the order says, and a plan by one rule is a plan by
 -- every rule that allows as much.
-use Rattle.std.proofs.Common.{◌≡◌, ◌∙◌, ℕ, ◌<◌, ℤ, ◌≤ℤ◌, List, map, Option, Some, None, refl, sym, ap, subst}
+use Rattle.std.proofs.Common.{◌≡◌, ◌∙◌, ℕ, ◌<◌, ℤ, ◌≤ℤ◌, List, map, Option, Some, None, Result, Ok, Err, IfOk, refl}
+use Rattle.std.proofs.Common.{sym, ap, subst}
 use Rattle.std.specs.Prelude.{◌<ℤ◌, option_map, slice_get}
 use Rattle.std.proofs.lemmas.Option.{slice_get-map}
 use Rattle.dp_base.proofs.AllOfLists.{all_weaker}
@@ -9,6 +10,10 @@ use Rattle.dp_spec.specs.Certificate.{Certificate, arithmetic_for}
 use Rattle.dp_spec.specs.Model.{Model}
 use Rattle.dp_spec.specs.Promises.{IsPlanned, PlanOptions}
 use Rattle.dp_spec.specs.Qualities.{IfBranch, IsRuled, Node, Place, certificate_nodes, places_of}
+use Rattle.dp_cert.specs.declared.certificate.Certificate.{Certificate as Planned}
+use Rattle.dp_cert.specs.CertificateValue.{certificate_of}
+use Rattle.dp_search.specs.declared.place.Place.{Place as Told}
+use Rattle.dp_search.specs.Rules.{place_of}
 use Rattle.dp_cli.specs.Orders.{IsFirstGreatest}
 
 -- ---- the first of the greatest, in other words
@@ -74,3 +79,21 @@ module _ (m : Model) (May Also : List Place → ℕ → Type 0)
     version = plan.version;
     shared_form = plan.shared_form;
   }
+
+-- what a planner answers by one rule, if it answers
+pub if_also_planned : {E : Type 0} (r : Result Planned E) (m : Model) (May Also : List Place → ℕ → Type 0)
+    → ((places : List Place) (x : ℕ) → May places x → Also places x) → (h : ℕ) (asked : PlanOptions)
+    → IfOk r (λ c. IsPlanned m May h asked (certificate_of c))
+    → IfOk r (λ c. IsPlanned m Also h asked (certificate_of c))
+if_also_planned (Ok c) m May Also as_much h asked plan =
+    also_planned m May Also as_much (certificate_of c) h asked plan
+if_also_planned (Err e) m May Also as_much h asked plan = tt
+
+-- a rule of the code that answers the first greatest place answers that of the places of the definitions
+pub told_greatest : (size : Told → ℤ) (told_size : Place → ℤ) → ((p : Told) → size p ≡ told_size (place_of p))
+    → (shown told : List Told) (places : List Place) (x : ℕ) → map place_of told ≡ places → shown ≡ told
+    → IsFirstGreatest size shown x → IsFirstGreatest told_size places x
+told_greatest size told_size same shown told places x is shows first =
+    subst (λ (ps : List Place). IsFirstGreatest told_size ps x) is
+    (first_greatest_told place_of size told_size same told x
+    (subst (λ (ps : List Told). IsFirstGreatest size ps x) shows first))

@@ -1,6 +1,6 @@
 -- Numbers in a base, and texts that are appended one after the other.
-use Rattle.std.proofs.Common.{◌≡◌, ℕ, zero, suc, ◌+◌, ◌-◌, ◌*◌, ◌/◌, ◌%◌, ◌^◌, ◌<◌, List, [], ◌∷◌, ◌++◌, length,
-    get_or, set, take, refl, sym, ap, ◌∙◌, add-one, append_assoc, subst, arith}
+use Rattle.std.proofs.Common.{◌≡◌, ℕ, zero, suc, ◌+◌, ◌-◌, ◌*◌, ◌/◌, ◌%◌, ◌^◌, ◌<◌, List, [], ◌∷◌, ◌++◌, length}
+use Rattle.std.proofs.Common.{get_or, set, take, refl, sym, ap, ◌∙◌, add-one, append_assoc, subst, arith}
 use Rattle.std.specs.List.{flat_map, range_with_len}
 use Rattle.std.specs.Prelude.{replicate}
 use Rattle.std.proofs.Math.Nat.{mul_comm, pow-suc, pow-zero}
@@ -28,8 +28,7 @@ module _ (base rest step k : ℕ) (below : rest < step) (is : step ≡ base ^ su
   factors = is ∙ pow-suc base k
 
   some_base : 0 < base
-  some_base = let lt : rest < base ^ k * base = omega (arith, factors, below) in
-      positive_right (base ^ k) base rest lt
+  some_base = let lt : rest < base ^ k * base = omega (arith, factors, below) in positive_right (base ^ k) base rest lt
 
   pub next_step : step / base ≡ base ^ k
   next_step =

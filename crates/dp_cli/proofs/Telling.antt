@@ -1,6 +1,7 @@
 -- What the contents of a shelf that tells them determine.
-use Rattle.std.proofs.Common.{◌≡◌, ◌≢◌, ◌⊎◌, ℕ, ◌+◌, List, [], ◌∷◌, ◌++◌, length, Option, Some, None, Result, Ok, Err,
-    IfSome, inl, inr, ⊎_elim, refl, sym, ap, ◌∙◌, subst, length-append, append_assoc, append-nil}
+use Rattle.std.proofs.Common.{◌≡◌, ◌≢◌, ◌⊎◌, ℕ, ◌+◌, List, [], ◌∷◌, ◌++◌, length, Option, Some, None, Result, Ok, Err}
+use Rattle.std.proofs.Common.{IfSome, inl, inr, ⊎_elim, refl, sym, ap, ◌∙◌, subst, length-append, append_assoc}
+use Rattle.std.proofs.Common.{append-nil}
 use Rattle.std.proofs.lemmas.Option.{IfSome_then}
 use Rattle.dp_io.specs.declared.shelf.FetchFault.{FetchFault}
 use Rattle.dp_io.specs.declared.shelf.FetchFault.TheVariants.{Failed, TooLong, Memory}
@@ -16,8 +17,8 @@ use Rattle.dp_cli.specs.declared.refusal.Refusal.TheVariants as refusals
 use Rattle.dp_cli.specs.declared.status.Status.{Status}
 use Rattle.dp_cli.specs.declared.status.Status.TheVariants as statuses
 use Rattle.dp_cli.specs.Answer.{Answer, IsAnswerOf, done, refused}
-use Rattle.dp_cli.specs.Causes.{first_refusal, IsWorkAfter, IsWorkOver, refusal_after, refusal_of_file, refused_by,
-    status_by}
+use Rattle.dp_cli.specs.Causes.{first_refusal, IsWorkAfter, IsWorkOver, refusal_after, refusal_of_file, refused_by}
+use Rattle.dp_cli.specs.Causes.{status_by}
 use Rattle.dp_cli.specs.Command.{Command, File}
 use Rattle.dp_cli.specs.Put.{PutsAnswer, PutsOrMemory}
 use Rattle.dp_cli.specs.Refusal.{most_bytes, fetch_refusal}

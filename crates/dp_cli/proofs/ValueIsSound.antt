@@ -8,8 +8,8 @@ use Rattle.dp_lines.specs.Grammar.{Fault, bad, limit}
 use Rattle.dp_policy.specs.PolicyGrammar.{PolicyActions, policy_grammar}
 use Rattle.dp_words.specs.declared.job.ValueJob.{ValueJob}
 use Rattle.dp_cli.specs.ModelText.{model_meant}
-use Rattle.dp_cli.specs.ValueCommand.{ClaimsOfValue, IsTextOfValue, IsValueOfText, TellsValue, fault_of_value,
-    lines_fault, policy_fault, value_command, worth_of}
+use Rattle.dp_cli.specs.ValueCommand.{ClaimsOfValue, IsTextOfValue, IsValueOfText, TellsValue, fault_of_value}
+use Rattle.dp_cli.specs.ValueCommand.{lines_fault, policy_fault, value_command, worth_of}
 use Rattle.dp_cli.proofs.FileLimits.{IsOther, limit_told, model_fault_is_other, of_no_role}
 use Rattle.dp_cli.proofs.PolicyLimits.{limit_of_text}
 use Rattle.dp_cli.proofs.Sound.{IsSound}

@@ -1,8 +1,8 @@
 -- The ends of a worth, and its unit, are at most 2^126 in magnitude.
-use Rattle.std.proofs.Common.{◌≡◌, ℕ, zero, suc, ◌+◌, ◌-◌, ◌*◌, ◌^◌, ◌<◌, ◌≤◌, Bool, true, false, cond, max,
-    unsigned_abs, List, refl, sym, ap, ◌∙◌, arith}
-use Rattle.std.proofs.Math.Nat.{pow-suc, pow-zero, mul-le-mul_right, mul-le-mul_left, mul-le-mul, mul-pos,
-    le-mul_of_pos_right, one-le-pow}
+use Rattle.std.proofs.Common.{◌≡◌, ℕ, zero, suc, ◌+◌, ◌-◌, ◌*◌, ◌^◌, ◌<◌, ◌≤◌, Bool, true, false, cond, max}
+use Rattle.std.proofs.Common.{unsigned_abs, List, refl, sym, ap, ◌∙◌, arith}
+use Rattle.std.proofs.Math.Nat.{pow-suc, pow-zero, mul-le-mul_right, mul-le-mul_left, mul-le-mul, mul-pos}
+use Rattle.std.proofs.Math.Nat.{le-mul_of_pos_right, one-le-pow}
 use Rattle.dp_spec.specs.declared.span.Span.{Span}
 use Rattle.dp_laws.proofs.ExactValueSizes.{value_most, worth_most}
 use Rattle.dp_laws.proofs.OneStep.{trees_after_fit, root_joint_action_below}

@@ -1,6 +1,6 @@
 -- The causes of what a call answers, by the log of its shelf, by what was given, and by what the shelf tells.
-use Rattle.std.specs.Prelude.{◌≡◌, ◌≢◌, ◌<◌, ℕ, ◌+◌, List, [], ◌∷◌, ◌++◌, map, length, Option, Some, None, Result, Ok,
-    Err, IfSome}
+use Rattle.std.specs.Prelude.{◌≡◌, ◌≢◌, ◌<◌, ℕ, ◌+◌, List, [], ◌∷◌, ◌++◌, map, length, Option, Some, None, Result, Ok}
+use Rattle.std.specs.Prelude.{Err, IfSome}
 use Rattle.dp_io.specs.FetchLaws.{fetch_answer}
 use Rattle.dp_io.specs.declared.shelf.Ending.TheVariants.{Given, Failed, Long}
 use Rattle.dp_io.specs.Shelf.{Contents, Entry, ShelfView}

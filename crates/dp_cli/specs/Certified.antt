@@ -12,11 +12,10 @@ use Rattle.dp_cli.specs.Orders.{order_rule}
 use Rattle.dp_cli.specs.Planned.{options_of}
 
 -- The bytes are the text of one certificate, which keeps all promises of a plan for the model, over the horizon of
--- the
--- job, with what it asks for and by the branching rule of its order. It is valid, and what it claims is so: the value
--- of its policy lies in its interval, and no joint policy is worth more than the upper end. In version 1 it is closed
--- or has as many branches and merges as the job allows. Where it is closed and its numbers are exact, its ends are
--- equal and its policy is optimal.
+-- the job, with what it asks for and by the branching rule of its order. It is valid, and what it claims is so: the
+-- value of its policy lies in its interval, and no joint policy is worth more than the upper end. In version 1 it is
+-- closed or has as many branches and merges as the job allows. Where it is closed and its numbers are exact, its ends
+-- are equal and its policy is optimal.
 pub record CertifiesPlan (m : Model) (job : PlanJob) (bytes : List ℕ) : Type 0 where
   pub certificate : Certificate
   pub spelled : IsCertificateText m bytes certificate

@@ -1,6 +1,6 @@
 -- The command `check`.
-use Rattle.std.specs.Prelude.{◌≡◌, ◌↔◌, ℕ, Bool, true, false, IsTrue, List, [], ◌∷◌, ◌++◌, Option, Some, None,
-    option_map, ℤ, ◌≤ℤ◌, codes, decimal}
+use Rattle.std.specs.Prelude.{◌≡◌, ◌↔◌, ℕ, Bool, true, false, IsTrue, List, [], ◌∷◌, ◌++◌, Option, Some, None}
+use Rattle.std.specs.Prelude.{option_map, ℤ, ◌≤ℤ◌, codes, decimal}
 use Rattle.std.specs.Fmt.{signed_decimal}
 use Rattle.dp_spec.specs.Certificate.{Certificate, IsValid}
 use Rattle.dp_spec.specs.CertificateText.{IsCertificateText}

@@ -1,5 +1,6 @@
 -- What a plan answers.
-use Rattle.std.specs.Prelude.{◌≡◌, ℕ, ◌+◌, ◌*◌, ◌^◌, ◌<◌, ◌≤◌, List, [], ◌∷◌, Option, Some, option_map, Result, Vec}
+use Rattle.std.specs.Prelude.{◌≡◌, ℕ, ◌+◌, ◌*◌, ◌^◌, ◌<◌, ◌≤◌, List, [], ◌∷◌, Option, Some, None, option_map, Result}
+use Rattle.std.specs.Prelude.{Vec}
 use Rattle.std.specs.declared.alloc.Global.{Global}
 use Rattle.dp_spec.specs.Certificate.{Certificate}
 use Rattle.dp_spec.specs.CertificateText.{IsCertificateText}
@@ -48,11 +49,11 @@ plan_fault job meant = model_fault (limits_fault job) meant
 abbrev pub options_of : PlanJob → PlanOptions
 options_of job = record { version = job.version; nodes = job.nodes; look = job.look; merge = job.merge }
 
--- The bytes are the text of a certificate that keeps the promises of a plan for the model: over the horizon of the
--- job,
--- with what it asks for, and by the branching rule of its order.
+-- The horizon of the job passes no limit, and the bytes are the text of a certificate that keeps the promises of a
+-- plan for the model: over that horizon, with what the job asks for, and by the branching rule of its order.
 pub record IsPlanOf (m : Model) (job : PlanJob) (bytes : List ℕ) : Type 0 where
   pub is_model : IsModel m
+  pub kept : horizon_passed m job.version job.horizon ≡ None
   pub certificate : Certificate
   pub spelled : IsCertificateText m bytes certificate
   pub planned : IsPlanned m (order_rule job.order) job.horizon (options_of job) certificate
@@ -74,11 +75,10 @@ abbrev pub options_for : PlanJob → PlanOpts
 options_for job = record { version = job.version; nodes = job.nodes; look = job.look; merge = job.merge }
 
 -- The horizon keeps the limits of its version, the look is in its range, the budget is within its limit, and the
--- nodes
--- of a tree can be numbered.
+-- nodes of a tree can be numbered.
 pub record CanPlan (m : Model) (fit : Fit) (options : PlanOpts) : Type 0 where
   pub within : IsWithinVersion m fit.horizon options.version
-  pub fit : fit ≡ fit_of m fit.horizon
+  pub fits : fit ≡ fit_of m fit.horizon
   pub some_look : 1 ≤ options.look
   pub look : options.look ≤ 16
   pub nodes : options.nodes ≤ 1000000

@@ -1,6 +1,6 @@
 -- The text of a policy in names.
-use Rattle.std.specs.Prelude.{ℕ, ◌^◌, Bool, true, false, List, [], ◌∷◌, ◌++◌, length, map, slice_get, slice_index,
-    replicate, unwrap_or, codes, decimal}
+use Rattle.std.specs.Prelude.{ℕ, ◌^◌, Bool, true, false, List, [], ◌∷◌, ◌++◌, length, map, slice_get, slice_index}
+use Rattle.std.specs.Prelude.{replicate, unwrap_or, codes, decimal}
 use Rattle.std.specs.List.{flat_map, range_with_len}
 use Rattle.dp_spec.specs.JointNumbers.{parts_of}
 use Rattle.dp_spec.specs.PolicyTree.{PolicyTree, root_action}

@@ -1,8 +1,8 @@
 // The command `check`.
 ghost use Rattle.std.specs.Prelude.{◌≡◌, ◌^◌, ◌≤◌, ◌++◌, IfOk, OnOk, length, pos, unsigned_abs, ◌≤ℤ◌};
 ghost use Rattle.dp_cli.specs.Answer.{GivesText};
-ghost use Rattle.dp_cli.specs.CheckCommand.{IsCheckOfCertificate, accepted_text, certificate_fault, check_command,
-    counts_text};
+ghost use Rattle.dp_cli.specs.CheckCommand.{IsCheckOfCertificate, accepted_text, certificate_fault, check_command};
+ghost use Rattle.dp_cli.specs.CheckCommand.{counts_text};
 ghost use Rattle.dp_cli.specs.CheckCommand.{quality_text, yes_word};
 ghost use Rattle.dp_cli.specs.Run.{Does};
 ghost use Rattle.dp_cli.specs.Steps.{answer_of};

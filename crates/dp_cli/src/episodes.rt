@@ -27,7 +27,10 @@ pub fn episodes_of(
 {
     let mut actors = Vec::new(alloc);
     for agent in 0..policy.agents() {
-        let actor = Actor::new(agent, move |history: &[u32]| policy.action_at(agent, history));
+        let actor = Actor::new(
+            agent,
+            move |history: &[u32]| policy.action_at(agent, history),
+        );
         actors.push(actor)?;
     }
     let mut rng = Lcg128Xsl64::new(u128::from(seed), 0);

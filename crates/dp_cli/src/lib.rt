@@ -4,8 +4,8 @@
 
 ghost use Rattle.std.specs.Prelude.{◌≡◌, ◌≢◌, ◌+◌, ◌<◌, ◌^◌, ◌↔◌, None, length, map, string_bytes, IfSome};
 ghost use Rattle.dp_words.specs.Words.{job_of};
-ghost use Rattle.dp_cli.specs.Causes.{files_of, first_refusal, IsCertified, LogsFirstOf, LastFailed, status_by,
-    TellsLimitOf};
+ghost use Rattle.dp_cli.specs.Causes.{files_of, first_refusal, IsCertified, LogsFirstOf, LastFailed, status_by};
+ghost use Rattle.dp_cli.specs.Causes.{TellsLimitOf};
 ghost use Rattle.dp_cli.specs.Put.{PutsOrMemory};
 ghost use Rattle.dp_cli.specs.Run.{IsFound, Runs, RunsAsTold};
 
@@ -71,7 +71,7 @@ pub fn run<S: Shelf, W: Sink>(alloc: Global, words: &[String], shelf: &mut S, ou
     // too long, or else what is wrong with the bytes that were given, or nothing.
     ensures found { result ≢ Status.WriteFault → result ≢ Status.NoMemory →
         IsFound (job_of (map string_bytes words.now)) (S.view shelf.old) (S.view shelf.new) (W.view out.old)
-            (W.view out.new) result }
+        (W.view out.new) result }
 
     // Over every shelf: where a limit on the bytes of a file is told, that of a command on its own text
     // aside, the last file that was fetched is too long, and the line has its number of bytes.

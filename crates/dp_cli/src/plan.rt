@@ -111,7 +111,11 @@ fn planned_by_number(
     ensures { IfOk result (λ c. IsPlanned model.now.model (order_rule OrderWord.First) fit.horizon
         (asked_for options) (certificate_of c)) }
 {
-    let rule = Chooser::new(|_: &[Place]| ensures { result ≡ 0 } { 0 });
+    let rule = Chooser::new(
+        |_: &[Place]|
+            ensures { result ≡ 0 }
+        { 0 },
+    );
     dp_search::plan(alloc, model, fit, options, &rule)
 }
 
@@ -130,9 +134,7 @@ fn planned_by_weight(
         |places: &[Place]|
             requires { 0 < length places.now }
             ensures { IsFirstGreatest (λ p. p.weight) places.now result }
-        {
-            heaviest(places)
-        },
+        { heaviest(places) },
     );
     dp_search::plan(alloc, model, fit, options, &rule)
 }
@@ -152,9 +154,7 @@ fn planned_by_spread(
         |places: &[Place]|
             requires { 0 < length places.now }
             ensures { IsFirstGreatest (λ p. pos p.spread) places.now result }
-        {
-            most_spread(places)
-        },
+        { most_spread(places) },
     );
     dp_search::plan(alloc, model, fit, options, &rule)
 }

@@ -1,7 +1,7 @@
 // The line of a certificate that is not valid.
 ghost use Rattle.std.specs.Prelude.{◌≡◌, string_bytes, IfOk};
-ghost use Rattle.dp_cli.specs.ReasonLines.{mode_line, node_count_line, node_number_line, node_place_line,
-    node_unequal_line, number_line, reason_line};
+ghost use Rattle.dp_cli.specs.ReasonLines.{mode_line, node_count_line, node_number_line, node_place_line};
+ghost use Rattle.dp_cli.specs.ReasonLines.{node_unequal_line, number_line, reason_line};
 
 use crate::value::mode_word;
 use dp_base::Memory;

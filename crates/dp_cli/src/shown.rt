@@ -1,11 +1,11 @@
 // The text of a policy in names.
-ghost use Rattle.std.specs.Prelude.{◌≡◌, ℕ, ◌^◌, ◌<◌, ◌≤◌, ◌++◌, [], IfOk, OnOk, length, get_or, option_copied,
-    replicate, slice_index, unwrap_or, decimal, true};
+ghost use Rattle.std.specs.Prelude.{◌≡◌, ℕ, ◌^◌, ◌<◌, ◌≤◌, ◌++◌, [], IfOk, OnOk, length, get_or, option_copied};
+ghost use Rattle.std.specs.Prelude.{replicate, slice_index, unwrap_or, decimal, true};
 ghost use Rattle.dp_spec.specs.JointNumbers.{parts_of};
 ghost use Rattle.dp_spec.specs.Mode.{own_history_count};
 ghost use Rattle.dp_spec.specs.SharedPolicy.{IsSharedOf, unfolded, unfolded_tree};
-ghost use Rattle.dp_cli.specs.ShownPolicies.{agent_text, history_text, names_text, numbered_text,
-    policy_text, stage_text};
+ghost use Rattle.dp_cli.specs.ShownPolicies.{agent_text, history_text, names_text, numbered_text, policy_text};
+ghost use Rattle.dp_cli.specs.ShownPolicies.{stage_text};
 ghost use Rattle.dp_model.specs.Names.{names_of};
 
 use dp_base::Memory;
@@ -167,12 +167,7 @@ fn push_history(
 }
 
 // Appends the names of an agent's observations, with a space between two.
-fn push_seen(
-    text: &mut Vec<u8>,
-    names: &Names,
-    agent: u32,
-    history: &[u32],
-) -> Result<(), Memory>
+fn push_seen(text: &mut Vec<u8>, names: &Names, agent: u32, history: &[u32]) -> Result<(), Memory>
     requires observations { agent < length names.now.observations }
     requires seen { (t : ℕ) → t < length history.now → 0 < length (names_of names.now.observations agent) →
         get_or history.now t 0 < length (names_of names.now.observations agent) }

@@ -39,11 +39,5 @@ fn sim_of(
     read.model.invariant();
     let cert = read_cert(alloc, bytes, &read.model)?;
     cert.policy.invariant();
-    Ok(episodes_of(
-        alloc,
-        &read.model,
-        &cert.policy,
-        seed,
-        episodes,
-    )?)
+    Ok(episodes_of(alloc, &read.model, &cert.policy, seed, episodes)?)
 }

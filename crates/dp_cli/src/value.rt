@@ -4,8 +4,8 @@ ghost use Rattle.dp_value.specs.Worths.{ends_of};
 ghost use Rattle.dp_cli.specs.Answer.{GivesText};
 ghost use Rattle.dp_cli.specs.Run.{Does};
 ghost use Rattle.dp_cli.specs.Steps.{answer_of};
-ghost use Rattle.dp_cli.specs.ValueCommand.{IsWorthOfText, end_text, head_text, mode_word, policy_fault,
-    value_command, value_text};
+ghost use Rattle.dp_cli.specs.ValueCommand.{IsWorthOfText, end_text, head_text, mode_word, policy_fault};
+ghost use Rattle.dp_cli.specs.ValueCommand.{value_command, value_text};
 
 use crate::fetch::{fetch, fetch_model};
 use crate::{FileRole, Refusal};

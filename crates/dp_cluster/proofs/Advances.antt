@@ -1,6 +1,7 @@
 -- The advance of a front as it is kept: what its calls and sums need, and what it gives.
-use Rattle.std.proofs.Common.{◌≡◌, ℕ, suc, ◌+◌, ◌*◌, ◌^◌, ◌<◌, ◌≤◌, Bool, true, false, inl, inr, pos, List, length,
-    get_or, sym, ap, ◌∙◌, subst, arith}
+use Rattle.std.proofs.Common.{◌≡◌, ℕ, suc, ◌+◌, ◌*◌, ◌^◌, ◌<◌, ◌≤◌, Bool, true, false, inl, inr, pos, List, []}
+use Rattle.std.proofs.Common.{length, get_or, sym, ap, ◌∙◌, subst, arith}
+use Rattle.std.proofs.lemmas.List.{length-map}
 use Rattle.dp_spec.specs.declared.span.Span.{Span}
 use Rattle.dp_spec.specs.declared.scales.Scales.{Scales}
 use Rattle.dp_spec.specs.Arithmetic.{Arithmetic, arithmetic, point, span_add}
@@ -8,8 +9,8 @@ use Rattle.dp_spec.specs.Calls.{Calls, calls_in, size}
 use Rattle.dp_spec.specs.Front.{Front, class_counts, fixed_joint_action}
 use Rattle.dp_spec.specs.JointNumbers.{product}
 use Rattle.dp_spec.specs.Model.{Model, joint_actions, joint_observations}
-use Rattle.dp_spec.specs.Quantities.{class_weight_in, earned_reward_in, span_sum, weighted_reward_in,
-    weights_after_in}
+use Rattle.dp_spec.specs.Quantities.{class_weight_in, earned_reward_in, span_sum, weighted_reward_in}
+use Rattle.dp_spec.specs.Quantities.{weights_after_in}
 use Rattle.dp_spec.specs.Sizes.{reward_size}
 use Rattle.dp_spec.specs.SizesOfEarnings.{earned_size}
 use Rattle.dp_spec.specs.SizesOfFronts.{class_reward_size}
@@ -25,14 +26,16 @@ use Rattle.dp_laws.proofs.WellFormedSteps.{advanced_is_front}
 use Rattle.dp_value.specs.WeightUpdates.{AreUpdatable}
 use Rattle.dp_cluster.specs.Advances.{IsAdvanceable, weight_rows}
 use Rattle.dp_cluster.specs.AgentParts.{OwnPart}
-use Rattle.dp_cluster.specs.KeptFronts.{IsFrontOf, IsStored, KeptFront, kept_front, kept_weight, part_fronts,
-    part_observations}
+use Rattle.dp_cluster.specs.KeptFronts.{IsFrontOf, IsStored, KeptFront, kept_front, kept_weight, part_fronts}
+use Rattle.dp_cluster.specs.KeptFronts.{part_observations, part_past}
+use Rattle.dp_cluster.specs.PastClasses.{PastClasses, past_after, past_counts}
 use Rattle.dp_cluster.specs.Rewards.{IsRewardable}
 use Rattle.dp_laws.proofs.AdvancedSpans.{advanced_earned_in, pair_weight_in}
 use Rattle.dp_spec.specs.Wide.{has_room}
 use Rattle.dp_laws.proofs.TrueFits.{room_is_within}
 use Rattle.dp_laws.proofs.FrontRoom.{advanced_keeps_apart, apart_classes}
 use Rattle.dp_cluster.proofs.ChosenActions.{agents_of, chosen_below}
+use Rattle.dp_cluster.proofs.ClassesBehind.{after_length, after_room, after_stages}
 use Rattle.dp_laws.proofs.ClassSteps.{mode_steps}
 use Rattle.dp_cluster.proofs.Pairs.{product_pairs, seen_product}
 use Rattle.dp_laws.proofs.SpanSums.{span_add_assoc, span_add_none}
@@ -207,7 +210,8 @@ advanced_weights_few m k is room early =
 module _ (m : Model) (k : KeptFront) (is : IsFrontOf m k) (lt : k.front.stage < k.horizon)
     (all : is_complete k.front.agents ≡ true) (parts : List OwnPart) (ws : List Span) (earned : Span)
     (fronts_are : part_fronts parts ≡ advanced_agents m.observations k.front.stage k.front.agents)
-    (seen_are : part_observations parts ≡ m.observations) where
+    (seen_are : part_observations parts ≡ m.observations)
+    (past_are : part_past parts ≡ past_after k.front.agents k.past) where
   abbrev A : Arithmetic
   A = arithmetic k.is_exact m.scales
 
@@ -259,12 +263,24 @@ module _ (m : Model) (k : KeptFront) (is : IsFrontOf m k) (lt : k.front.stage < 
           (sym next_front);
     }
 
-    pub next_stored : IsStored next
-    next_stored = record {
-      agents = let n = sym (agents_of next_kept.front.agents) in let alike = is.model.sizes.agents_limit in
-          omega arith;
-      limit = lt;
-      room = λ early. let le = room early in rw (next_count, is.states) le;
-      weights = λ early. ap length (rows early) ∙ rows_length (class_weight_in A m G) m.states _
-          ∙ (λ j. sym next_count j * sym is.states j);
-    }
+    pub next_stored : IsStored k → IsStored next
+    next_stored stored =
+        let as_many : length next.past ≡ length k.front.agents = ap length past_are
+        ∙ after_length k.front.agents k.past stored.past_agents in
+        let agents = length-map parts (λ (p : OwnPart). p.front) in
+        let parts_many = length-map parts (λ (p : OwnPart). p.past) in record {
+          agents = let n = sym (agents_of next_kept.front.agents) in let alike = is.model.sizes.agents_limit in
+              omega arith;
+          limit = lt;
+          room = λ early. let le = room early in rw (next_count, is.states) le;
+          weights = λ early. ap length (rows early) ∙ rows_length (class_weight_in A m G) m.states _
+              ∙ (λ j. sym next_count j * sym is.states j);
+          past_agents = omega arith;
+          past_stages = subst (λ (z : List (List PastClasses)). (i : ℕ) → i < length z
+              → length (get_or z i []) ≡ suc k.front.stage) (sym past_are)
+              (after_stages k.front.stage k.front.agents k.past stored.past_agents stored.past_stages);
+          past_room = subst (λ (z : List (List PastClasses)). (t : ℕ) → t < suc k.front.stage
+              → product (past_counts z t) * k.states ≤ 2 ^ 22) (sym past_are)
+              (after_room k.front.stage k.states (2 ^ 22) k.front.agents k.past stored.past_agents stored.past_stages
+              stored.past_room (stored.room lt));
+        }

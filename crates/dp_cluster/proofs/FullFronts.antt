@@ -1,6 +1,6 @@
 -- What a full front fixes: one joint policy, and its value.
-use Rattle.std.proofs.Common.{◌≡◌, true, Bool, List, [], ◌∷◌, ◌++◌, Option, Some, None, append_assoc, refl, sym, ap,
-    ◌∙◌, subst, arith}
+use Rattle.std.proofs.Common.{◌≡◌, true, Bool, List, [], ◌∷◌, ◌++◌, Option, Some, None, append_assoc, refl, sym, ap}
+use Rattle.std.proofs.Common.{◌∙◌, subst, arith}
 use Rattle.std.specs.Prelude.{IsSome, SomeIff}
 use Rattle.std.proofs.lemmas.List.{append-nil}
 use Rattle.dp_spec.specs.Arithmetic.{arithmetic, point}

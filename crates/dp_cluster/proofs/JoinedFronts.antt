@@ -1,6 +1,6 @@
 -- What is kept of a front after a join.
-use Rattle.std.proofs.Common.{◌≡◌, ℕ, zero, suc, ◌+◌, ◌-◌, ◌*◌, ◌<◌, ◌≤◌, Bool, true, pos, List, [], ◌∷◌, map, length,
-    get_or, set, take, refl, sym, ap, ◌∙◌, subst, arith}
+use Rattle.std.proofs.Common.{◌≡◌, ℕ, zero, suc, ◌+◌, ◌-◌, ◌*◌, ◌<◌, ◌≤◌, Bool, true, pos, List, [], ◌∷◌, map, length}
+use Rattle.std.proofs.Common.{get_or, set, take, refl, sym, ap, ◌∙◌, subst, arith}
 use Rattle.std.proofs.Math.Nat.{mul-le-mul_left, mul-le-mul_right}
 use Rattle.dp_spec.specs.declared.span.Span.{Span}
 use Rattle.dp_spec.specs.Arithmetic.{point}
@@ -14,7 +14,7 @@ use Rattle.dp_cluster.specs.Advances.{weight_rows}
 use Rattle.dp_cluster.specs.AgentParts.{OwnPart}
 use Rattle.dp_cluster.specs.Joins.{behind, merged_weight, own_count}
 use Rattle.dp_cluster.specs.KeptFronts.{IsFrontOf, IsStored, KeptFront, kept_front}
-use Rattle.dp_cluster.proofs.FrontParts.{as_many_counts, fronts, observations_set}
+use Rattle.dp_cluster.proofs.FrontParts.{as_many_counts, field_set, fronts}
 use Rattle.dp_cluster.proofs.JoinedWeights.{all_after, all_before, merged_is}
 use Rattle.dp_spec.specs.Arithmetic.{arithmetic, exact}
 use Rattle.dp_spec.specs.Quantities.{class_weight_in, earned_reward_in}
@@ -37,7 +37,9 @@ pub after_join : (h : ℕ) (e : Bool) (S f : ℕ) (parts parts' : List OwnPart) 
 after_join h e S f parts parts' ws ws' r v i a b p q is lt read new parts_are =
     let list : parts' ≡ set parts i (merged_in p a b) = parts_are ∙ ap (set parts i) new in
     let seen = ap (map (λ (z : OwnPart). z.observations)) list
-    ∙ observations_set parts i p (merged_in p a b) lt read refl in
+    ∙ field_set (λ (z : OwnPart). z.observations) parts i p (merged_in p a b) lt read refl in
+    let past = ap (map (λ (z : OwnPart). z.past)) list
+    ∙ field_set (λ (z : OwnPart). z.past) parts i p (merged_in p a b) lt read refl in
     let agents = ap fronts list ∙ merge_set parts i a b p lt read in
     (λ j. record {
       horizon = h;
@@ -45,6 +47,7 @@ after_join h e S f parts parts' ws ws' r v i a b p q is lt read new parts_are =
       states = S;
       observations = seen j;
       front = record { stage = f; agents = agents j };
+      past = past j;
       weights = ws';
       earned = r;
     })
@@ -96,12 +99,17 @@ module _ (m : Model) (k : KeptFront) (is : IsFrontOf m k) (e : k.is_exact ≡ tr
       omega (arith, all_after m k is e lt i a b ab free_a free_b, all_before m k is e lt i a b ab free_a free_b)
 
   pub join_stored : IsStored k → IsStored (record k { front = merged_front k.front i a b; weights = ws })
-  join_stored s = record {
-    agents = let n = sym (as_many_counts (merged_agents i a b k.front.agents))
-        ∙ as_many_merged i a b k.front.agents ∙ as_many_counts k.front.agents in let le = s.agents in
-        omega arith;
-    limit = s.limit;
-    room = λ early. let le = mul-le-mul_right k.states fewer in let all = s.room early in omega arith;
-    weights = λ early. ap length rows ∙ rows_length (merged_weight k i a b) k.states _
-        ∙ ap (λ (n : ℕ). n * k.states) (sym (all_after m k is e lt i a b ab free_a free_b));
-  }
+  join_stored s =
+      let as_many : length (merged_agents i a b k.front.agents) ≡ length k.front.agents =
+      sym (as_many_counts (merged_agents i a b k.front.agents)) ∙ as_many_merged i a b k.front.agents
+      ∙ as_many_counts k.front.agents in
+      record {
+        agents = let le = s.agents in omega arith;
+        limit = s.limit;
+        room = λ early. let le = mul-le-mul_right k.states fewer in let all = s.room early in omega arith;
+        weights = λ early. ap length rows ∙ rows_length (merged_weight k i a b) k.states _
+            ∙ ap (λ (n : ℕ). n * k.states) (sym (all_after m k is e lt i a b ab free_a free_b));
+        past_agents = s.past_agents ∙ sym as_many;
+        past_stages = s.past_stages;
+        past_room = s.past_room;
+      }

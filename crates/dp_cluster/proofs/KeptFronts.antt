@@ -1,6 +1,6 @@
 -- What the steps of a front keep: its model, its mode, its weights and what it has earned.
-use Rattle.std.proofs.Common.{◌≡◌, ℕ, ◌+◌, ◌*◌, ◌^◌, ◌<◌, ◌≤◌, Bool, cond, eqb, pos, List, [], ◌∷◌, map, length,
-    get_or, set, refl, sym, ap, ◌∙◌, subst, arith}
+use Rattle.std.proofs.Common.{◌≡◌, ℕ, ◌+◌, ◌*◌, ◌^◌, ◌<◌, ◌≤◌, Bool, cond, eqb, pos, List, [], ◌∷◌, map, length}
+use Rattle.std.proofs.Common.{get_or, set, zero, suc, refl, sym, ap, ◌∙◌, subst, arith}
 use Rattle.std.specs.List.{range_with_len}
 use Rattle.std.proofs.lemmas.List.{length-map}
 use Rattle.std.proofs.lemmas.List.FromFn.{length-map-range_with_len}
@@ -20,7 +20,7 @@ use Rattle.dp_laws.proofs.RootFront.{root_is_front}
 use Rattle.dp_laws.proofs.WellFormedSteps.{chosen_is_front}
 use Rattle.dp_cluster.specs.AgentParts.{OwnPart, root_part}
 use Rattle.dp_cluster.specs.KeptFronts.{IsFrontOf, IsStored, KeptFront, kept_front}
-use Rattle.dp_cluster.proofs.FrontParts.{as_many_counts, choice_set, fronts, observations_set}
+use Rattle.dp_cluster.proofs.FrontParts.{as_many_counts, choice_set, field_set, fronts}
 use Rattle.dp_cluster.proofs.OwnParts.{chosen_in, made_at}
 use Rattle.dp_laws.proofs.SpanSums.{where_same}
 
@@ -67,7 +67,9 @@ pub after_assign : (h : ℕ) (e : Bool) (S f : ℕ) (parts parts' : List OwnPart
 after_assign h e S f parts parts' ws ws' r v i c a p q is lt read new parts_are weights =
     let list : parts' ≡ set parts i (chosen_in p c a) = parts_are ∙ ap (set parts i) new in
     let seen = ap (map (λ (z : OwnPart). z.observations)) list
-    ∙ observations_set parts i p (chosen_in p c a) lt read refl in
+    ∙ field_set (λ (z : OwnPart). z.observations) parts i p (chosen_in p c a) lt read refl in
+    let past = ap (map (λ (z : OwnPart). z.past)) list
+    ∙ field_set (λ (z : OwnPart). z.past) parts i p (chosen_in p c a) lt read refl in
     let agents = ap fronts list ∙ choice_set parts i c a p lt read in
     (λ j. record {
       horizon = h;
@@ -75,6 +77,7 @@ after_assign h e S f parts parts' ws ws' r v i c a p q is lt read new parts_are 
       states = S;
       observations = seen j;
       front = record { stage = f; agents = agents j };
+      past = past j;
       weights = weights j;
       earned = r;
     })
@@ -83,12 +86,17 @@ after_assign h e S f parts parts' ws ws' r v i c a p q is lt read new parts_are 
 pub stored_chosen : (k : KeptFront) (i c a : ℕ) → IsStored k
     → IsStored (record k { front = chosen_front k.front i c a })
 stored_chosen k i c a s =
-    let counts = counts_chosen i c a k.front.agents in record {
-      agents = let n = sym (as_many_counts (with_choice i c a k.front.agents)) ∙ ap length counts
-          ∙ as_many_counts k.front.agents in let le = s.agents in omega arith;
+    let counts = counts_chosen i c a k.front.agents in
+    let as_many : length (with_choice i c a k.front.agents) ≡ length k.front.agents =
+    sym (as_many_counts (with_choice i c a k.front.agents)) ∙ ap length counts ∙ as_many_counts k.front.agents in
+    record {
+      agents = let le = s.agents in omega arith;
       limit = s.limit;
       room = λ lt. subst (λ (z : List ℕ). product z * k.states ≤ 2 ^ 22) (sym counts) (s.room lt);
       weights = λ lt. s.weights lt ∙ ap (λ (z : List ℕ). product z * k.states) (sym counts);
+      past_agents = s.past_agents ∙ sym as_many;
+      past_stages = s.past_stages;
+      past_room = s.past_room;
     }
 
 -- ---- the root
@@ -193,8 +201,17 @@ module _ (m : Model) (is : IsModel m) (h : ℕ) (some : 0 < h) (limit : h ≤ 24
         (λ (F : Front). product (class_counts F.agents))
         front_is ∙ root_product m in
         ap length weights ∙ length-map-range m.states ∙ sym states ∙ rw one (omega arith);
+    past_agents = length-map parts (λ (p : OwnPart). p.past) ∙ sym (length-map parts (λ (p : OwnPart). p.front));
+    past_stages = λ i lt. ap (λ l. length (get_or (map (λ (p : OwnPart). p.past) l) i [])) are
+        ∙ none_yet m.observations i;
+    past_room = λ t lt. absurd (omega arith);
   }
     where
+      none_yet : (ns : List ℕ) (i : ℕ) → length (get_or (map (λ (p : OwnPart). p.past) (map root_part ns)) i []) ≡ 0
+      none_yet [] i = refl
+      none_yet (n ∷ ns) zero = refl
+      none_yet (n ∷ ns) (suc i) = none_yet ns i
+
       length-map-range : (n : ℕ) → length (map (λ s. (arithmetic e m.scales).start (start_at m s))
           (range_with_len 0 n)) ≡ n
       length-map-range n = length-map-range_with_len (λ s. (arithmetic e m.scales).start (start_at m s)) 0 n

@@ -1,6 +1,6 @@
 -- What a merge finds: unassigned classes, and their first difference.
-use Rattle.std.proofs.Common.{◌≡◌, ℕ, zero, suc, ◌<◌, ◌≤◌, true, false, List, [], ◌∷◌, length, get_or, Option, Some,
-    None, is_some, refl, sym, ap, ◌∙◌, arith}
+use Rattle.std.proofs.Common.{◌≡◌, ℕ, zero, suc, ◌<◌, ◌≤◌, true, false, List, [], ◌∷◌, length, get_or, Option, Some}
+use Rattle.std.proofs.Common.{None, is_some, refl, sym, ap, ◌∙◌, arith}
 use Rattle.dp_spec.specs.Front.{AgentFront, class_counts}
 use Rattle.dp_spec.specs.Merge.{merged_front}
 use Rattle.dp_spec.specs.Model.{Model}

@@ -1,17 +1,17 @@
 -- The parts of agents as they are kept: their lists, and what each step makes of them.
-use Rattle.std.proofs.Common.{◌≡◌, inl, inr, ℕ, zero, suc, ◌+◌, ◌-◌, ◌*◌, ◌/◌, ◌%◌, ◌^◌, ◌<◌, Bool, true, false, cond,
-    eqb, List, [], ◌∷◌, ◌++◌, map, length, get_or, set, replicate, Option, Some, None, take, append_assoc, add-one,
-    refl, sym, ap, ◌∙◌, subst, arith}
+use Rattle.std.proofs.Common.{◌≡◌, inl, inr, ℕ, zero, suc, ◌+◌, ◌-◌, ◌*◌, ◌/◌, ◌%◌, ◌^◌, ◌<◌, Bool, true, false, cond}
+use Rattle.std.proofs.Common.{eqb, List, [], ◌∷◌, ◌++◌, map, length, get_or, set, replicate, Option, Some, None, take}
+use Rattle.std.proofs.Common.{append_assoc, add-one, refl, sym, ap, ◌∙◌, subst, arith}
 use Rattle.std.specs.Prelude.{unwrap_or, is_some, ◌&&◌}
 use Rattle.std.specs.List.{range_with_len}
 use Rattle.std.proofs.Math.ListN.{length-set}
 use Rattle.std.proofs.Math.Nat.{pow-suc, pow-zero}
 use Rattle.std.proofs.lemmas.Bool.{and_from, cases_eq, cases_lt}
 use Rattle.std.proofs.lemmas.Bool.Decides.{nat_tests}
-use Rattle.std.proofs.lemmas.List.{get_or-map, get_or-replicate, get_or-set_other, get_or-set_same, length-append,
-    length-map, length-replicate, map_push}
-use Rattle.std.proofs.lemmas.List.FromFn.{fill_by_all, get_or-map-range_with_len, length-map-range_with_len,
-    map-range_with_len_more}
+use Rattle.std.proofs.lemmas.List.{get_or-map, get_or-replicate, get_or-set_other, get_or-set_same, length-append}
+use Rattle.std.proofs.lemmas.List.{length-map, length-replicate, map_push}
+use Rattle.std.proofs.lemmas.List.FromFn.{fill_by_all, get_or-map-range_with_len, length-map-range_with_len}
+use Rattle.std.proofs.lemmas.List.FromFn.{map-range_with_len_more}
 use Rattle.std.proofs.lemmas.Nat.{mod_below}
 use Rattle.dp_spec.specs.Front.{AgentFront}
 use Rattle.dp_spec.specs.Merge.{merged_agent, renumbered, without, kept_class}
@@ -20,8 +20,10 @@ use Rattle.dp_spec.proofs.JointNumberLaws.{part_below, positive_right, row_below
 use Rattle.dp_laws.proofs.MergedAgents.{get_or-without_above, get_or-without_below, length-without}
 use Rattle.dp_laws.proofs.MergedFronts.{kept_high, kept_low}
 use Rattle.dp_cluster.specs.declared.part.PastStage.{PastStage}
-use Rattle.dp_cluster.specs.AgentParts.{AreMergedStages, ArePastStages, OwnPart, actions_after, class_after,
-    class_led_to, part_of}
+use Rattle.dp_cluster.specs.AgentParts.{AreMergedStages, ArePastStages, HasMembers, LeadTogether, OwnPart}
+use Rattle.dp_cluster.specs.AgentParts.{actions_after, class_after}
+use Rattle.dp_cluster.specs.AgentParts.{class_led_to, part_of, past_classes}
+use Rattle.dp_cluster.specs.PastClasses.{classes_of}
 
 -- ---- lists made from functions
 
@@ -42,6 +44,10 @@ read_again : (k : ℕ) (f : ℕ → Option ℕ)
 read_again k f = same_map k None _ f (λ i lt. made_at k i None f lt)
 
 -- ---- a part, list by list
+
+-- what contracts see of a part
+abbrev pub own_part : ℕ → List PastStage → ℕ → List (Option ℕ) → OwnPart
+own_part n ss k cs = record { observations = n; front = part_of n ss k cs; past = past_classes n ss }
 
 module _ (n : ℕ) (ss : List PastStage) (k : ℕ) (cs : List (Option ℕ)) where
   -- how many classes it has
@@ -72,6 +78,18 @@ module _ (n : ℕ) (ss : List PastStage) (k : ℕ) (cs : List (Option ℕ)) wher
   pub part_class : (x : ℕ) → x < n ^ length ss → class_after n ss x ≡ get_or (part_of n ss k cs).class_of x 0
   unfolding part_of
   part_class x lt = sym (made_at (n ^ length ss) x 0 (class_after n ss) lt)
+
+  -- the classes of the stage that is left
+  pub part_classes_of : (s : PastStage) → length s.actions.items ≡ k
+      → record {
+        count = length s.actions.items;
+        class_of = map (class_after n ss) (range_with_len 0 (n ^ length ss));
+      } ≡ classes_of (part_of n ss k cs)
+  unfolding part_of
+  part_classes_of s as_many = λ j. record {
+    count = (as_many ∙ part_classes) j;
+    class_of = map (class_after n ss) (range_with_len 0 (n ^ length ss));
+  }
 
 -- ---- the root
 
@@ -266,18 +284,77 @@ module _ (n k : ℕ) (cs : List (Option ℕ)) (a b : ℕ) (ab : a < b) (lt : b <
       ap (λ z. part_of n (s' ∷ z) (k - 1) (map (kept_action cs b) (range_with_len 0 (k - 1)))) same.2
       ∙ part_merged s s' ss past same.0 same.1
 
+  -- own histories of the two classes lead together
+  merged_together : (s s' : PastStage) (ss : List PastStage) → ArePastStages n (s ∷ ss)
+      → ((p : ℕ) → p < length s.actions.items * n → class_led_to s' p ≡ renumbered a b (class_led_to s p))
+      → HasMembers (own_part n (s ∷ ss) k cs) → LeadTogether n (s' ∷ ss)
+  merged_together s s' ss past links members =
+      let N = n ^ suc (length ss) in
+      let count = part_classes n (s ∷ ss) k cs in
+      let stage = part_stage n (s ∷ ss) k cs in
+      let first = members a (omega arith) in
+      let second = members b (omega arith) in
+      let x_below : first.0 < N = subst (λ (t : ℕ). first.0 < n ^ t) stage first.1 in
+      let y_below : second.0 < N = subst (λ (t : ℕ). second.0 < n ^ t) stage second.1 in
+      let x_is : class_after n (s ∷ ss) first.0 ≡ a = part_class n (s ∷ ss) k cs first.0 x_below ∙ first.2 in
+      let y_is : class_after n (s ∷ ss) second.0 ≡ b = part_class n (s ∷ ss) k cs second.0 y_below ∙ second.2 in
+      let x_led : class_after n (s' ∷ ss) first.0 ≡ a =
+      led first.0 x_below ∙ ap (renumbered a b) x_is ∙ first_stays in
+      let y_led : class_after n (s' ∷ ss) second.0 ≡ a =
+      led second.0 y_below ∙ ap (renumbered a b) y_is ∙ second_goes in
+      elim (cases_lt first.0 second.0) [
+        | inl lt ↦ (first.0, second.0, lt, y_below, x_led ∙ sym y_led)
+        | inr le ↦ elim (cases_lt second.0 first.0) [
+          | inl lt ↦ (second.0, first.0, lt, x_below, y_led ∙ sym x_led)
+          | inr le' ↦
+              let same : first.0 ≡ second.0 = omega arith in
+              let both : a ≡ b = sym x_is ∙ ap (class_after n (s ∷ ss)) same ∙ y_is in
+              absurd (omega arith)
+        ]
+      ]
+    where
+      first_stays : renumbered a b a ≡ a
+      first_stays = grind (arith, nat_tests)
+
+      second_goes : renumbered a b b ≡ a
+      second_goes = grind (arith, nat_tests)
+
+      led : (x : ℕ) → x < n ^ suc (length ss)
+          → class_after n (s' ∷ ss) x ≡ renumbered a b (class_after n (s ∷ ss) x)
+      led x below =
+          let below' : x < n ^ length ss * n = rw pow-suc at below in
+          let last : x % n < n = mod_below x n (positive_right (n ^ length ss) n x below') in
+          links (class_after n ss (x / n) * n + x % n)
+          (row_below (class_after n ss (x / n)) (length s.actions.items) n (x % n)
+          (past.0 (x / n) (part_below (n ^ length ss) n x below')) last)
+
   pub past_merged : (ss ss' : List PastStage) → AreMergedStages n a b ss ss' → ArePastStages n ss
-      → ArePastStages n ss'
-  past_merged [] ss' same past = subst (ArePastStages n) (sym same) tt
-  past_merged (s ∷ ss) [] same past = absurd same
-  past_merged (s ∷ ss) (s' ∷ ss') same past =
+      → HasMembers (own_part n ss k cs) → ArePastStages n ss'
+  past_merged [] ss' same past members = subst (ArePastStages n) (sym same) tt
+  past_merged (s ∷ ss) [] same past members = absurd same
+  past_merged (s ∷ ss) (s' ∷ ss') same past members =
       let as_many : length s'.actions.items ≡ length s.actions.items = ap length same.0 in
+      let together = merged_together s s' ss past same.1 members in
       subst (λ z. ArePastStages n (s' ∷ z)) (sym same.2) (
         λ x lt. let old = past.0 x lt in
             omega arith,
         rw as_many past.1,
         past.2,
+        λ c lt. past.3 c (omega arith),
+        λ linked. together,
       )
+
+-- the classes of the stages are as before
+pub past_as_before : (n a b : ℕ) (ss ss' : List PastStage) → AreMergedStages n a b ss ss'
+    → past_classes n ss' ≡ past_classes n ss
+past_as_before n a b [] ss' same = ap (past_classes n) same
+past_as_before n a b (s ∷ ss) [] same = absurd same
+past_as_before n a b (s ∷ ss) (s' ∷ ss') same = λ j.
+    past_classes n (same.2 j)
+    ++ record {
+      count = length (same.0 j);
+      class_of = map (class_after n (same.2 j)) (range_with_len 0 (n ^ length (same.2 j)));
+    } ∷ []
 
 -- ---- what loops keep
 
@@ -344,39 +421,43 @@ abbrev pub chosen_in : OwnPart → ℕ → ℕ → OwnPart
 chosen_in v c a = record v { front = record v.front { chosen = set v.front.chosen c (Some a) } }
 
 abbrev pub advanced_in : OwnPart → OwnPart
-advanced_in v = record v { front = advanced_agent v.observations (length v.front.fixed) v.front }
+advanced_in v = record v {
+  front = advanced_agent v.observations (length v.front.fixed) v.front;
+  past = v.past ++ classes_of v.front ∷ [];
+}
 
 abbrev pub merged_in : OwnPart → ℕ → ℕ → OwnPart
 merged_in v a b = record v { front = merged_agent a b v.front }
 
 -- a class is below the count
 pub below_count : (n : ℕ) (ss : List PastStage) (k : ℕ) (cs : List (Option ℕ)) (v : OwnPart) (c : ℕ)
-    → record { observations = n; front = part_of n ss k cs } ≡ v → c < length v.front.chosen → c < k
+    → own_part n ss k cs ≡ v → c < length v.front.chosen → c < k
 below_count n ss k cs v c is lt =
     let count = part_classes n ss k cs ∙ ap (λ (p : OwnPart). length p.front.chosen) is in omega arith
 
 pub after_choice : (n : ℕ) (ss ss' : List PastStage) (k i : ℕ) (cs cs' : List (Option ℕ)) (v : OwnPart)
     (c a : ℕ)
-    → record { observations = n; front = part_of n ss k cs } ≡ v → c < length v.front.chosen → ss' ≡ ss → i ≡ k
+    → own_part n ss k cs ≡ v → c < length v.front.chosen → ss' ≡ ss → i ≡ k
     → cs' ≡ map (with_action cs c a) (range_with_len 0 i)
-    → record { observations = n; front = part_of n ss' k cs' } ≡ chosen_in v c a
+    → own_part n ss' k cs' ≡ chosen_in v c a
 after_choice n ss ss' k i cs cs' v c a is lt stages all chosen =
     let list : cs' ≡ map (with_action cs c a) (range_with_len 0 k) = chosen
     ∙ ap (λ (z : ℕ). map (with_action cs c a) (range_with_len 0 z)) all in
     let part : part_of n ss' k cs' ≡ record (part_of n ss k cs)
     { chosen = set (part_of n ss k cs).chosen c (Some a) } =
     (λ j. part_of n (stages j) k (list j)) ∙ part_with_choice n ss k cs c a (below_count n ss k cs v c is lt) in
-    (λ j. record { observations = n; front = part j }) ∙ ap (λ (w : OwnPart). chosen_in w c a) is
+    (λ j. record { observations = n; front = part j; past = past_classes n (stages j) })
+    ∙ ap (λ (w : OwnPart). chosen_in w c a) is
 
 -- the actions of all classes
 pub after_advance : (n : ℕ) (ss ss' : List PastStage) (k i : ℕ) (cs cs' : List (Option ℕ)) (s : PastStage)
     (v : OwnPart)
-    → record { observations = n; front = part_of n ss k cs } ≡ v
+    → own_part n ss k cs ≡ v
     → ((x : ℕ) → x < v.observations ^ length v.front.fixed → get_or v.front.class_of x 0
     < length v.front.chosen)
     → ss' ≡ s ∷ ss → i ≡ k → s.actions.items ≡ map (λ c. unwrap_or (get_or cs c None) 0) (range_with_len 0 i)
     → s.links.items ≡ [] → cs' ≡ []
-    → record { observations = n; front = part_of n ss' (k * n) cs' } ≡ advanced_in v
+    → own_part n ss' (k * n) cs' ≡ advanced_in v
 after_advance n ss ss' k i cs cs' s v is classes stages all actions links none =
     let classes' : HasClasses n (part_of n ss k cs) = subst (λ (w : OwnPart). HasClasses w.observations w.front)
     (sym is) classes in
@@ -384,19 +465,26 @@ after_advance n ss ss' k i cs cs' s v is classes stages all actions links none =
     let part : part_of n ss' (k * n) cs' ≡ advanced_agent n (length (part_of n ss k cs).fixed)
     (part_of n ss k cs) =
     (λ j. part_of n (stages j) (k * n) (none j)) ∙ part_advanced n ss k cs classes' s links list in
-    (λ j. record { observations = n; front = part j }) ∙ ap advanced_in is
+    let as_many : length s.actions.items ≡ k = ap length list
+    ∙ length-map-range_with_len (λ c. unwrap_or (get_or cs c None) 0) 0 k in
+    let left = part_classes_of n ss k cs s as_many in
+    let past : past_classes n ss' ≡ past_classes n ss ++ classes_of (part_of n ss k cs) ∷ [] =
+    ap (past_classes n) stages ∙ ap (λ z. past_classes n ss ++ z ∷ []) left in
+    (λ j. record { observations = n; front = part j; past = past j }) ∙ ap advanced_in is
 
 pub past_after : (n : ℕ) (ss ss' : List PastStage) (k i : ℕ) (cs : List (Option ℕ)) (s : PastStage)
     (v : OwnPart)
-    → record { observations = n; front = part_of n ss k cs } ≡ v
+    → own_part n ss k cs ≡ v
     → ((x : ℕ) → x < v.observations ^ length v.front.fixed → get_or v.front.class_of x 0
     < length v.front.chosen)
-    → length v.front.chosen * v.observations < 2 ^ 32
+    → HasMembers v → length v.front.chosen * v.observations < 2 ^ 32
     → ss' ≡ s ∷ ss → i ≡ k → s.actions.items ≡ map (λ c. unwrap_or (get_or cs c None) 0) (range_with_len 0 i)
+    → s.links.items ≡ []
     → ArePastStages n ss → ArePastStages n ss'
-past_after n ss ss' k i cs s v is classes room stages all actions past =
+past_after n ss ss' k i cs s v is classes members room stages all actions links past =
     let classes' : HasClasses n (part_of n ss k cs) = subst (λ (w : OwnPart). HasClasses w.observations w.front)
     (sym is) classes in
+    let members' : HasMembers (own_part n ss k cs) = subst HasMembers (sym is) members in
     let count : k ≡ length (part_of n ss k cs).chosen = part_classes n ss k cs in
     let room' : length (part_of n ss k cs).chosen * n < 2 ^ 32 = subst
     (λ (w : OwnPart). length w.front.chosen * w.observations < 2 ^ 32) (sym is) room in
@@ -408,10 +496,15 @@ past_after n ss ss' k i cs s v is classes room stages all actions past =
           omega arith,
       rw as_many room'',
       past,
+      λ c lt.
+          let old = members' c (omega arith) in
+          let below : old.0 < n ^ length ss = subst (λ (t : ℕ). old.0 < n ^ t) (part_stage n ss k cs) old.1 in
+          (old.0, below, part_class n ss k cs old.0 below ∙ old.2),
+      λ linked. absurd (linked links),
     )
 
 pub next_count : (n : ℕ) (ss : List PastStage) (k : ℕ) (cs : List (Option ℕ)) (v : OwnPart)
-    → record { observations = n; front = part_of n ss k cs } ≡ v
+    → own_part n ss k cs ≡ v
     → length v.front.chosen * v.observations < 2 ^ 32
     → k * n < 2 ^ 32
 next_count n ss k cs v is room =
@@ -421,14 +514,15 @@ next_count n ss k cs v is room =
     subst (λ (z : ℕ). z * n < 2 ^ 32) (sym count) room'
 
 pub after_merge : (n : ℕ) (ss ss' : List PastStage) (k i : ℕ) (cs cs' : List (Option ℕ)) (v : OwnPart) (a b : ℕ)
-    → record { observations = n; front = part_of n ss k cs } ≡ v → a < b → b < length v.front.chosen
+    → own_part n ss k cs ≡ v → a < b → b < length v.front.chosen
     → AreMergedStages n a b ss ss' → ArePastStages n ss → i ≡ k - 1
     → cs' ≡ map (kept_action cs b) (range_with_len 0 i)
-    → record { observations = n; front = part_of n ss' (k - 1) cs' } ≡ merged_in v a b
+    → own_part n ss' (k - 1) cs' ≡ merged_in v a b
 after_merge n ss ss' k i cs cs' v a b is ab lt stages past all chosen =
     let list : cs' ≡ map (kept_action cs b) (range_with_len 0 (k - 1)) = chosen
     ∙ ap (λ (z : ℕ). map (kept_action cs b) (range_with_len 0 z)) all in
     let part : part_of n ss' (k - 1) cs' ≡ merged_agent a b (part_of n ss k cs) =
     ap (part_of n ss' (k - 1)) list ∙ parts_merged n k cs a b ab (below_count n ss k cs v b is lt)
     ss ss' stages past in
-    (λ j. record { observations = n; front = part j }) ∙ ap (λ (w : OwnPart). merged_in w a b) is
+    (λ j. record { observations = n; front = part j; past = past_as_before n a b ss ss' stages j })
+    ∙ ap (λ (w : OwnPart). merged_in w a b) is

@@ -1,6 +1,6 @@
 -- The trees that the stages behind a front fix.
-use Rattle.std.proofs.Common.{◌≡◌, ℕ, zero, suc, ◌+◌, ◌-◌, ◌*◌, ◌^◌, ◌<◌, ◌≤◌, List, [], ◌∷◌, ◌++◌, map, length,
-    get_or, drop, Option, refl, sym, ap, ◌∙◌, subst, arith}
+use Rattle.std.proofs.Common.{◌≡◌, ℕ, zero, suc, ◌+◌, ◌-◌, ◌*◌, ◌^◌, ◌<◌, ◌≤◌, List, [], ◌∷◌, ◌++◌, map, length}
+use Rattle.std.proofs.Common.{get_or, drop, Option, refl, sym, ap, ◌∙◌, subst, arith}
 use Rattle.std.specs.List.{range_with_len}
 use Rattle.dp_spec.specs.Front.{AgentFront}
 use Rattle.dp_spec.specs.WellFormed.{AreAgentFronts, no_agents, and_agent}
@@ -19,9 +19,10 @@ use Rattle.dp_policy.specs.declared.tree.PTree.TheViews.{roll-PTree}
 use Rattle.dp_policy.specs.declared.tree.PTree.TheFolds.{fold-roll-PTree}
 use Rattle.dp_policy.specs.TreeValue.{policy_tree, policy_tree_node, policy_trees}
 use Rattle.dp_cluster.specs.declared.part.PastStage.{PastStage}
-use Rattle.dp_cluster.specs.AgentParts.{ArePastStages, IsReached, OwnPart, action_after, actions_after, class_after,
-    class_led_to, part_of}
-use Rattle.dp_cluster.proofs.OwnParts.{made_at}
+use Rattle.dp_cluster.specs.AgentParts.{ArePastStages, IsReached, OwnPart, action_after, actions_after, class_after}
+use Rattle.dp_cluster.specs.AgentParts.{class_led_to, part_of}
+use Rattle.dp_cluster.proofs.ClassesBehind.{earlier_read, last_read}
+use Rattle.dp_cluster.proofs.OwnParts.{made_at, own_part}
 
 -- ---- trees of a list
 
@@ -59,15 +60,6 @@ past_later n zero ss past = past
 past_later n (suc r) [] past = past
 past_later n (suc r) (s ∷ ss) past = past_later n r ss past.2
 
-last_of : {X : Type 0} (xs : List X) (m d : X) → get_or (xs ++ m ∷ []) (length xs) d ≡ m
-last_of [] m d = refl
-last_of (x ∷ xs) m d = last_of xs m d
-
-front_of : {X : Type 0} (xs ys : List X) (i : ℕ) (d : X) → i < length xs → get_or (xs ++ ys) i d ≡ get_or xs i d
-front_of [] ys i d lt = absurd (omega arith)
-front_of (x ∷ xs) ys zero d lt = refl
-front_of (x ∷ xs) ys (suc i) d lt = front_of xs ys i d (omega arith)
-
 as_many : (n : ℕ) (ss : List PastStage) → length (actions_after n ss) ≡ length ss
 as_many n [] = refl
 as_many n (s ∷ ss) =
@@ -77,21 +69,21 @@ as_many n (s ∷ ss) =
     omega arith
 
 -- the actions of a stage that others are behind
-stage_actions : (n r : ℕ) (ss ss' : List PastStage) (s : PastStage) → drop r ss ≡ s ∷ ss'
+pub stage_actions : (n r : ℕ) (ss ss' : List PastStage) (s : PastStage) → drop r ss ≡ s ∷ ss'
     → get_or (actions_after n ss) (length ss') []
     ≡ map (λ x. get_or s.actions.items (class_after n ss' x) 0) (range_with_len 0 (n ^ length ss'))
 stage_actions n zero ss ss' s e =
     let all = map (λ x. get_or s.actions.items (class_after n ss' x) 0) (range_with_len 0 (n ^ length ss')) in
     ap (λ l. get_or (actions_after n l) (length ss') []) e
     ∙ ap (λ k. get_or (actions_after n ss' ++ all ∷ []) k []) (sym (as_many n ss'))
-    ∙ last_of (actions_after n ss') all []
+    ∙ last_read (actions_after n ss') (length (actions_after n ss')) all [] refl
 stage_actions n (suc r) [] ss' s e = absurd (let no : 0 ≡ suc (length ss') = ap (λ l. length l) e in
     omega arith)
 stage_actions n (suc r) (q ∷ qs) ss' s e =
     let rest = length-drop r qs in
     let size : length (drop r qs) ≡ suc (length ss') = ap (λ l. length l) e in
     let many = as_many n qs in
-    front_of (actions_after n qs) (map (λ x. get_or q.actions.items (class_after n qs x) 0)
+    earlier_read (actions_after n qs) (map (λ x. get_or q.actions.items (class_after n qs x) 0)
     (range_with_len 0 (n ^ length qs)) ∷ []) (length ss') [] (omega arith)
     ∙ stage_actions n r qs ss' s e
 
@@ -202,7 +194,7 @@ module _ (n : ℕ) (ss : List PastStage) (past : ArePastStages n ss) (left : ℕ
 -- ---- the whole tree of a part
 
 module _ (n : ℕ) (ss : List PastStage) (k : ℕ) (cs : List (Option ℕ)) (v : OwnPart)
-    (is : record { observations = n; front = part_of n ss k cs } ≡ v) where
+    (is : own_part n ss k cs ≡ v) where
   pub stages_counted : length ss ≡ length v.front.fixed
   unfolding part_of
   stages_counted = sym (as_many n ss) ∙ ap (λ (p : OwnPart). length p.front.fixed) is

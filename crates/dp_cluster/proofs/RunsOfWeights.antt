@@ -1,6 +1,6 @@
 -- The weights of one agent's classes, run by run: totals, and the first place where two classes differ.
-use Rattle.std.proofs.Common.{◌≡◌, ◌⊎◌, inl, inr, ℕ, zero, suc, ◌+◌, ◌-◌, ◌*◌, ◌<◌, ◌≤◌, ◌^◌, List, length, ℤ,
-    unsigned_abs, [], ◌∷◌, ◌++◌, map, refl, sym, ap, ◌∙◌, subst, arith}
+use Rattle.std.proofs.Common.{◌≡◌, ◌⊎◌, inl, inr, ℕ, zero, suc, ◌+◌, ◌-◌, ◌*◌, ◌<◌, ◌≤◌, ◌^◌, List, length, ℤ}
+use Rattle.std.proofs.Common.{unsigned_abs, [], ◌∷◌, ◌++◌, map, refl, sym, ap, ◌∙◌, subst, arith}
 use Rattle.std.specs.List.{range_with_len}
 use Rattle.std.proofs.lemmas.List.{append_assoc, append-nil}
 use Rattle.std.proofs.lemmas.List.FromFn.{map-range_with_len_more}
@@ -10,8 +10,8 @@ use Rattle.dp_base.specs.Sums.{nat_sum}
 use Rattle.dp_base.proofs.NaturalSumLaws.{nat_sum_ext, nat_sum_none, nat_sum_part, nat_sum_plus}
 use Rattle.dp_spec.specs.declared.span.Span.{Span}
 use Rattle.dp_spec.proofs.JointNumberLaws.{row_below}
-use Rattle.dp_cluster.specs.OwnWeights.{AreInProportion, AreOwnRuns, IsFirstWithout, low_at, low_end, own_low,
-    own_total, own_weight}
+use Rattle.dp_cluster.specs.OwnWeights.{AreInProportion, AreOwnRuns, IsFirstWithout, low_at, low_end, own_low}
+use Rattle.dp_cluster.specs.OwnWeights.{own_total, own_weight}
 
 -- ---- numbers up to a place
 

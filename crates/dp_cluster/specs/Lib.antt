@@ -1,11 +1,14 @@
 pub mod Advances
 pub mod AgentParts
 pub mod EqualClasses
+pub mod FullRows
 pub mod Joins
 pub mod KeepingPolicies
 pub mod KeptFronts
+pub mod Keys
 pub mod Merging
 pub mod OwnPlaces
 pub mod OwnWeights
 pub mod Pairs
+pub mod PastClasses
 pub mod Rewards

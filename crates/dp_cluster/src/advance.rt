@@ -13,7 +13,8 @@ ghost use Rattle.dp_value.specs.WeightUpdates.{weights_of};
 ghost use Rattle.dp_cluster.specs.Advances.{IsAdvanceable, weight_rows};
 ghost use Rattle.dp_spec.specs.Wide.{has_room};
 ghost use Rattle.dp_cluster.specs.KeepingPolicies.{KeepsToo};
-ghost use Rattle.dp_cluster.specs.KeptFronts.{IsFrontOf, kept_weight, part_fronts, part_observations};
+ghost use Rattle.dp_cluster.specs.KeptFronts.{IsFrontOf, kept_weight, part_fronts, part_observations, part_past};
+ghost use Rattle.dp_cluster.specs.PastClasses.{past_after};
 
 use crate::Front;
 use crate::part::AgentPart;
@@ -36,10 +37,12 @@ impl Front {
         requires room { has_room m.now.model self.now.horizon (advanced_front m.now.model self.now.front) ≡ true }
         ensures front { IfOk result (λ f. f.front ≡ advanced_front m.now.model self.now.front) }
         ensures horizon { IfOk result (λ f. f.horizon ≡ self.now.horizon) }
+        ensures past { IfOk result (λ f. f.past ≡ past_after self.now.front.agents self.now.past) }
         ensures of_model { IfOk result (λ f. IsFrontOf m.now.model f) }
         ensures keeps { IfOk result (λ f. KeepsToo m.now.model self.now.front f.front) }
     {
         m.invariant();
+        self.invariant();
         let earned = earned_in(self, m);
         let weights = weights_in(alloc, self, m)?;
         let agents = advanced_parts(alloc, self, m)?;
@@ -55,6 +58,8 @@ fn advanced_parts(alloc: Global, front: &Front, m: &Model) -> Result<Vec<Rc<Agen
         advanced_agents m.now.model.observations front.now.front.stage front.now.front.agents) }
     ensures observations { IfOk result (λ v. part_observations (map (λ p. p.value) v.items) ≡
         m.now.model.observations) }
+    ensures past { IfOk result (λ v. part_past (map (λ p. p.value) v.items) ≡
+        past_after front.now.front.agents front.now.past) }
 {
     front.invariant();
     let mut all = Vec::new(alloc);

@@ -1,11 +1,11 @@
 //! Equivalent classes.
-ghost use Rattle.std.specs.Prelude.{◌≡◌, ◌↔◌, ℕ, ◌^◌, ◌<◌, true, false, length, get_or, IfOk, IfSome, IsTrue,
-    MatchOption, None};
+ghost use Rattle.std.specs.Prelude.{◌≡◌, ◌↔◌, ℕ, ◌^◌, ◌<◌, true, false, length, get_or, IfOk, IfSome, IsTrue};
+ghost use Rattle.std.specs.Prelude.{MatchOption, None};
 ghost use Rattle.dp_spec.specs.Front.{class_counts};
 ghost use Rattle.dp_spec.specs.Model.{Model as PlainModel};
 ghost use Rattle.dp_spec.specs.Pairs.{HasNoPair, IsLeastPair};
-ghost use Rattle.dp_cluster.specs.EqualClasses.{AlikeAt, AreAlike, AreLeastAlike, AreVectorsOf, IsFirstAlike,
-    IsVectorOf};
+ghost use Rattle.dp_cluster.specs.EqualClasses.{AlikeAt, AreAlike, AreLeastAlike, AreVectorsOf, IsFirstAlike};
+ghost use Rattle.dp_cluster.specs.EqualClasses.{IsVectorOf};
 ghost use Rattle.dp_cluster.specs.Joins.{own_count};
 ghost use Rattle.dp_cluster.specs.KeptFronts.{IsFrontOf};
 ghost use Rattle.dp_cluster.specs.OwnPlaces.{ArePlacesOf};

@@ -1,5 +1,5 @@
 //! A front.
-ghost use Rattle.std.specs.Prelude.{◌≡◌, ◌<◌, ◌≤◌, ◌^◌, ℕ, suc, true, map, set, length, get_or, IfOk};
+ghost use Rattle.std.specs.Prelude.{◌≡◌, ◌<◌, ◌≤◌, ◌^◌, [], ℕ, suc, true, map, set, length, get_or, IfOk};
 ghost use Rattle.std.specs.List.{range_with_len};
 ghost use Rattle.dp_spec.specs.Arithmetic.{arithmetic};
 ghost use Rattle.dp_spec.specs.Front.{AgentFront, class_counts, fixed_joint_action};
@@ -28,9 +28,9 @@ use std::rc::Rc;
 /// A partial joint policy: what is fixed before its stage, for each agent classes of own histories with
 /// their actions or none, and the weight of each joint class and state.
 ///
-/// Contracts see the front of the definitions, with its horizon and mode, and the weights and the
-/// earned reward that are kept. `IsFrontOf` says that these are those of a model. No list of histories
-/// is kept.
+/// Contracts see the front of the definitions, with its horizon and mode, the classes of each agent at
+/// each earlier stage, and the weights and the earned reward that are kept. `IsFrontOf` says that these
+/// are those of a model. No list of histories is kept.
 #[derive(Drop)]
 pub struct Front {
     horizon: u32,
@@ -207,6 +207,7 @@ impl Front {
         requires second { IsUnassigned agent second self.now.front.agents }
         ensures front { IfOk result (λ f. f.front ≡ merged_front self.now.front agent first second) }
         ensures horizon { IfOk result (λ f. f.horizon ≡ self.now.horizon) }
+        ensures past { IfOk result (λ f. f.past ≡ self.now.past) }
         ensures of_model { IfOk result (λ f. (m : PlainModel) → IsFrontOf m self.now → IsFrontOf m f) }
     {
         let weights = joined_weights(alloc, self, agent, first, second)?;
@@ -238,6 +239,7 @@ impl Front {
         requires { agent < length self.now.front.agents }
         ensures front { (d : AgentFront) → get_or self.now.front.agents agent d ≡ result.now.front }
         ensures observations { get_or self.now.observations agent 0 ≡ result.now.observations }
+        ensures past { get_or self.now.past agent [] ≡ result.now.past }
     {
         let parts: &[Rc<AgentPart>] = &self.agents;
         parts[agent as usize].as_ref()

@@ -1,6 +1,6 @@
 // The joining of two classes.
-ghost use Rattle.std.specs.Prelude.{◌≡◌, ◌==◌, if◌then◌else◌, ℕ, suc, ◌+◌, ◌-◌, ◌*◌, ◌^◌, ◌<◌, ◌≤◌, ◌++◌, true,
-    Option, Some, None, map, length, drop, take, get_or, IfOk};
+ghost use Rattle.std.specs.Prelude.{◌≡◌, ◌==◌, if◌then◌else◌, ℕ, suc, ◌+◌, ◌-◌, ◌*◌, ◌^◌, ◌<◌, ◌≤◌, ◌++◌, true};
+ghost use Rattle.std.specs.Prelude.{Option, Some, None, map, length, drop, take, get_or, IfOk};
 ghost use Rattle.std.specs.List.{range_with_len};
 ghost use Rattle.dp_spec.specs.Calls.{size};
 ghost use Rattle.dp_spec.specs.Front.{class_counts};

@@ -7,6 +7,7 @@ mod fractions;
 mod front;
 mod full;
 mod join;
+mod key;
 mod limits;
 mod merge;
 mod part;

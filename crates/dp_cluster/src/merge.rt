@@ -51,6 +51,7 @@ impl Front {
             (m : PlainModel) → IsFrontOf m self.now → AreMerged m self.now agent first second) }
         ensures front { IfOk result (λ f. f.front ≡ merged_front self.now.front agent first second) }
         ensures horizon { IfOk result (λ f. f.horizon ≡ self.now.horizon) }
+        ensures past { IfOk result (λ f. f.past ≡ self.now.past) }
         ensures of_model { IfOk result (λ f. (m : PlainModel) → IsFrontOf m self.now → IsFrontOf m f) }
         ensures loses_nothing { IfOk result (λ f.
             (m : PlainModel) → IsFrontOf m self.now → LosesNothing m self.now.horizon self.now.front f.front) }

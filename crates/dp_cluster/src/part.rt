@@ -1,17 +1,24 @@
 // One agent's part of a front.
-ghost use Rattle.std.specs.Prelude.{◌≡◌, ◌<◌, ◌+◌, ◌-◌, ◌*◌, ◌^◌, [], ◌∷◌, ℕ, List, drop, map, length, get_or, set,
-    None, Some, IfOk};
+ghost use Rattle.std.specs.Prelude.{◌≡◌, ◌<◌, ◌≤◌, ◌+◌, ◌-◌, ◌*◌, ◌^◌, [], ◌∷◌, ◌++◌, ℕ, List, drop, map, length};
+ghost use Rattle.std.specs.Prelude.{get_or, set, true, false, None, Some, IfOk};
+ghost use Rattle.std.specs.List.{range_with_len};
 ghost use Rattle.dp_spec.specs.Front.{AgentFront};
-ghost use Rattle.dp_spec.specs.Steps.{root_agent, all_chosen, advanced_agent};
+ghost use Rattle.dp_spec.specs.Steps.{all_chosen, advanced_agent};
 ghost use Rattle.dp_spec.specs.Merge.{merged_agent, renumbered, kept_class};
 ghost use Rattle.dp_spec.specs.FullPolicy.{tree_doing, tree_doing_after};
+ghost use Rattle.dp_spec.specs.SharedPolicy.{AgentRows, AreAgentRows, next_count, unfolded_tree};
 ghost use Rattle.dp_policy.specs.TreeValue.{policy_tree};
-ghost use Rattle.dp_cluster.specs.AgentParts.{AreMergedStages, ArePastStages, IsReached, action_after, class_after,
-    class_led_to};
+ghost use Rattle.dp_cluster.specs.AgentParts.{AreMergedStages, ArePastStages, HasMembers, HaveNoLinks, IsReached};
+ghost use Rattle.dp_cluster.specs.AgentParts.{action_after, class_after};
+ghost use Rattle.dp_cluster.specs.AgentParts.{class_led_to, root_part};
+ghost use Rattle.dp_cluster.specs.FullRows.{rows_before, stage_rows};
+ghost use Rattle.dp_cluster.specs.Keys.{HasOwnNumbers, HasSharedClass};
+ghost use Rattle.dp_cluster.specs.PastClasses.{HasRowEachClass, classes_of, no_classes};
 
 use crate::shared::shared;
 use dp_base::Memory;
-use dp_policy::PTree;
+use dp_model::Sequence;
+use dp_policy::{PTree, Row};
 use std::alloc::Global;
 use std::rc::Rc;
 
@@ -38,13 +45,14 @@ pub(crate) struct AgentPart {
 
 impl std::marker::Model for AgentPart {
     ghost use Rattle.std.specs.Prelude.{map};
-    ghost use Rattle.dp_cluster.specs.AgentParts.{OwnPart, part_of, ArePastStages};
+    ghost use Rattle.dp_cluster.specs.AgentParts.{OwnPart, part_of, past_classes, ArePastStages};
 
     ghost Value = { OwnPart };
 
     ghost view = { λ p. record {
       observations = p.observations;
       front = part_of p.observations (map (λ s. s.value) p.past.items) p.classes p.chosen.items;
+      past = past_classes p.observations (map (λ s. s.value) p.past.items);
     } };
 
     ghost invariant = { λ p. ArePastStages p.observations (map (λ s. s.value) p.past.items) };
@@ -53,7 +61,7 @@ impl std::marker::Model for AgentPart {
 impl AgentPart {
     // The part of the root front: one class, which holds the empty history.
     pub(crate) fn root(alloc: Global, observations: u32) -> AgentPart
-        ensures { result ≡ record { observations = observations; front = root_agent } }
+        ensures { result ≡ root_part observations }
     {
         AgentPart {
             observations,
@@ -128,9 +136,11 @@ impl AgentPart {
     pub(crate) fn advanced(&self, alloc: Global) -> Result<AgentPart, Memory>
         requires classes { (x : ℕ) → x < self.now.observations ^ length self.now.front.fixed →
             get_or self.now.front.class_of x 0 < length self.now.front.chosen }
+        requires members { HasMembers self.now }
         requires room { length self.now.front.chosen * self.now.observations < 2 ^ 32 }
         ensures { IfOk result (λ p. p ≡ record self.now {
           front = advanced_agent self.now.observations (length self.now.front.fixed) self.now.front;
+          past = self.now.past ++ classes_of self.now.front ∷ [];
         }) }
     {
         let mut actions = Vec::new(alloc);
@@ -159,10 +169,53 @@ impl AgentPart {
         tree_after(alloc, self.observations, past, past.len(), 0)
     }
 
+    // The rows of the stages that are fixed, one for each class, in their order.
+    pub(crate) fn rows(&self, alloc: Global) -> Result<Vec<Vec<Row>>, Memory>
+        requires observations { 0 < self.now.observations }
+        requires some { 0 < length self.now.front.fixed }
+        ensures rows { IfOk result (λ v. (b : ℕ) → ((t x : ℕ) → t < length self.now.front.fixed →
+            x < self.now.observations ^ t → get_or (get_or self.now.front.fixed t []) x 0 < b) →
+            AreAgentRows b self.now.observations (length self.now.front.fixed) (map (λ r. r.items) v.items)) }
+        ensures tree { IfOk result (λ v. unfolded_tree (map (λ r. r.items) v.items) 0 ≡
+            tree_doing self.now.observations (λ t x. get_or (get_or self.now.front.fixed t []) x 0)
+            (length self.now.front.fixed)) }
+        ensures classes { IfOk result (λ v. (t : ℕ) → t < length self.now.front.fixed →
+            HasRowEachClass self.now.observations (map (λ r. r.items) v.items) t
+            (get_or self.now.past t no_classes)) }
+    {
+        let past: &[Rc<PastStage>] = &self.past;
+        rows_of(alloc, self.observations, past)
+    }
+
+    // The action that is fixed at a stage for a class that the agent had there.
+    pub(crate) fn fixed(&self, stage: u32, class: u32) -> u32
+        requires stage { stage < length self.now.front.fixed }
+        requires class { (x : ℕ) × (x < self.now.observations ^ stage) ×
+            (get_or (get_or self.now.past stage no_classes).class_of x 0 ≡ class) }
+        ensures { (x : ℕ) → x < self.now.observations ^ stage →
+            get_or (get_or self.now.past stage no_classes).class_of x 0 ≡ class →
+            result ≡ get_or (get_or self.now.front.fixed stage []) x 0 }
+    {
+        let past: &[Rc<PastStage>] = &self.past;
+        let kept = past[past.len() - 1 - stage as usize].as_ref();
+        kept.actions[class as usize]
+    }
+
+    // Whether each own history has its own number for its class: no classes were joined.
+    pub(crate) fn has_own_numbers(&self) -> bool
+        requires { 0 < self.now.observations }
+        ensures yes { result ≡ true → HasOwnNumbers self.now }
+        ensures no { result ≡ false → HasSharedClass self.now }
+    {
+        let past: &[Rc<PastStage>] = &self.past;
+        have_no_links(past)
+    }
+
     // The part after class `second` was joined into class `first`.
     pub(crate) fn merged(&self, alloc: Global, first: u32, second: u32) -> Result<AgentPart, Memory>
         requires order { first < second }
         requires second { second < length self.now.front.chosen }
+        requires members { HasMembers self.now }
         ensures { IfOk result (λ p. p ≡ record self.now { front = merged_agent first second self.now.front }) }
     {
         let mut chosen = Vec::new(alloc);
@@ -200,6 +253,44 @@ impl PastStage {
         } else {
             place
         }
+    }
+
+    // The rows of its classes, which go on after so many observations.
+    fn rows(&self, alloc: Global, observations: u32, nexts: u32) -> Result<Vec<Row>, Memory>
+        requires some { 0 < observations }
+        requires room { length self.now.actions.items * observations < 2 ^ 32 }
+        requires nexts { nexts ≤ observations }
+        ensures { IfOk result (λ v. v.items ≡ stage_rows observations nexts self.now) }
+    {
+        let actions: &[u32] = &self.actions;
+        let mut rows = Vec::new(alloc);
+        for class in 0..actions.len() {
+            let next = self.nexts(alloc, observations, nexts, class as u32)?;
+            rows.push(Row {
+                action: actions[class],
+                next: Sequence::of(next),
+            })?;
+        }
+        Ok(rows)
+    }
+
+    // The classes that a class leads to with each of so many observations.
+    fn nexts(
+        &self,
+        alloc: Global,
+        observations: u32,
+        nexts: u32,
+        class: u32,
+    ) -> Result<Vec<u32>, Memory>
+        requires { class * observations + nexts < 2 ^ 32 }
+        ensures { IfOk result (λ v. v.items ≡
+            map (λ o. class_led_to self.now (class * observations + o)) (range_with_len 0 nexts)) }
+    {
+        let mut next = Vec::new(alloc);
+        for seen in 0..nexts {
+            next.push(self.link(class * observations + seen))?;
+        }
+        Ok(next)
     }
 
     // The stage where class `second` of the next stage was joined into class `first`.
@@ -316,4 +407,45 @@ fn tree_after(
         action: stage.actions[class as usize],
         kids,
     })
+}
+
+// The rows of stages, of which the later ones stand first.
+fn rows_of(
+    alloc: Global,
+    observations: u32,
+    past: &[Rc<PastStage>],
+) -> Result<Vec<Vec<Row>>, Memory>
+    requires some { 0 < observations }
+    requires stages { ArePastStages observations (map (λ s. s.value) past.now) }
+    ensures { IfOk result (λ v. map (λ r. r.items) v.items ≡
+        rows_before observations (map (λ s. s.value) past.now) []) }
+{
+    let mut rows = Vec::new(alloc);
+    for stage in 0..past.len() {
+        let after = past.len() - 1 - stage;
+        let nexts = next_count(after, observations);
+        rows.push(past[after].as_ref().rows(alloc, observations, nexts)?)?;
+    }
+    Ok(rows)
+}
+
+// After how many observations a row goes on where so many stages follow its own.
+fn next_count(after: usize, observations: u32) -> u32
+    ensures count { (stages : AgentRows) → length stages ≡ after → result ≡ next_count observations stages }
+    ensures limit { result ≤ observations }
+{
+    if after == 0 { 0 } else { observations }
+}
+
+// Whether no stage has links.
+fn have_no_links(past: &[Rc<PastStage>]) -> bool
+    ensures yes { result ≡ true → HaveNoLinks (map (λ s. s.value) past.now) }
+    ensures no { result ≡ false → ¬ HaveNoLinks (map (λ s. s.value) past.now) }
+{
+    for stage in past {
+        if !stage.as_ref().links.is_empty() {
+            return false;
+        }
+    }
+    true
 }

@@ -5,8 +5,8 @@ ghost use Rattle.dp_base.specs.Sums.{nat_sum};
 ghost use Rattle.dp_spec.specs.Front.{class_counts};
 ghost use Rattle.dp_spec.specs.JointNumbers.{product};
 ghost use Rattle.dp_cluster.specs.OwnPlaces.{ArePlacesOf};
-ghost use Rattle.dp_cluster.specs.OwnWeights.{AreInProportion, AreOwnRuns, IsFirstWithout, low_at, low_end, own_low,
-    own_total};
+ghost use Rattle.dp_cluster.specs.OwnWeights.{AreInProportion, AreOwnRuns, IsFirstWithout, low_at, low_end, own_low};
+ghost use Rattle.dp_cluster.specs.OwnWeights.{own_total};
 
 use crate::Front;
 use crate::fractions::same_fraction;

@@ -1,6 +1,36 @@
 -- Whether actions agree with choices, agent by agent.
-use Rattle.std.proofs.Common.{◌≡◌, ℕ, zero, suc, ◌+◌, ◌*◌, ◌<◌, ◌≤◌, Bool, true, false, cond, ℤ, pos, List, [], ◌∷◌,
-    filter, length, get_or, drop, take, Option, None, add-one, refl, sym, ap, ◌∙◌, arith}
+use Rattle.std.proofs.Common.{
+  ◌≡◌,
+  ℕ,
+  zero,
+  suc,
+  ◌+◌,
+  ◌*◌,
+  ◌<◌,
+  ◌≤◌,
+  Bool,
+  true,
+  false,
+  cond,
+  ℤ,
+  pos,
+  List,
+  [],
+  ◌∷◌,
+  filter,
+  length,
+  get_or,
+  drop,
+  take,
+  Option,
+  None,
+  add-one,
+  refl,
+  sym,
+  ap,
+  ◌∙◌,
+  arith,
+}
 use Rattle.std.specs.Prelude.{◌&&◌, ◌||◌}
 use Rattle.std.specs.Int.{int_max}
 use Rattle.dp_base.specs.Sums.{greatest, numbers_below}

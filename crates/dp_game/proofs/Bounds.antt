@@ -1,6 +1,30 @@
 -- The bound of a game is that of its front, and its parts are small.
-use Rattle.std.proofs.Common.{◌≡◌, ℕ, suc, ◌+◌, ◌-◌, ◌*◌, ◌^◌, ◌<◌, ◌≤◌, ℤ, pos, ◌+ℤ◌, ◌*ℤ◌, ◌≤ℤ◌, unsigned_abs, List,
-    length, get_or, refl, sym, ap, ◌∙◌, subst, arith}
+use Rattle.std.proofs.Common.{
+  ◌≡◌,
+  ℕ,
+  suc,
+  ◌+◌,
+  ◌-◌,
+  ◌*◌,
+  ◌^◌,
+  ◌<◌,
+  ◌≤◌,
+  ℤ,
+  pos,
+  ◌+ℤ◌,
+  ◌*ℤ◌,
+  ◌≤ℤ◌,
+  unsigned_abs,
+  List,
+  length,
+  get_or,
+  refl,
+  sym,
+  ap,
+  ◌∙◌,
+  subst,
+  arith,
+}
 use Rattle.dp_base.specs.Sums.{greatest, int_sum, nat_sum}
 use Rattle.dp_base.proofs.GreatestValues.{greatest_ext}
 use Rattle.dp_base.proofs.NaturalSumLaws.{nat_sum_ext}
@@ -24,8 +48,18 @@ use Rattle.dp_cluster.proofs.AdvancedParts.{factor_le, some_class}
 use Rattle.dp_cluster.proofs.ChosenActions.{agents_of}
 use Rattle.dp_cluster.proofs.FrontParts.{count_most}
 use Rattle.dp_game.specs.Kept.{IsOfSomeFront}
-use Rattle.dp_game.specs.Games.{BoundsKeepers, IsGameOf, KeptGame, allowed_actions, best_entry, choices_in, entry,
-    game_bound, joint_classes, own_counts}
+use Rattle.dp_game.specs.Games.{
+  BoundsKeepers,
+  IsGameOf,
+  KeptGame,
+  allowed_actions,
+  best_entry,
+  choices_in,
+  entry,
+  game_bound,
+  joint_classes,
+  own_counts,
+}
 use Rattle.dp_game.proofs.OwnChoices.{agreeing_are_allowed, as_many_choices, counts_of}
 
 module _ (m : Model) (h look : ℕ) (F : Front) (g : KeptGame) (is : IsGameOf m h look F g) where

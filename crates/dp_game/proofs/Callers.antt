@@ -1,13 +1,35 @@
 -- What a caller that knows the front of a game has to show for a choice.
-use Rattle.std.proofs.Common.{◌≡◌, ◌<◌, inl, inr, ℕ, zero, suc, List, [], ◌∷◌, length, get_or, Option, None, Some,
-    sym, ◌∙◌, subst, arith}
+use Rattle.std.proofs.Common.{
+  ◌≡◌,
+  ◌<◌,
+  inl,
+  inr,
+  ℕ,
+  zero,
+  suc,
+  List,
+  [],
+  ◌∷◌,
+  length,
+  get_or,
+  Option,
+  None,
+  Some,
+  sym,
+  ◌∙◌,
+  subst,
+  arith,
+}
 use Rattle.std.proofs.lemmas.Bool.{cases_lt}
 use Rattle.std.proofs.lemmas.List.{get_or_past}
 use Rattle.dp_spec.specs.Front.{AgentFront, Front}
 use Rattle.dp_spec.specs.Model.{Model}
 use Rattle.dp_spec.specs.Steps.{HasAction, IsUnassigned}
-use Rattle.dp_game.specs.Games.{IsGameOf, KeptGame}
-use Rattle.dp_game.proofs.OwnChoices.{choices_of}
+use Rattle.dp_spec.specs.WellFormed.{AreAgentFronts}
+use Rattle.dp_spec.specs.WellFormed.AreAgentFronts.{and_agent, no_agents}
+use Rattle.dp_game.specs.Games.{IsGameOf, KeptGame, own_choice}
+use Rattle.dp_game.specs.Kept.{IsOfSomeFront}
+use Rattle.dp_game.proofs.OwnChoices.{assigned_of, choices_of}
 
 -- the agent and the class exist, and the class has this choice
 pub record HasChoice (oss : List (List (Option ℕ))) (i c : ℕ) (o : Option ℕ) : Type 0 where
@@ -50,3 +72,22 @@ module _ (m : Model) (h look : ℕ) (F : Front) (g : KeptGame) (is : IsGameOf m 
   -- an action of the agent
   pub action_in_game : (a : ℕ) → a < get_or m.actions i 0 → a < get_or g.actions i 0
   action_in_game a lt = subst (λ (l : List ℕ). a < get_or l i 0) (sym is.actions) lt
+
+-- ---- what a game says of a choice
+
+-- a chosen action is one of its agent
+own_below : {f : ℕ} {bs ns : List ℕ} {ds : List AgentFront} → AreAgentFronts f bs ns ds → (i c a : ℕ)
+    → HasAction i c a ds → a < get_or bs i 0
+own_below no_agents i c a has = absurd has
+own_below (and_agent {d = d} k ks) zero c a has = k.chosen_below c a (inside d.chosen c a has) has
+own_below (and_agent k ks) (suc i) c a has = own_below ks i c a has
+
+pub choice_below : (g : KeptGame) (i c a : ℕ) → IsOfSomeFront g → i < length g.choices
+    → own_choice g i c ≡ Some a → a < get_or g.actions i 0
+choice_below g i c a o lt e =
+    let is = o.4 in
+    let F = o.3 in
+    let within : i < length (choices_of F.agents) = subst (λ oss. i < length oss) is.choices lt in
+    let at = subst (λ oss. get_or (get_or oss i []) c None ≡ Some a) is.choices e in
+    subst (λ (l : List ℕ). a < get_or l i 0) (sym is.actions)
+    (own_below is.front.agents i c a (assigned_of i c a F.agents within at))

@@ -1,17 +1,60 @@
 -- What is kept for joint classes where the choice for a class changes.
-use Rattle.std.proofs.Common.{◌≡◌, ◌≢◌, inl, inr, ℕ, suc, ◌+◌, ◌*◌, ◌<◌, ◌≤◌, ℤ, pos, List, [], length, get_or, set,
-    drop, take, Option, None, sym, ap, ◌∙◌, subst, arith}
+use Rattle.std.proofs.Common.{
+  ◌≡◌,
+  ◌≢◌,
+  inl,
+  inr,
+  ℕ,
+  suc,
+  ◌+◌,
+  ◌*◌,
+  ◌<◌,
+  ◌≤◌,
+  ℤ,
+  pos,
+  List,
+  [],
+  length,
+  get_or,
+  set,
+  drop,
+  take,
+  Option,
+  None,
+  sym,
+  ap,
+  ◌∙◌,
+  subst,
+  arith,
+}
 use Rattle.std.proofs.Math.Nat.{mul-le-mul, suc-mul}
 use Rattle.std.proofs.lemmas.Bool.{cases_eq, cases_lt}
-use Rattle.std.proofs.lemmas.List.{ext_get_or, get_or-drop, get_or-map, get_or-set_other, get_or-set_same,
-    get_or-take, length-drop, length-set, length-take-le}
+use Rattle.std.proofs.lemmas.List.{
+  ext_get_or,
+  get_or-drop,
+  get_or-map,
+  get_or-set_other,
+  get_or-set_same,
+  get_or-take,
+  length-drop,
+  length-set,
+  length-take-le,
+}
 use Rattle.dp_base.specs.Sums.{greatest}
 use Rattle.dp_spec.specs.JointNumbers.{parts_of, product}
 use Rattle.dp_spec.specs.Merge.{placed_number, without}
 use Rattle.dp_spec.proofs.JointNumberLaws.{length-parts_of, row_below, same_parts}
 use Rattle.dp_laws.proofs.JointPlaces.{placed_injective}
-use Rattle.dp_game.specs.Games.{KeptGame, allowed_actions, best_entry, choices_for, choices_in, entry, own_counts,
-    with_own_choice}
+use Rattle.dp_game.specs.Games.{
+  KeptGame,
+  allowed_actions,
+  best_entry,
+  choices_for,
+  choices_in,
+  entry,
+  own_counts,
+  with_own_choice,
+}
 use Rattle.dp_game.specs.Kept.{IsKeptAt, greatest_in}
 use Rattle.dp_game.proofs.OwnChoices.{as_many_own, choices_for_at, counts_kept, length-choices_for}
 use Rattle.dp_game.proofs.ClassPlaces.{others, part_there, place, place_in, placed}

@@ -1,21 +1,54 @@
 -- The game of a front after a choice is made or taken back.
-use Rattle.std.proofs.Common.{◌≡◌, ℕ, ◌-◌, ◌*◌, ◌<◌, cond, eqb, pos, List, [], length, get_or, set, Option, None,
-    Some, refl, sym, ap, ◌∙◌, subst, arith}
+use Rattle.std.proofs.Common.{
+  ◌≡◌,
+  ℕ,
+  ◌-◌,
+  ◌*◌,
+  ◌<◌,
+  cond,
+  eqb,
+  pos,
+  List,
+  [],
+  length,
+  get_or,
+  set,
+  Option,
+  None,
+  Some,
+  refl,
+  sym,
+  ap,
+  ◌∙◌,
+  subst,
+  arith,
+}
 use Rattle.dp_spec.specs.Arithmetic.{Arithmetic, arithmetic, point}
 use Rattle.dp_spec.specs.Front.{Front, class_counts, fixed_joint_action}
 use Rattle.dp_spec.specs.JointNumbers.{product}
 use Rattle.dp_spec.specs.Mode.{is_exact_mode}
 use Rattle.dp_spec.specs.Model.{Model, joint_actions, joint_observations}
-use Rattle.dp_spec.specs.Quantities.{action_look_ahead_in, class_weight_in, earned_reward_in, history_weight_in,
-    span_history_sum}
+use Rattle.dp_spec.specs.Quantities.{
+  action_look_ahead_in,
+  class_weight_in,
+  earned_reward_in,
+  history_weight_in,
+  span_history_sum,
+}
 use Rattle.dp_spec.specs.Steps.{HasAction, chosen_front, unchosen_front}
 use Rattle.dp_spec.specs.WellFormed.{IsFront}
 use Rattle.dp_laws.proofs.ChoicesTakenBack.{unchoosing_undone, unchosen_is_front}
 use Rattle.dp_laws.proofs.ChosenFronts.{actions_chosen, counts_chosen, joint_class_chosen}
 use Rattle.dp_laws.proofs.WellFormedSteps.{chosen_is_front}
 use Rattle.dp_game.specs.Games.{IsGameOf, KeptGame, own_choice, with_own_choice}
-use Rattle.dp_game.proofs.OwnChoices.{as_many_choices, assigned_of, choices_made, choices_of, choices_taken,
-    unassigned_of}
+use Rattle.dp_game.proofs.OwnChoices.{
+  as_many_choices,
+  assigned_of,
+  choices_made,
+  choices_of,
+  choices_taken,
+  unassigned_of,
+}
 
 -- two fronts of one stage have as many classes, weigh alike and have earned the same
 record AreAlike (A : Arithmetic) (m : Model) (h : ℕ) (F G : Front) : Type 0 where

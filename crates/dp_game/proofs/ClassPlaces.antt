@@ -1,6 +1,41 @@
 -- The joint classes that hold a class of an agent.
-use Rattle.std.proofs.Common.{◌≡◌, ◌≢◌, ℕ, zero, suc, ◌+◌, ◌*◌, ◌/◌, ◌%◌, ◌<◌, ◌≤◌, Bool, true, false, cond, eqb, inl,
-    inr, ℤ, pos, ◌+ℤ◌, ◌-ℤ◌, unsigned_abs, List, [], ◌∷◌, length, get_or, drop, take, refl, sym, ap, ◌∙◌, arith}
+use Rattle.std.proofs.Common.{
+  ◌≡◌,
+  ◌≢◌,
+  ℕ,
+  zero,
+  suc,
+  ◌+◌,
+  ◌*◌,
+  ◌/◌,
+  ◌%◌,
+  ◌<◌,
+  ◌≤◌,
+  Bool,
+  true,
+  false,
+  cond,
+  eqb,
+  inl,
+  inr,
+  ℤ,
+  pos,
+  ◌+ℤ◌,
+  ◌-ℤ◌,
+  unsigned_abs,
+  List,
+  [],
+  ◌∷◌,
+  length,
+  get_or,
+  drop,
+  take,
+  refl,
+  sym,
+  ap,
+  ◌∙◌,
+  arith,
+}
 use Rattle.std.proofs.lemmas.Int.{ints}
 use Rattle.std.proofs.lemmas.Bool.{cases_eq}
 use Rattle.std.proofs.lemmas.Bool.Decides.{nat_tests}
@@ -10,10 +45,23 @@ use Rattle.dp_base.proofs.NaturalSumLaws.{nat_sum_at, nat_sum_le}
 use Rattle.dp_base.proofs.Sums.{int_sum_ext, int_sum_out}
 use Rattle.dp_spec.specs.JointNumbers.{joint_number, parts_of, product}
 use Rattle.dp_spec.specs.Merge.{placed_number, without}
-use Rattle.dp_spec.proofs.JointNumberLaws.{below_at, joint_number-parts_of, joint_number_below, length-parts_of,
-    part_below, parts_below, positive_right}
-use Rattle.dp_laws.proofs.JointPlaces.{below_inserted, below_others, get_or-inserted, int_sum_placed, joint_is_placed,
-    parts-placed}
+use Rattle.dp_spec.proofs.JointNumberLaws.{
+  below_at,
+  joint_number-parts_of,
+  joint_number_below,
+  length-parts_of,
+  part_below,
+  parts_below,
+  positive_right,
+}
+use Rattle.dp_laws.proofs.JointPlaces.{
+  below_inserted,
+  below_others,
+  get_or-inserted,
+  int_sum_placed,
+  joint_is_placed,
+  parts-placed,
+}
 use Rattle.dp_laws.proofs.MergedSpans.{placed_at, product_split, product_without}
 use Rattle.dp_laws.proofs.SizeSums.{int_sum_abs, int_sum_part}
 

@@ -1,6 +1,38 @@
 -- The game that is made of a front.
-use Rattle.std.proofs.Common.{◌≡◌, ℕ, zero, suc, ◌+◌, ◌-◌, ◌*◌, ◌^◌, ◌<◌, ◌≤◌, true, false, eqb, ℤ, pos, ◌+ℤ◌,
-    unsigned_abs, List, map, length, get_or, drop, take, Option, None, Some, inl, inr, sym, ap, ◌∙◌, arith}
+use Rattle.std.proofs.Common.{
+  ◌≡◌,
+  ℕ,
+  zero,
+  suc,
+  ◌+◌,
+  ◌-◌,
+  ◌*◌,
+  ◌^◌,
+  ◌<◌,
+  ◌≤◌,
+  true,
+  false,
+  eqb,
+  ℤ,
+  pos,
+  ◌+ℤ◌,
+  unsigned_abs,
+  List,
+  map,
+  length,
+  get_or,
+  drop,
+  take,
+  Option,
+  None,
+  Some,
+  inl,
+  inr,
+  sym,
+  ap,
+  ◌∙◌,
+  arith,
+}
 use Rattle.std.specs.Prelude.{nat_le, ◌||◌}
 use Rattle.std.specs.List.{range_with_len}
 use Rattle.std.proofs.lemmas.Bool.{and_parts, cases_lt}
@@ -27,8 +59,15 @@ use Rattle.dp_cluster.proofs.ChosenActions.{agents_of}
 use Rattle.dp_cluster.proofs.FrontParts.{count_most}
 use Rattle.dp_cluster.proofs.OwnParts.{made_at}
 use Rattle.dp_game.specs.Bounders.{IsBounderOf, KeptBounder}
-use Rattle.dp_game.specs.Games.{IsGameOf, KeptGame, allowed_actions, best_entry, choices_in, joint_classes,
-    own_counts}
+use Rattle.dp_game.specs.Games.{
+  IsGameOf,
+  KeptGame,
+  allowed_actions,
+  best_entry,
+  choices_in,
+  joint_classes,
+  own_counts,
+}
 use Rattle.dp_game.specs.Kept.{IsKept, IsOfSomeFront, game_with, greatest_in, look_ahead_row, rows_of}
 use Rattle.dp_game.proofs.Bounds.{agents_are, all_small, few_classes, some_classes}
 use Rattle.dp_game.proofs.Changes.{row_is}

@@ -1,8 +1,37 @@
 -- Rows of equal length, one after the other.
-use Rattle.std.proofs.Common.{◌≡◌, inl, inr, ℕ, zero, suc, ◌+◌, ◌*◌, ◌<◌, ◌++◌, List, [], ◌∷◌, ◌≤◌, length, take,
-    get_or, append_assoc, refl, sym, ap, ◌∙◌, arith}
-use Rattle.std.proofs.lemmas.List.{get_or_append_left, get_or-append-add, append-nil, length-append, take_all,
-    take_more}
+use Rattle.std.proofs.Common.{
+  ◌≡◌,
+  inl,
+  inr,
+  ℕ,
+  zero,
+  suc,
+  ◌+◌,
+  ◌*◌,
+  ◌<◌,
+  ◌++◌,
+  List,
+  [],
+  ◌∷◌,
+  ◌≤◌,
+  length,
+  take,
+  get_or,
+  append_assoc,
+  refl,
+  sym,
+  ap,
+  ◌∙◌,
+  arith,
+}
+use Rattle.std.proofs.lemmas.List.{
+  get_or_append_left,
+  get_or-append-add,
+  append-nil,
+  length-append,
+  take_all,
+  take_more,
+}
 use Rattle.dp_base.proofs.Order.{last_or_before}
 use Rattle.dp_spec.proofs.JointNumberLaws.{row_below}
 use Rattle.dp_game.specs.Kept.{rows_of}

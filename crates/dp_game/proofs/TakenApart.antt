@@ -1,13 +1,45 @@
 -- A joint class taken apart, agent by agent.
-use Rattle.std.proofs.Common.{◌≡◌, ℕ, zero, suc, ◌+◌, ◌*◌, ◌/◌, ◌%◌, ◌^◌, ◌<◌, ◌≤◌, List, [], ◌∷◌, length, get_or,
-    drop, Option, None, add-one, refl, sym, ap, ◌∙◌, subst, arith}
+use Rattle.std.proofs.Common.{
+  ◌≡◌,
+  ℕ,
+  zero,
+  suc,
+  ◌+◌,
+  ◌*◌,
+  ◌/◌,
+  ◌%◌,
+  ◌^◌,
+  ◌<◌,
+  ◌≤◌,
+  List,
+  [],
+  ◌∷◌,
+  length,
+  get_or,
+  drop,
+  Option,
+  None,
+  add-one,
+  refl,
+  sym,
+  ap,
+  ◌∙◌,
+  subst,
+  arith,
+}
 use Rattle.std.proofs.Math.Seq.{drop-cons}
 use Rattle.std.proofs.Math.Nat.{mul_assoc}
 use Rattle.std.proofs.lemmas.List.{get_or-map, length-map}
 use Rattle.std.proofs.lemmas.Nat.{mod_below}
 use Rattle.dp_spec.specs.JointNumbers.{parts_of, product}
-use Rattle.dp_spec.proofs.JointNumberLaws.{part_below, positive_left, positive_right, product-drop,
-    product-drop_above, product-drop_le}
+use Rattle.dp_spec.proofs.JointNumberLaws.{
+  part_below,
+  positive_left,
+  positive_right,
+  product-drop,
+  product-drop_above,
+  product-drop_le,
+}
 use Rattle.dp_cluster.proofs.Pairs.{divided, most}
 use Rattle.dp_game.specs.Games.{choices_for, own_counts}
 

@@ -1,6 +1,36 @@
 -- The walk over the joint classes that hold a class whose choice changes, and the bound after it.
-use Rattle.std.proofs.Common.{◌≡◌, ℕ, suc, ◌+◌, ◌*◌, ◌/◌, ◌%◌, ◌^◌, ◌<◌, ◌≤◌, ℤ, pos, ◌+ℤ◌, ◌-ℤ◌, unsigned_abs, List,
-    [], ◌++◌, length, get_or, set, drop, take, Option, add-one, sym, ap, ◌∙◌, subst, arith}
+use Rattle.std.proofs.Common.{
+  ◌≡◌,
+  ℕ,
+  suc,
+  ◌+◌,
+  ◌*◌,
+  ◌/◌,
+  ◌%◌,
+  ◌^◌,
+  ◌<◌,
+  ◌≤◌,
+  ℤ,
+  pos,
+  ◌+ℤ◌,
+  ◌-ℤ◌,
+  unsigned_abs,
+  List,
+  [],
+  ◌++◌,
+  length,
+  get_or,
+  set,
+  drop,
+  take,
+  Option,
+  add-one,
+  sym,
+  ap,
+  ◌∙◌,
+  subst,
+  arith,
+}
 use Rattle.std.proofs.Math.Nat.{mul-le-mul, mul_comm, suc-mul}
 use Rattle.std.proofs.lemmas.List.{length-set, take-append-le, take_all}
 use Rattle.dp_base.specs.Sums.{int_sum, nat_sum}
@@ -13,8 +43,20 @@ use Rattle.dp_game.specs.Games.{KeptGame, best_entry, game_bound, joint_classes,
 use Rattle.dp_game.specs.Kept.{IsKept, IsKeptAt, IsOfSomeFront, game_with, greatest_in}
 use Rattle.dp_game.proofs.Bounds.{all_small, bound_size, classes_few, classes_some, long_table, same_agents}
 use Rattle.dp_game.proofs.Changes.{IsChanging, best_elsewhere, changing_on, class_in, hi', same_counts}
-use Rattle.dp_game.proofs.ClassPlaces.{as_many_places, class_sum, less_is, moved_is, other_sum, other_sum_kept,
-    other_sum_small, part_small, part_there, place_in, place_is, sum_splits}
+use Rattle.dp_game.proofs.ClassPlaces.{
+  as_many_places,
+  class_sum,
+  less_is,
+  moved_is,
+  other_sum,
+  other_sum_kept,
+  other_sum_small,
+  part_small,
+  part_there,
+  place_in,
+  place_is,
+  sum_splits,
+}
 
 pub row_room : (J N w : ℕ) → J < N → J * w + w ≤ N * w
 row_room J N w lt =

@@ -1,7 +1,34 @@
 -- The game of a front, as contracts see it: what each joint class can earn by each joint action, and the actions
 -- that are chosen for the classes so far. (A collaborative Bayesian game: Oliehoek and Amato, chapter 5.)
-use Rattle.std.specs.Prelude.{ℕ, ◌+◌, ◌*◌, ◌-◌, ◌^◌, ◌<◌, ◌≤◌, ◌≡◌, Bool, true, false, ◌&&◌, ℤ, pos, ◌+ℤ◌, ◌*ℤ◌, ◌≤ℤ◌,
-    List, [], ◌∷◌, filter, map, length, get_or, set, Option, None}
+use Rattle.std.specs.Prelude.{
+  ℕ,
+  ◌+◌,
+  ◌*◌,
+  ◌-◌,
+  ◌^◌,
+  ◌<◌,
+  ◌≤◌,
+  ◌≡◌,
+  Bool,
+  true,
+  false,
+  ◌&&◌,
+  ℤ,
+  pos,
+  ◌+ℤ◌,
+  ◌*ℤ◌,
+  ◌≤ℤ◌,
+  List,
+  [],
+  ◌∷◌,
+  filter,
+  map,
+  length,
+  get_or,
+  set,
+  Option,
+  None,
+}
 use Rattle.dp_base.specs.Sums.{greatest, int_sum, numbers_below}
 use Rattle.dp_spec.specs.Arithmetic.{arithmetic}
 use Rattle.dp_spec.specs.Bound.{agrees}

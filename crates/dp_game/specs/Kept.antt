@@ -1,6 +1,29 @@
 -- What a game keeps besides what contracts see of it.
-use Rattle.std.specs.Prelude.{ℕ, zero, suc, ◌+◌, ◌*◌, ◌-◌, ◌^◌, ◌<◌, ◌≤◌, ◌≡◌, false, ℤ, pos, List, [], ◌++◌, map,
-    length, get_or, drop, take, Option, None}
+use Rattle.std.specs.Prelude.{
+  ℕ,
+  zero,
+  suc,
+  ◌+◌,
+  ◌*◌,
+  ◌-◌,
+  ◌^◌,
+  ◌<◌,
+  ◌≤◌,
+  ◌≡◌,
+  false,
+  ℤ,
+  pos,
+  List,
+  [],
+  ◌++◌,
+  map,
+  length,
+  get_or,
+  drop,
+  take,
+  Option,
+  None,
+}
 use Rattle.std.specs.List.{range_with_len}
 use Rattle.dp_base.specs.Sums.{greatest}
 use Rattle.dp_spec.specs.Arithmetic.{Arithmetic, arithmetic}
@@ -10,8 +33,15 @@ use Rattle.dp_spec.specs.Model.{Model, joint_actions, joint_observations}
 use Rattle.dp_spec.specs.Quantities.{action_look_ahead_in, class_weight_in}
 use Rattle.dp_cluster.specs.KeptFronts.{KeptFront}
 use Rattle.dp_game.specs.Bounders.{KeptBounder}
-use Rattle.dp_game.specs.Games.{IsGameOf, KeptGame, allowed_actions, best_entry, choices_in, game_bound,
-    joint_classes}
+use Rattle.dp_game.specs.Games.{
+  IsGameOf,
+  KeptGame,
+  allowed_actions,
+  best_entry,
+  choices_in,
+  game_bound,
+  joint_classes,
+}
 
 -- rows f 0 to f (n - 1), one after the other
 abbrev pub rows_of : {X : Type 0} → (ℕ → List X) → ℕ → List X

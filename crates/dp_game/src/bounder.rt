@@ -1,11 +1,13 @@
 //! What bounds the fronts of a model.
 ghost use Rattle.std.specs.Prelude.{◌≡◌, ◌<◌, ◌≤◌, IfOk};
 ghost use Rattle.dp_spec.specs.Mode.{IsTrueFit};
+ghost use Rattle.dp_pomdp.specs.Rooms.{IsRoomFor};
 ghost use Rattle.dp_game.specs.Bounders.{IsBounderOf};
 
 use dp_base::Memory;
 use dp_mdp::MdpTable;
 use dp_model::{Fit, Model};
+use dp_pomdp::LookRoom;
 use std::alloc::Global;
 
 /// What the bounds of all fronts of a model and a horizon share: the look, and the table of the
@@ -43,6 +45,16 @@ impl Bounder {
     {
         let table = MdpTable::build(alloc, model, fit)?;
         Ok(Bounder { fit, look, table })
+    }
+
+    /// Room to look ahead for games of this bounder. It keeps what was looked ahead before, so it is best
+    /// made once for many games. The only error is want of memory.
+    pub fn room(&self, alloc: Global, model: &Model) -> Result<LookRoom, Memory>
+        requires of_model { IsBounderOf model.now.model self.now }
+        ensures { IfOk result (IsRoomFor self.now.is_exact model.now.model self.now.look) }
+    {
+        let room = LookRoom::new(alloc, model, self.look())?;
+        Ok(room)
     }
 
     // The fit.

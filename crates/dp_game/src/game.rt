@@ -1,5 +1,6 @@
 //! The game of a front.
-ghost use Rattle.std.specs.Prelude.{◌≡◌, ◌<◌, ◌-◌, ℕ, true, [], Some, None, length, get_or, slice_index, IfOk};
+ghost use Rattle.std.specs.Prelude.{◌≡◌, ◌<◌, ◌-◌, ℕ, true, [], Some, None, length, get_or, slice_index, IfOk,
+    IfSome};
 ghost use Rattle.dp_spec.specs.Arithmetic.{arithmetic};
 ghost use Rattle.dp_spec.specs.Fitting.{front_bound};
 ghost use Rattle.dp_spec.specs.Front.{Front as PlainFront};
@@ -8,6 +9,7 @@ ghost use Rattle.dp_spec.specs.Model.{Model as PlainModel};
 ghost use Rattle.dp_spec.specs.Steps.{chosen_front, unchosen_front};
 ghost use Rattle.dp_spec.specs.Wide.{has_room};
 ghost use Rattle.dp_cluster.specs.KeptFronts.{IsFrontOf};
+ghost use Rattle.dp_pomdp.specs.Rooms.{IsRoomFor};
 ghost use Rattle.dp_game.specs.Bounders.{IsBounderOf};
 ghost use Rattle.dp_game.specs.Games.{BoundsKeepers, IsGameOf, game_bound, own_choice, with_own_choice};
 ghost use Rattle.dp_game.specs.Kept.{IsOfSomeFront};
@@ -21,6 +23,7 @@ use crate::table::look_ahead_table;
 use dp_base::Memory;
 use dp_cluster::Front;
 use dp_model::Model;
+use dp_pomdp::LookRoom;
 use std::alloc::Global;
 
 /// The game of a front (a collaborative Bayesian game: Oliehoek and Amato, A Concise Introduction to
@@ -73,10 +76,34 @@ impl Game {
         ensures sound { IfOk result (λ g. BoundsKeepers model.now.model front.now.horizon front.now.front
             (game_bound g)) }
     {
+        let mut room = bounder.room(alloc, model)?;
+        Game::with_room(alloc, model, front, bounder, &mut room)
+    }
+
+    /// The same with room to look ahead of the bounder's. What the room keeps of earlier games is not
+    /// looked ahead again.
+    pub fn with_room(
+        alloc: Global,
+        model: &Model,
+        front: &Front,
+        bounder: &Bounder,
+        room: &mut LookRoom,
+    ) -> Result<Game, Memory>
+        requires of_model { IsFrontOf model.now.model front.now }
+        requires bounder { IsBounderOf model.now.model bounder.now }
+        requires horizon { front.now.horizon ≡ bounder.now.horizon }
+        requires stage { front.now.front.stage < front.now.horizon }
+        requires room { has_room model.now.model front.now.horizon front.now.front ≡ true }
+        requires look_room { IsRoomFor bounder.now.is_exact model.now.model bounder.now.look room.old }
+        ensures is { IfOk result (IsGameOf model.now.model front.now.horizon bounder.now.look front.now.front) }
+        ensures sound { IfOk result (λ g. BoundsKeepers model.now.model front.now.horizon front.now.front
+            (game_bound g)) }
+        ensures look_room { IsRoomFor bounder.now.is_exact model.now.model bounder.now.look room.new }
+    {
         let actions = JointActions::of(alloc, model)?;
         let choices = choices_of(alloc, front, model.agents())?;
         let count = joint_count(&choices);
-        let table = look_ahead_table(alloc, model, front, bounder, &choices, count)?;
+        let table = look_ahead_table(alloc, model, front, bounder, &choices, count, room)?;
         let wanted = wanted_choices(alloc, &choices, count)?;
         let greatest = greatest_entries(alloc, &actions, &table, &wanted, count)?;
         let earned = front.earned().high;
@@ -102,6 +129,22 @@ impl Game {
             result ≡ front_bound (arithmetic (is_exact_mode m h) m.scales) m h look F }
     {
         self.bound
+    }
+
+    /// The action that is chosen for a class, or none.
+    #[inline]
+    pub fn choice(&self, agent: u32, class: u32) -> Option<u32>
+        requires agent { agent < length self.now.choices }
+        requires class { class < length (get_or self.now.choices agent []) }
+        ensures is { result ≡ own_choice self.now agent class }
+        ensures action { IfSome result (λ a. a < slice_index self.now.actions agent) }
+    {
+        self.invariant();
+        let own = &self.choices[agent as usize];
+        match own.at(class as usize) {
+            None => None,
+            Some(action) => Some(u32::from(action)),
+        }
     }
 
     /// Chooses an action for a class that has none. It takes no memory.

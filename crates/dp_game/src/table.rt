@@ -1,5 +1,5 @@
 // What each joint class of a front can earn by each joint action.
-ghost use Rattle.std.specs.Prelude.{◌≡◌, ◌<◌, ◌≤◌, ◌*◌, ◌-◌, ◌^◌, ◌++◌, true, map, length, IfOk};
+ghost use Rattle.std.specs.Prelude.{◌≡◌, ◌<◌, ◌≤◌, ◌-◌, ◌^◌, ◌++◌, map, length, IfOk};
 ghost use Rattle.std.specs.List.{range_with_len};
 ghost use Rattle.dp_spec.specs.Arithmetic.{arithmetic};
 ghost use Rattle.dp_spec.specs.Front.{AgentFront, class_counts};
@@ -9,7 +9,8 @@ ghost use Rattle.dp_spec.specs.Quantities.{action_look_ahead_in};
 ghost use Rattle.dp_spec.specs.Sizes.{AreWeights};
 ghost use Rattle.dp_model.specs.Parts.{AreParts};
 ghost use Rattle.dp_cluster.specs.KeptFronts.{IsFrontOf, kept_weight};
-ghost use Rattle.dp_pomdp.specs.Looking.{AreZero, weights_of};
+ghost use Rattle.dp_pomdp.specs.Looking.{weights_of};
+ghost use Rattle.dp_pomdp.specs.Rooms.{IsRoomFor};
 ghost use Rattle.dp_game.specs.Bounders.{IsBounderOf};
 ghost use Rattle.dp_game.specs.Kept.{IsWithinCells, class_row, rows_of};
 
@@ -19,16 +20,15 @@ use crate::places::class_parts;
 use dp_base::Memory;
 use dp_cluster::Front;
 use dp_model::Model;
-use dp_pomdp::{LookRoom, all_zero};
+use dp_pomdp::LookRoom;
 use dp_spec::Span;
 use std::alloc::Global;
 
-// What the rows share: the classes and the weights of a joint class, and room to look ahead.
+// What the rows share: the classes and the weights of a joint class.
 #[derive(Drop)]
 struct Scratch {
     classes: Vec<u32>,
     weights: Vec<Span>,
-    room: LookRoom,
 }
 
 // Joint class by joint class, the look-ahead of each joint action, for the choices of the front and its
@@ -40,6 +40,7 @@ pub(crate) fn look_ahead_table(
     bounder: &Bounder,
     choices: &[AgentChoices],
     count: usize,
+    room: &mut LookRoom,
 ) -> Result<Vec<i128>, Memory>
     requires of_model { IsFrontOf model.now.model front.now }
     requires bounder { IsBounderOf model.now.model bounder.now }
@@ -49,12 +50,13 @@ pub(crate) fn look_ahead_table(
     requires choices { choices.now ≡ map (λ (d : AgentFront). d.chosen) front.now.front.agents }
     requires count { count ≡ product (class_counts front.now.front.agents) }
     requires few { count ≤ 2 ^ 24 }
-    ensures { IfOk result (λ v. v.items ≡ rows_of (class_row model.now.model front.now bounder.now) count) }
+    requires room { IsRoomFor bounder.now.is_exact model.now.model bounder.now.look room.old }
+    ensures rows { IfOk result (λ v. v.items ≡ rows_of (class_row model.now.model front.now bounder.now) count) }
+    ensures room { IsRoomFor bounder.now.is_exact model.now.model bounder.now.look room.new }
 {
     let mut scratch = Scratch {
         classes: Vec::new(alloc),
         weights: Vec::new(alloc),
-        room: LookRoom::new(alloc, model, bounder.look())?,
     };
     let mut table = Vec::new(alloc);
     for joint in 0..count {
@@ -66,6 +68,7 @@ pub(crate) fn look_ahead_table(
             count,
             joint,
             &mut scratch,
+            room,
             &mut table,
         )?;
     }
@@ -81,6 +84,7 @@ fn push_class(
     count: usize,
     joint: usize,
     scratch: &mut Scratch,
+    room: &mut LookRoom,
     table: &mut Vec<i128>,
 ) -> Result<(), Memory>
     requires of_model { IsFrontOf model.now.model front.now }
@@ -92,10 +96,10 @@ fn push_class(
     requires count { count ≡ product (class_counts front.now.front.agents) }
     requires few { count ≤ 2 ^ 24 }
     requires joint { joint < count }
-    requires room { bounder.now.look * model.now.model.states ≤ scratch.old.room }
+    requires room { IsRoomFor bounder.now.is_exact model.now.model bounder.now.look room.old }
     ensures row { IfOk result (λ _. table.new.items ≡ table.old.items ++ class_row model.now.model front.now
         bounder.now joint) }
-    ensures room { IfOk result (λ _. scratch.new.room ≡ scratch.old.room) }
+    ensures room { IsRoomFor bounder.now.is_exact model.now.model bounder.now.look room.new }
 {
     class_parts(choices, count, joint, &mut scratch.classes)?;
     fill_weights(
@@ -104,14 +108,7 @@ fn push_class(
         &scratch.classes,
         &mut scratch.weights,
     )?;
-    push_row(
-        model,
-        front.stage(),
-        bounder,
-        &scratch.weights,
-        &mut scratch.room,
-        table,
-    )?;
+    push_row(model, front.stage(), bounder, &scratch.weights, room, table)?;
     Ok(())
 }
 
@@ -136,7 +133,7 @@ fn fill_weights(
     Ok(())
 }
 
-// Adds the row of a joint class with these weights. Where none has a weight nothing is looked ahead.
+// Adds the row of a joint class with these weights.
 fn push_row(
     model: &Model,
     stage: u32,
@@ -149,53 +146,20 @@ fn push_row(
     requires time { stage < bounder.now.horizon }
     requires one_each { length weights.now ≡ model.now.model.states }
     requires weights { AreWeights bounder.now.is_exact model.now.model stage (weights_of weights.now) }
-    requires room { bounder.now.look * model.now.model.states ≤ room.old }
+    requires room { IsRoomFor bounder.now.is_exact model.now.model bounder.now.look room.old }
     ensures row { IfOk result (λ _. table.new.items ≡ table.old.items ++ map
         (λ a. action_look_ahead_in (arithmetic bounder.now.is_exact model.now.model.scales)
         model.now.model (bounder.now.horizon - stage - 1) (weights_of weights.now) a bounder.now.look)
         (range_with_len 0 (joint_actions model.now.model))) }
-    ensures room { room.new ≡ room.old }
+    ensures room { IsRoomFor bounder.now.is_exact model.now.model bounder.now.look room.new }
 {
-    let none = all_zero(weights);
-    for action in 0..model.joint_actions() {
-        table.push(look_ahead(model, stage, bounder, weights, none, action, room))?;
-    }
-    Ok(())
-}
-
-// The look-ahead of a joint action, which is 0 where no state has a weight.
-fn look_ahead(
-    model: &Model,
-    stage: u32,
-    bounder: &Bounder,
-    weights: &[Span],
-    none: bool,
-    action: u32,
-    room: &mut LookRoom,
-) -> i128
-    requires bounder { IsBounderOf model.now.model bounder.now }
-    requires time { stage < bounder.now.horizon }
-    requires one_each { length weights.now ≡ model.now.model.states }
-    requires weights { AreWeights bounder.now.is_exact model.now.model stage (weights_of weights.now) }
-    requires none { none ≡ true → AreZero weights.now }
-    requires action { action < joint_actions model.now.model }
-    requires room { bounder.now.look * model.now.model.states ≤ room.old }
-    ensures is { result ≡ action_look_ahead_in (arithmetic bounder.now.is_exact model.now.model.scales)
-        model.now.model
-        (bounder.now.horizon - stage - 1) (weights_of weights.now) action bounder.now.look }
-    ensures room { room.new ≡ room.old }
-{
-    model.invariant();
-    if none {
-        return 0;
-    }
-    room.action_bound(
+    room.push_row(
         model,
         bounder.fit(),
         bounder.table(),
         weights,
         stage,
-        action,
         bounder.look(),
+        table,
     )
 }

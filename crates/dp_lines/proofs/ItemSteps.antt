@@ -1,6 +1,6 @@
 -- One byte further in an item.
-use Rattle.std.proofs.Common.{◌≡◌, ℕ, suc, ◌+◌, ◌-◌, ◌*◌, ◌<◌, ◌≤◌, min, true, false, ◌&&◌, List, [], ◌∷◌, ◌++◌,
-    length, get_or, take, drop, refl, sym, ap, ◌∙◌, append_assoc, arith, add-one}
+use Rattle.std.proofs.Common.{◌≡◌, ℕ, suc, ◌+◌, ◌-◌, ◌*◌, ◌<◌, ◌≤◌, min, true, false, ◌&&◌, List, [], ◌∷◌, ◌++◌}
+use Rattle.std.proofs.Common.{length, get_or, take, drop, refl, sym, ap, ◌∙◌, append_assoc, arith, add-one}
 use Rattle.std.specs.Char.{is_ascii_digit, digit_value}
 use Rattle.std.specs.Str.{all_ascii_digits}
 use Rattle.std.specs.Str.Parse.{digits_value}
@@ -15,15 +15,21 @@ use Rattle.dp_lines.specs.Lines.{cap}
 -- a byte of an item
 pub item_goes_on : (s : List ℕ) (i : ℕ) → i < length s → is_break (get_or s i 0) ≡ false
     → (item_of (drop i s) ≡ get_or s i 0 ∷ item_of (drop (suc i) s))
-        × (after_item (drop i s) ≡ after_item (drop (suc i) s))
-item_goes_on s i lt on = (ap item_of (drop-cons s i 0 lt) ∙ rw on refl, ap after_item (drop-cons s i 0 lt)
-    ∙ rw on refl)
+    × (after_item (drop i s) ≡ after_item (drop (suc i) s))
+item_goes_on s i lt on = (
+  ap item_of (drop-cons s i 0 lt) ∙ rw on refl,
+  ap after_item (drop-cons s i 0 lt)
+      ∙ rw on refl,
+)
 
 -- the byte after it
 pub item_stops : (s : List ℕ) (i : ℕ) → i < length s → is_break (get_or s i 0) ≡ true
     → (item_of (drop i s) ≡ []) × (after_item (drop i s) ≡ drop i s)
-item_stops s i lt off = (ap item_of (drop-cons s i 0 lt) ∙ rw off refl, ap after_item (drop-cons s i 0 lt)
-    ∙ rw off (sym (drop-cons s i 0 lt)))
+item_stops s i lt off = (
+  ap item_of (drop-cons s i 0 lt) ∙ rw off refl,
+  ap after_item (drop-cons s i 0 lt)
+      ∙ rw off (sym (drop-cons s i 0 lt)),
+)
 
 -- what is known while an item is cut off
 pub record IsCutAt (s : List ℕ) (i : ℕ) : Type 0 where
@@ -65,7 +71,7 @@ magnitude_further value next s i lt digit e is = record {
   value_is =
       e ∙ capped_more (digits_value 10 (take i s)) value (get_or s i 0 - 48) is.value_is
       ∙ ap (λ n. min n cap) (ap (λ d. digits_value 10 (take i s) * 10 + d) (sym (digit_is (get_or s i 0) digit))
-          ∙ sym (digits_value_more 10 s i lt));
+      ∙ sym (digits_value_more 10 s i lt));
   digits = rw add-one (let step : all_ascii_digits (drop i s) ≡ all_ascii_digits (drop (suc i) s) =
       digits_at s i lt ∙ rw digit refl in sym step ∙ is.digits);
 }

@@ -1,6 +1,6 @@
 -- The rows of the agents, one after the other.
-use Rattle.std.proofs.Common.{◌≡◌, ℕ, zero, suc, ◌+◌, ◌*◌, ◌^◌, ◌<◌, ◌≤◌, false, eqb, List, [], ◌∷◌, ◌++◌, length,
-    get_or, drop, Result, Ok, Err, refl, sym, ap, ◌∙◌, add-one, arith, inl, inr}
+use Rattle.std.proofs.Common.{◌≡◌, ℕ, zero, suc, ◌+◌, ◌*◌, ◌^◌, ◌<◌, ◌≤◌, false, eqb, List, [], ◌∷◌, ◌++◌, length}
+use Rattle.std.proofs.Common.{get_or, drop, Result, Ok, Err, refl, sym, ap, ◌∙◌, add-one, arith, inl, inr}
 use Rattle.std.specs.List.{AllByRecursion}
 use Rattle.std.specs.Fmt.{decimal}
 use Rattle.std.proofs.Math.Seq.{drop-cons}
@@ -15,10 +15,10 @@ use Rattle.dp_laws.proofs.LineTexts.{decimal_item}
 use Rattle.dp_lines.specs.Grammar.{ends, ◌>>=◌, Fault}
 use Rattle.dp_lines.specs.Lines.{AreWords}
 use Rattle.dp_lines.specs.Scanning.{is_break, Rest, front_of}
-use Rattle.dp_policy.specs.TextSteps.{the_words}
+use Rattle.dp_lines.specs.Steps.{the_words}
 use Rattle.dp_policy.specs.PolicyGrammar.{stage_rows, agent_words, agent_rows}
-use Rattle.dp_policy.specs.Reading.{rest_at, onto}
-use Rattle.dp_policy.proofs.TextParts.{bind_ok, bind_err, front_cons, onto-onto}
+use Rattle.dp_lines.specs.Reading.{rest_at, onto}
+use Rattle.dp_lines.proofs.TextParts.{bind_ok, bind_err, front_cons, onto-onto}
 
 -- ---- sizes
 

@@ -1,12 +1,13 @@
 -- Rows that are tested, list by list.
-use Rattle.std.proofs.Common.{◌≡◌, ℕ, zero, suc, ◌*◌, ◌^◌, ◌<◌, ◌≤◌, List, [], ◌∷◌, inl, inr, length, get_or, drop,
-    refl, sym, ap, ◌∙◌, subst, arith}
+use Rattle.std.proofs.Common.{◌≡◌, ℕ, zero, suc, ◌*◌, ◌^◌, ◌<◌, ◌≤◌, List, [], ◌∷◌, inl, inr, length, get_or, drop}
+use Rattle.std.proofs.Common.{refl, sym, ap, ◌∙◌, subst, arith}
 use Rattle.std.specs.Prelude.{◌↔◌, ◌==◌, true, false}
 use Rattle.std.proofs.Math.Seq.{drop-cons}
 use Rattle.dp_spec.specs.JointNumbers.{product}
 use Rattle.dp_spec.specs.Model.{IsModel, Model, joint_observations}
-use Rattle.dp_spec.specs.SharedPolicy.{AgentRows, AreAgentRows, AreRowsOfAgents, AreStages, IsRow, IsSharedOf,
-    PolicyRow, SharedPolicy, first_count, next_count, no_row, row_at, row_count, row_counts}
+use Rattle.dp_spec.specs.SharedPolicy.{AgentRows, AreAgentRows, AreRowsOfAgents, AreStages, IsRow, IsSharedOf}
+use Rattle.dp_spec.specs.SharedPolicy.{PolicyRow, SharedPolicy, first_count, next_count, no_row, row_at, row_count}
+use Rattle.dp_spec.specs.SharedPolicy.{row_counts}
 use Rattle.dp_spec.specs.SharedPolicy.AreRowsOfAgents.{and_agent, no_agents}
 use Rattle.std.proofs.lemmas.Bool.{cases_lt}
 use Rattle.dp_spec.proofs.JointNumberLaws.{positive_left, positive_right}

@@ -1,11 +1,11 @@
 -- Trees that are tested, agent by agent, and what is kept of a joint policy.
-use Rattle.std.proofs.Common.{◌≡◌, ℕ, zero, suc, ◌+◌, ◌^◌, ◌<◌, ◌≤◌, List, ◌∷◌, length, get_or, drop, refl, sym, ap,
-    ◌∙◌, subst, arith}
+use Rattle.std.proofs.Common.{◌≡◌, ℕ, zero, suc, ◌+◌, ◌^◌, ◌<◌, ◌≤◌, List, ◌∷◌, length, get_or, drop, refl, sym, ap}
+use Rattle.std.proofs.Common.{◌∙◌, subst, arith}
 use Rattle.std.specs.Prelude.{◌↔◌}
 use Rattle.std.proofs.Math.Seq.{drop-cons}
 use Rattle.dp_spec.specs.Model.{IsModel, Model, joint_actions}
-use Rattle.dp_spec.specs.PolicyTree.{IsJointPolicy, IsPolicyOf, IsPolicyTree, ArePolicyTrees, PolicyTree, PolicyTrees,
-    node, no_trees, more_trees, subtree, subtrees}
+use Rattle.dp_spec.specs.PolicyTree.{IsJointPolicy, IsPolicyOf, IsPolicyTree, ArePolicyTrees, PolicyTree, PolicyTrees}
+use Rattle.dp_spec.specs.PolicyTree.{node, no_trees, more_trees, subtree, subtrees}
 use Rattle.dp_spec.specs.PolicyTree.IsJointPolicy.{and_agent, no_agents}
 use Rattle.dp_laws.proofs.Trees.{subtree_fits}
 use Rattle.dp_policy.specs.SharedRows.{remaining_after}

@@ -1,6 +1,6 @@
 -- Kinds of rows: action by action, and observation by observation.
-use Rattle.std.proofs.Common.{◌≡◌, ℕ, suc, ◌+◌, ◌-◌, ◌<◌, ◌≤◌, List, [], ◌∷◌, ◌++◌, cond, nat_lt, inl, inr, length,
-    get_or, map, refl, sym, ap, ◌∙◌, subst, arith}
+use Rattle.std.proofs.Common.{◌≡◌, ℕ, suc, ◌+◌, ◌-◌, ◌<◌, ◌≤◌, List, [], ◌∷◌, ◌++◌, cond, nat_lt, inl, inr, length}
+use Rattle.std.proofs.Common.{get_or, map, refl, sym, ap, ◌∙◌, subst, arith}
 use Rattle.std.specs.Prelude.{◌↔◌}
 use Rattle.std.specs.List.{range_with_len}
 use Rattle.std.proofs.Math.ListN.{get_or-append}
@@ -9,8 +9,8 @@ use Rattle.std.proofs.lemmas.Bool.{cases_lt}
 use Rattle.std.proofs.lemmas.List.FromFn.{get_or-map-range_with_len, length-map-range_with_len}
 use Rattle.dp_spec.specs.PolicyTree.{PolicyTree, node, more_trees, root_action, subtree}
 use Rattle.dp_spec.specs.SharedPolicy.{AgentRows, AreAgentRows, row_at, row_count, trees_of}
-use Rattle.dp_laws.proofs.SharedTrees.{row_nexts, next_row_below, last_row_nexts, rows_tree, rows_tree_is,
-    subtree_of_row}
+use Rattle.dp_laws.proofs.SharedTrees.{row_nexts, next_row_below, last_row_nexts, rows_tree, rows_tree_is}
+use Rattle.dp_laws.proofs.SharedTrees.{subtree_of_row}
 use Rattle.dp_policy.specs.Kinds.{AreKinds, ArePairNumbers}
 use Rattle.dp_policy.proofs.RowsOfTrees.{more_nexts, no_nexts}
 

@@ -5,7 +5,7 @@ pub mod PlainStages
 pub mod ReachedRows
 pub mod TreeValues
 pub mod JoinedTrees
-pub mod TextParts
+pub mod StageParts
 pub mod AgentParts
 pub mod PolicyParts
 pub mod PolicyAnswers

@@ -1,32 +1,19 @@
 -- Policy texts have one answer, and it is what is read.
 use Rattle.std.proofs.Common.{ℕ, zero, suc, ◌+◌, ◌^◌, ◌<◌, List, [], ◌∷◌, length, arith}
-use Rattle.std.specs.Prelude.{Option, Some, None, replicate, codes, unsigned_abs, map}
+use Rattle.std.specs.Prelude.{codes, unsigned_abs, map}
 use Rattle.dp_spec.specs.Model.{Model, IsModel}
-use Rattle.dp_spec.specs.TextLines.{Item, plain}
 use Rattle.dp_spec.specs.PolicyText.{row_form, horizon_form}
 use Rattle.dp_model.specs.declared.limit.TooLarge.{TooLarge}
 use Rattle.dp_model.specs.Horizons.{horizon_limits}
 use Rattle.dp_model.specs.Limits.{first_passed}
 use Rattle.dp_lines.specs.Grammar.{ends, ◌>>=◌}
-use Rattle.dp_lines.specs.Lines.{AreWords}
-use Rattle.dp_lines.proofs.SpelledLines.{HasItems}
-use Rattle.dp_lines.proofs.LineAnswers.{words_have_items}
+use Rattle.dp_lines.proofs.ProperTexts.{words_proper, numbers_proper, replicate_items, unless_proper}
 use Rattle.dp_lines.proofs.OneAnswer.{IsProper, IsProper-bind}
-use Rattle.dp_policy.specs.TextSteps.{the_words, the_numbers, unless_passed, first_plain}
-use Rattle.dp_policy.specs.PolicyGrammar.{PolicyActions, stage_rows, agent_words, agent_rows, title_words, end_words,
-    policy_grammar}
+use Rattle.dp_lines.specs.Steps.{the_words, the_numbers, unless_passed, first_plain}
+use Rattle.dp_policy.specs.PolicyGrammar.{PolicyActions, stage_rows, agent_words, agent_rows, title_words, end_words}
+use Rattle.dp_policy.specs.PolicyGrammar.{policy_grammar}
 use Rattle.dp_policy.proofs.AgentParts.{agent_words_are}
 use Rattle.dp_policy.proofs.PolicyParts.{behind_title, behind_horizon, behind_limits, behind_agents}
-
-pub words_proper : (L : Type 0) (ws : List (List ℕ)) → AreWords ws → IsProper {L = L} (the_words ws)
-words_proper L ws are = ((words_have_items ws are, tt, tt), λ k zs. tt)
-
-pub numbers_proper : (L : Type 0) (form : List Item) → HasItems form → IsProper {L = L} (the_numbers form)
-numbers_proper L form has = ((has, tt, tt), λ k zs. tt)
-
-pub replicate_items : (k low high : ℕ) → HasItems (replicate k (plain low high))
-replicate_items zero low high = tt
-replicate_items (suc k) low high = replicate_items k low high
 
 stages_proper : (L : Type 0) (b n t left : ℕ) → IsProper {L = L} (stage_rows b n t left)
 stages_proper L b n t zero = tt
@@ -49,10 +36,6 @@ agents_proper L h agent (b ∷ bs) (n ∷ ns) few =
     (rows ∷ others)) (stages_proper L b n 0 h)
     (λ rows. IsProper-bind (agent_rows h (agent + 1) bs ns) (λ others. ends (rows ∷ others))
     (agents_proper L h (agent + 1) bs ns (omega arith)) (λ others. tt)))
-
-unless_proper : (o : Option TooLarge) → IsProper (unless_passed o)
-unless_proper None = tt
-unless_proper (Some passed) = tt
 
 pub policy_proper : (m : Model) → IsModel m → IsProper (policy_grammar m)
 unfolding policy_grammar

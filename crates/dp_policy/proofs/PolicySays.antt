@@ -1,6 +1,6 @@
 -- What a policy text says: the joint policy that does the actions of its rows.
-use Rattle.std.proofs.Common.{◌≡◌, ℕ, ◌^◌, ◌<◌, List, [], ◌∷◌, get_or, Result, Ok, Err, refl, sym, ap, subst, ◌∙◌,
-    arith}
+use Rattle.std.proofs.Common.{◌≡◌, ℕ, ◌^◌, ◌<◌, List, [], ◌∷◌, get_or, Result, Ok, Err, refl, sym, ap, subst, ◌∙◌}
+use Rattle.std.proofs.Common.{arith}
 use Rattle.std.specs.Prelude.{ℤ, pos, negsuc, Option, Some, None, codes}
 use Rattle.std.proofs.lemmas.List.FromFn.{fill_by_all}
 use Rattle.dp_laws.proofs.TreeActions.{tree_of_actions, does-tree_doing}
@@ -19,14 +19,15 @@ use Rattle.dp_lines.specs.Scanning.{Rest, front_of, text_from}
 use Rattle.dp_lines.proofs.OneAnswer.{one_answer, read_answer}
 use Rattle.dp_policy.specs.declared.fault.PolicyFault.{PolicyFault}
 use Rattle.dp_policy.specs.declared.fault.PolicyFault.TheVariants as faults
-use Rattle.dp_policy.specs.ActionRows.{AreActionRows, AreAgentsRows, action_in, policy_actions, tree_of_rows,
-    tree_rows, trees_of_rows}
-use Rattle.dp_policy.specs.PolicyAnswers.{EachPolicyTextHasOneAnswer, HasPolicyFault, IsPolicyAnswer, PassesNone,
-    SaidPolicy}
+use Rattle.dp_policy.specs.ActionRows.{AreActionRows, AreAgentsRows, action_in, policy_actions, tree_of_rows}
+use Rattle.dp_policy.specs.ActionRows.{tree_rows, trees_of_rows}
+use Rattle.dp_policy.specs.PolicyAnswers.{EachPolicyTextHasOneAnswer, HasPolicyFault, IsPolicyAnswer, PassesNone}
+use Rattle.dp_policy.specs.PolicyAnswers.{SaidPolicy}
 use Rattle.dp_policy.specs.PolicyBytes.{policy_bytes}
 use Rattle.dp_policy.specs.PolicyGrammar.{PolicyActions, agent_rows, title_words, end_words, policy_grammar}
-use Rattle.dp_policy.specs.Reading.{Fails, rest_at}
-use Rattle.dp_policy.specs.TextSteps.{the_words, the_numbers, unless_passed, first_plain}
+use Rattle.dp_policy.specs.Reading.{Fails}
+use Rattle.dp_lines.specs.Reading.{rest_at}
+use Rattle.dp_lines.specs.Steps.{the_words, the_numbers, unless_passed, first_plain}
 use Rattle.dp_policy.proofs.AgentParts.{action_some}
 use Rattle.dp_policy.proofs.PolicyAnswers.{policy_proper}
 use Rattle.dp_policy.proofs.PolicyParts.{behind_title, behind_horizon, behind_limits, behind_agents}

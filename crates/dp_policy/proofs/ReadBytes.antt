@@ -1,9 +1,9 @@
 -- Bytes that say a policy are the bytes that are written of it.
-use Rattle.std.proofs.Common.{◌≡◌, ℕ, zero, suc, ◌+◌, ◌-◌, ◌^◌, ◌<◌, true, List, [], ◌∷◌, ◌++◌, length, map, Result,
-    Ok, Err, refl, sym, ap, subst, ◌∙◌, append_assoc, arith}
+use Rattle.std.proofs.Common.{◌≡◌, ℕ, zero, suc, ◌+◌, ◌-◌, ◌^◌, ◌<◌, true, List, [], ◌∷◌, ◌++◌, length, map, Result}
+use Rattle.std.proofs.Common.{Ok, Err, refl, sym, ap, subst, ◌∙◌, append_assoc, arith}
 use Rattle.std.specs.Prelude.{ℤ, pos, negsuc, Option, Some, None, replicate, codes, decimal, unsigned_abs}
 use Rattle.std.specs.List.{join_with_byte}
-use Rattle.dp_lines.specs.Grammar.{IsText}
+use Rattle.dp_lines.specs.Grammar.{IsText, Grammar, ends, ◌>>=◌, nth_form, Fault, bad}
 use Rattle.dp_spec.specs.Model.{Model, IsModel}
 use Rattle.dp_spec.specs.TextLines.{Item, plain, spelled_items, line_text, Allows}
 use Rattle.dp_spec.specs.PolicyText.{row_form, horizon_form}
@@ -12,24 +12,23 @@ use Rattle.dp_model.specs.Horizons.{horizon_limits}
 use Rattle.dp_model.specs.Limits.{first_passed}
 use Rattle.dp_lines.specs.declared.why.FileWhy.{FileWhy}
 use Rattle.dp_lines.specs.Forms.{AreSpelled}
-use Rattle.dp_lines.specs.Grammar.{Grammar, ends, ◌>>=◌, nth_form, Fault, bad}
-use Rattle.dp_lines.specs.Lines.{AreWords, fixed_form}
+use Rattle.dp_lines.specs.Lines.{AreWords, fixed_form, row_tail}
 use Rattle.dp_lines.specs.Scanning.{Found, lines_at, Rest, front_of, whole, text_from}
 use Rattle.dp_lines.proofs.SpelledLines.{HasItems}
 use Rattle.dp_lines.proofs.FirstLines.{IsLineAnswer, lines_answer}
 use Rattle.dp_lines.proofs.LineAnswers.{words_have_items, spelled_words}
 use Rattle.dp_lines.proofs.OneAnswer.{read_answer, one_answer}
-use Rattle.dp_lines.proofs.WrittenLines.{says-line_text, typed_allowed}
-use Rattle.dp_policy.specs.TextSteps.{the_words, the_numbers, unless_passed, first_plain}
-use Rattle.dp_policy.specs.PolicyGrammar.{PolicyActions, stage_rows, agent_words, agent_rows, title_words, end_words,
-    policy_grammar}
-use Rattle.dp_policy.specs.PolicyBytes.{row_tail, row_bytes, rows_bytes, agents_bytes, policy_bytes}
-use Rattle.dp_policy.specs.Reading.{rest_at}
+use Rattle.dp_lines.proofs.WrittenLines.{says-line_text, typed_allowed, all_joined}
+use Rattle.dp_lines.specs.Steps.{the_words, the_numbers, unless_passed, first_plain}
+use Rattle.dp_policy.specs.PolicyGrammar.{PolicyActions, stage_rows, agent_words, agent_rows, title_words, end_words}
+use Rattle.dp_policy.specs.PolicyGrammar.{policy_grammar}
+use Rattle.dp_policy.specs.PolicyBytes.{row_bytes, rows_bytes, agents_bytes, policy_bytes}
+use Rattle.dp_lines.specs.Reading.{rest_at}
 use Rattle.dp_policy.proofs.AgentParts.{agent_words_are}
 use Rattle.dp_policy.proofs.PolicyParts.{behind_title, behind_horizon, behind_limits, behind_agents}
-use Rattle.dp_policy.proofs.PolicyAnswers.{policy_proper, replicate_items}
-use Rattle.dp_policy.proofs.TextParts.{then_front, front_bind}
-use Rattle.dp_policy.proofs.WrittenBytes.{joined}
+use Rattle.dp_policy.proofs.PolicyAnswers.{policy_proper}
+use Rattle.dp_lines.proofs.ProperTexts.{replicate_items}
+use Rattle.dp_lines.proofs.TextParts.{then_front, front_bind}
 
 -- ---- parts
 
@@ -136,7 +135,7 @@ stages_are b n t (suc left) line bytes rest e =
     u.mid.line u.mid.bytes in
     let text : line_text (row_form b n t) s.mid.value ≡ row_tail true (map unsigned_abs s.mid.value) =
     ap (join_with_byte 32) (row_spelled (n ^ t) 0 (b - 1) s.mid.value row.allowed)
-    ∙ joined (map unsigned_abs s.mid.value) in
+    ∙ all_joined (map unsigned_abs s.mid.value) in
     row.first ∙ ap (λ (l : List ℕ). l ++ 10 ∷ s.mid.bytes) text
     ∙ ap (λ (l : List ℕ). row_tail true (map unsigned_abs s.mid.value) ++ 10 ∷ l) others
     ∙ sym (append_assoc (row_tail true (map unsigned_abs s.mid.value)) (10 ∷ [])

@@ -1,6 +1,6 @@
 -- What is read has a row of the right length for each stage of each agent, and a horizon that passes no limit.
-use Rattle.std.proofs.Common.{◌≡◌, ℕ, zero, suc, ◌+◌, ◌-◌, ◌^◌, ◌<◌, ◌≤◌, List, [], ◌∷◌, length, get_or, map, Ok,
-    refl, ap, subst, ◌∙◌, arith}
+use Rattle.std.proofs.Common.{◌≡◌, ℕ, zero, suc, ◌+◌, ◌-◌, ◌^◌, ◌<◌, ◌≤◌, List, [], ◌∷◌, length, get_or, map, Ok}
+use Rattle.std.proofs.Common.{refl, ap, subst, ◌∙◌, arith}
 use Rattle.std.specs.Prelude.{ℤ, pos, negsuc, replicate, unsigned_abs}
 use Rattle.dp_spec.specs.TextLines.{plain, Allows}
 use Rattle.dp_spec.specs.PolicyText.{row_form}
@@ -9,9 +9,9 @@ use Rattle.dp_lines.specs.Grammar.{ends, ◌>>=◌}
 use Rattle.dp_lines.specs.Scanning.{Rest, front_of}
 use Rattle.dp_policy.specs.ActionRows.{AreActionRows, AreAgentsRows}
 use Rattle.dp_policy.specs.PolicyGrammar.{stage_rows, agent_words, agent_rows}
-use Rattle.dp_policy.specs.Reading.{rest_at}
-use Rattle.dp_policy.specs.TextSteps.{the_words, the_numbers}
-use Rattle.dp_policy.proofs.PolicyAnswers.{replicate_items}
+use Rattle.dp_lines.specs.Reading.{rest_at}
+use Rattle.dp_lines.specs.Steps.{the_words, the_numbers}
+use Rattle.dp_lines.proofs.ProperTexts.{replicate_items}
 use Rattle.dp_policy.proofs.ReadBytes.{line_is, same_rest, split}
 
 -- ---- a row

@@ -1,6 +1,6 @@
 -- The rows of a shared form, stage by stage as they are reached.
-use Rattle.std.proofs.Common.{◌≡◌, ℕ, zero, suc, ◌+◌, ◌-◌, ◌^◌, ◌<◌, ◌≤◌, List, [], ◌∷◌, ◌++◌, cond, nat_lt, inl, inr,
-    length, get_or, drop, append_assoc, refl, sym, ap, ◌∙◌, subst, arith}
+use Rattle.std.proofs.Common.{◌≡◌, ℕ, zero, suc, ◌+◌, ◌-◌, ◌^◌, ◌<◌, ◌≤◌, List, [], ◌∷◌, ◌++◌, cond, nat_lt, inl, inr}
+use Rattle.std.proofs.Common.{length, get_or, drop, append_assoc, refl, sym, ap, ◌∙◌, subst, arith}
 use Rattle.std.specs.Prelude.{◌==◌}
 use Rattle.std.proofs.Math.ListN.{get_or-append}
 use Rattle.std.proofs.Math.Seq.{drop-cons, get_or-append_seam}
@@ -8,14 +8,14 @@ use Rattle.std.proofs.lemmas.Bool.{cases_lt}
 use Rattle.std.proofs.lemmas.Bool.Decides.{nat_tests}
 use Rattle.dp_spec.specs.Model.{IsModel, Model}
 use Rattle.dp_spec.specs.PolicyTree.{PolicyTree, node, more_trees}
-use Rattle.dp_spec.specs.SharedForm.{AreInOrder, AreReducedRows, all_nexts, read_after, shared_form, shared_rows,
-    shared_rows_of}
-use Rattle.dp_spec.specs.SharedPolicy.{AgentRows, AreAgentRows, IsSharedOf, PolicyRow, SharedPolicy, no_row, row_at,
-    row_count, tree_of_row, trees_of, unfolded, unfolded_tree}
+use Rattle.dp_spec.specs.SharedForm.{AreInOrder, AreReducedRows, all_nexts, read_after, shared_form, shared_rows}
+use Rattle.dp_spec.specs.SharedForm.{shared_rows_of}
+use Rattle.dp_spec.specs.SharedPolicy.{AgentRows, AreAgentRows, IsSharedOf, PolicyRow, SharedPolicy, no_row, row_at}
+use Rattle.dp_spec.specs.SharedPolicy.{row_count, tree_of_row, trees_of, unfolded, unfolded_tree}
 use Rattle.dp_laws.proofs.PlainForms.{first_by_place, stages_from}
 use Rattle.dp_laws.proofs.ReducedRows.{reduced_agent_is_form}
-use Rattle.dp_laws.proofs.SharedTrees.{first_count_is, last_row_nexts, row_action_below, row_nexts, rows_tree,
-    rows_tree_is}
+use Rattle.dp_laws.proofs.SharedTrees.{first_count_is, last_row_nexts, row_action_below, row_nexts, rows_tree}
+use Rattle.dp_laws.proofs.SharedTrees.{rows_tree_is}
 use Rattle.dp_laws.proofs.SharedForms.{shared_form_is}
 use Rattle.dp_policy.specs.Kinds.{AreKinds}
 use Rattle.dp_policy.specs.Renumbered.{AreRenumbered}

@@ -1,6 +1,6 @@
 -- Policy trees by their actions, stage by stage: from rows to trees, and from trees to rows.
-use Rattle.std.proofs.Common.{◌≡◌, ◌≢◌, ℕ, zero, suc, ◌+◌, ◌*◌, ◌-◌, ◌/◌, ◌%◌, ◌^◌, ◌<◌, List, ◌∷◌, ◌++◌, map, refl,
-    sym, ap, ◌∙◌, arith}
+use Rattle.std.proofs.Common.{◌≡◌, ◌≢◌, ℕ, zero, suc, ◌+◌, ◌*◌, ◌-◌, ◌/◌, ◌%◌, ◌^◌, ◌<◌, List, ◌∷◌, ◌++◌, map, refl}
+use Rattle.std.proofs.Common.{sym, ap, ◌∙◌, arith}
 use Rattle.std.specs.List.{range_with_len}
 use Rattle.std.proofs.Math.Nat.{pow-suc, pow-zero}
 use Rattle.std.proofs.lemmas.Nat.{div-add-mod', div_below, mod_below}
@@ -8,8 +8,8 @@ use Rattle.dp_laws.proofs.TreeActions.{tree_at-next}
 use Rattle.dp_spec.specs.FullPolicy.{trees_from, tree_doing_after}
 use Rattle.dp_spec.specs.Keeping.{tree_at}
 use Rattle.dp_spec.specs.PolicyText.{row_actions}
-use Rattle.dp_spec.specs.PolicyTree.{PolicyTree, PolicyTrees, node, no_trees, more_trees, nth_tree, root_action,
-    subtree, IsPolicyTree, ArePolicyTrees}
+use Rattle.dp_spec.specs.PolicyTree.{PolicyTree, PolicyTrees, node, no_trees, more_trees, nth_tree, root_action}
+use Rattle.dp_spec.specs.PolicyTree.{subtree, IsPolicyTree, ArePolicyTrees}
 use Rattle.dp_policy.specs.declared.tree.PTree.{PTree}
 use Rattle.dp_policy.specs.declared.tree.PTree.TheOpen.{PTree-F}
 use Rattle.dp_policy.specs.declared.tree.PTree.TheViews.{out-PTree, roll-PTree}

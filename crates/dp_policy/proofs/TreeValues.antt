@@ -1,11 +1,11 @@
 -- What the policy tree of a `PTree` has at its root, and when it is a tree of so many steps.
-use Rattle.std.proofs.Common.{◌≡◌, ◌≢◌, ℕ, zero, suc, ◌-◌, ◌<◌, List, [], ◌∷◌, length, get_or, map, refl, sym, ap,
-    ◌∙◌, arith}
+use Rattle.std.proofs.Common.{◌≡◌, ◌≢◌, ℕ, zero, suc, ◌-◌, ◌<◌, List, [], ◌∷◌, length, get_or, map, refl, sym, ap}
+use Rattle.std.proofs.Common.{◌∙◌, arith}
 use Rattle.std.specs.Prelude.{◌↔◌}
 use Rattle.std.specs.List.{All}
 use Rattle.std.proofs.lemmas.List.Elements.{All-nil, All-cons, All-head, All-tail}
-use Rattle.dp_spec.specs.PolicyTree.{PolicyTree, node, no_trees, root_action, subtree, subtrees, nth_tree,
-    IsPolicyTree, ArePolicyTrees}
+use Rattle.dp_spec.specs.PolicyTree.{PolicyTree, node, no_trees, root_action, subtree, subtrees, nth_tree}
+use Rattle.dp_spec.specs.PolicyTree.{IsPolicyTree, ArePolicyTrees}
 use Rattle.dp_policy.specs.declared.tree.PTree.{PTree}
 use Rattle.dp_policy.specs.declared.tree.PTree.TheOpen.{PTree-F}
 use Rattle.dp_policy.specs.declared.tree.PTree.TheViews.{out-PTree, roll-PTree}

@@ -4,8 +4,8 @@ use Rattle.std.specs.Prelude.{Option, Some, None, if◌then◌else◌, codes}
 use Rattle.std.specs.Fmt.{digits}
 use Rattle.dp_lines.specs.declared.why.FileWhy.TheVariants.{Shape, Number, Range}
 use Rattle.dp_lines.specs.Grammar.{Fault, bad, limit}
-use Rattle.dp_lines.specs.Scanning.{is_plain, plain_of, signed_of, item_numbers, items_behind, numbers_at, are_typed,
-    are_in_range, line_at, lines_at, text_from}
+use Rattle.dp_lines.specs.Scanning.{is_plain, plain_of, signed_of, item_numbers, items_behind, numbers_at, are_typed}
+use Rattle.dp_lines.specs.Scanning.{are_in_range, line_at, lines_at, text_from}
 use Rattle.dp_policy.specs.PolicyGrammar.{PolicyActions, policy_lines_of}
 
 -- a horizon above ten passes a limit, which is the horizon

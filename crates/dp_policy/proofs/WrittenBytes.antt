@@ -1,34 +1,25 @@
 -- The bytes that are written are the text of the joint policy.
-use Rattle.std.proofs.Common.{◌≡◌, ℕ, zero, suc, ◌+◌, ◌^◌, true, List, [], ◌∷◌, ◌++◌, map, refl, sym, ap, ◌∙◌,
-    append_assoc}
-use Rattle.std.specs.Prelude.{pos, replicate, codes, decimal}
+use Rattle.std.proofs.Common.{◌≡◌, ℕ, zero, suc, ◌+◌, true, List, [], ◌∷◌, ◌++◌, map, refl, sym, ap, ◌∙◌}
+use Rattle.std.proofs.Common.{append_assoc}
+use Rattle.std.specs.Prelude.{pos, codes, decimal}
 use Rattle.std.specs.Fmt.{digits}
-use Rattle.std.specs.List.{range_with_len, join_with_byte}
-use Rattle.std.proofs.lemmas.List.{append-nil}
+use Rattle.std.specs.List.{range_with_len}
 use Rattle.dp_spec.specs.Model.{Model}
 use Rattle.dp_spec.specs.PolicyTree.{PolicyTree, IsJointPolicy, IsPolicyOf}
 use Rattle.dp_spec.specs.PolicyTree.IsJointPolicy.{and_agent, no_agents}
-use Rattle.dp_spec.specs.TextLines.{plain, fixed_line, spelled_items, line_text, text_of_lines}
+use Rattle.dp_spec.specs.TextLines.{fixed_line, line_text, text_of_lines}
 use Rattle.dp_spec.specs.PolicyText.{row_form, row_actions, row_line, policy_rows, agent_lines, end_form, policy_text}
-use Rattle.dp_policy.specs.PolicyBytes.{row_tail, rows_bytes, agents_bytes, policy_bytes}
+use Rattle.dp_lines.specs.Lines.{row_tail}
+use Rattle.dp_policy.specs.PolicyBytes.{rows_bytes, agents_bytes, policy_bytes}
 use Rattle.dp_policy.specs.ActionRows.{tree_rows, policy_actions}
-use Rattle.dp_policy.proofs.WrittenPolicies.{lines_front}
+use Rattle.dp_lines.proofs.WrittenLines.{all_joined}
+use Rattle.dp_spec.proofs.TextLemmas.{line_text-row, text_of_lines-append}
 
 -- ---- a row
 
-pub joined : (xs : List ℕ) → join_with_byte 32 (map decimal xs) ≡ row_tail true xs
-joined [] = refl
-joined (x ∷ []) = sym (append-nil (decimal x))
-joined (x ∷ y ∷ xs) = ap (λ (l : List ℕ). decimal x ++ 32 ∷ l) (joined (y ∷ xs))
-
-spelled : (f : ℕ → ℕ) (low high a k : ℕ) → spelled_items (replicate k (plain low high))
-    (map pos (map f (range_with_len a k))) ≡ map decimal (map f (range_with_len a k))
-spelled f low high a zero = refl
-spelled f low high a (suc k) = ap (λ (l : List (List ℕ)). decimal (f a) ∷ l) (spelled f low high (a + 1) k)
-
 row_written : (b n : ℕ) (q : PolicyTree) (t : ℕ) → line_text (row_form b n t) (map pos (row_actions n q t))
     ≡ row_tail true (row_actions n q t)
-row_written b n q t = ap (join_with_byte 32) (spelled _ 0 _ 0 (n ^ t)) ∙ joined (row_actions n q t)
+row_written b n q t = line_text-row b n t q ∙ all_joined (row_actions n q t)
 
 -- ---- the rows of an agent
 
@@ -49,7 +40,7 @@ agents_are h agent (b ∷ bs) (n ∷ ns) (q ∷ qs) (and_agent is iss) =
     let others = agent_lines (agent + 1) (policy_rows bs ns h qs) in
     let behind : text_of_lines (rows ++ others) ≡ rows_bytes (tree_rows n q 0 h)
     ++ agents_bytes (agent + 1) (policy_actions h ns qs) =
-    lines_front rows others ∙ ap (λ (l : List ℕ). l ++ text_of_lines others) (rows_written b n q 0 h)
+    text_of_lines-append rows others ∙ ap (λ (l : List ℕ). l ++ text_of_lines others) (rows_written b n q 0 h)
     ∙ ap (λ (l : List ℕ). rows_bytes (tree_rows n q 0 h) ++ l) (agents_are h (agent + 1) bs ns qs iss) in
     ap (λ (l : List ℕ). (codes "agent " ++ decimal agent) ++ 10 ∷ l) behind
     ∙ append_assoc (codes "agent ") (decimal agent) (10 ∷ (rows_bytes (tree_rows n q 0 h)
@@ -63,7 +54,7 @@ written_for bs ns h qs is =
     let agents = agent_lines 0 (policy_rows bs ns h qs) in
     let behind : text_of_lines (agents ++ fixed_line end_form ∷ []) ≡ agents_bytes 0 (policy_actions h ns qs)
     ++ codes "end\n" =
-    lines_front agents (fixed_line end_form ∷ []) ∙ ap (λ (l : List ℕ). l ++ codes "end\n")
+    text_of_lines-append agents (fixed_line end_form ∷ []) ∙ ap (λ (l : List ℕ). l ++ codes "end\n")
     (agents_are h 0 bs ns qs is) in
     sym (ap (λ (l : List ℕ). codes "decplan policy 1\n" ++ ((codes "horizon " ++ decimal h) ++ 10 ∷ l)) behind
     ∙ ap (λ (l : List ℕ). codes "decplan policy 1\n" ++ l) (append_assoc (codes "horizon ") (decimal h)

@@ -1,34 +1,36 @@
 -- The text of a joint policy says its actions.
-use Rattle.std.proofs.Common.{◌≡◌, ℕ, zero, suc, ◌+◌, ◌-◌, ◌^◌, ◌<◌, List, [], ◌∷◌, ◌++◌, length, map, Ok, refl, sym,
-    ap, subst, ◌∙◌, append_assoc, arith}
+use Rattle.std.proofs.Common.{◌≡◌, ℕ, zero, suc, ◌+◌, ◌-◌, ◌^◌, ◌<◌, List, [], ◌∷◌, ◌++◌, length, map, Ok, refl, sym}
+use Rattle.std.proofs.Common.{ap, subst, ◌∙◌, append_assoc, arith}
 use Rattle.std.specs.Prelude.{ℤ, pos, codes}
 use Rattle.std.specs.Fmt.{digits}
 use Rattle.std.specs.List.{range_with_len}
 use Rattle.std.proofs.lemmas.List.{append-nil}
 use Rattle.dp_spec.specs.Model.{Model, IsModel}
-use Rattle.dp_lines.specs.Grammar.{IsText}
+use Rattle.dp_lines.specs.Grammar.{IsText, IsAnswer}
 use Rattle.dp_policy.specs.PolicyAnswers.{PassesNone}
 use Rattle.dp_spec.specs.PolicyTree.{PolicyTree, IsJointPolicy}
 use Rattle.dp_spec.specs.PolicyTree.IsJointPolicy.{and_agent, no_agents}
 use Rattle.dp_spec.specs.TextLines.{Item, Line, fixed_line, text_of_lines, line_text, Allows, AllAllowed}
-use Rattle.dp_spec.specs.PolicyText.{title_form, horizon_form, horizon_line, agent_form, row_form, row_line,
-    policy_rows, agent_lines, end_form, policy_text, IsPolicyText}
+use Rattle.dp_spec.specs.PolicyText.{title_form, horizon_form, horizon_line, agent_form, row_form, row_line}
+use Rattle.dp_spec.specs.PolicyText.{policy_rows, agent_lines, end_form, policy_text, IsPolicyText}
+use Rattle.dp_spec.proofs.TextLemmas.{text_of_lines-append}
 use Rattle.dp_laws.proofs.WholeTexts.{AllAllowed-parts}
 use Rattle.dp_model.specs.declared.limit.TooLarge.{TooLarge}
-use Rattle.dp_lines.specs.Grammar.{IsAnswer}
 use Rattle.dp_lines.specs.Scanning.{front_of}
 use Rattle.dp_lines.proofs.SpelledLines.{HasItems}
 use Rattle.dp_lines.proofs.LineAnswers.{words_have_items}
 use Rattle.dp_lines.proofs.OneAnswer.{read_answer}
 use Rattle.dp_lines.proofs.WrittenLines.{line_at-written}
-use Rattle.dp_policy.specs.TextSteps.{the_words, the_numbers}
+use Rattle.dp_lines.specs.Steps.{the_words, the_numbers}
 use Rattle.dp_policy.specs.PolicyGrammar.{stage_rows, agent_words, agent_rows, title_words, end_words, policy_grammar}
-use Rattle.dp_policy.specs.Reading.{rest_at, onto}
+use Rattle.dp_lines.specs.Reading.{rest_at, onto}
 use Rattle.dp_policy.specs.ActionRows.{tree_rows, policy_actions}
-use Rattle.dp_policy.proofs.TextParts.{words_ok, numbers_ok, stage_read}
+use Rattle.dp_lines.proofs.TextParts.{words_ok, numbers_ok, text_ends}
+use Rattle.dp_policy.proofs.StageParts.{stage_read}
 use Rattle.dp_policy.proofs.AgentParts.{agent_words_are, agent_read}
-use Rattle.dp_policy.proofs.PolicyParts.{title_read, horizon_read, limits_kept, agents_read, end_read, text_ends}
-use Rattle.dp_policy.proofs.PolicyAnswers.{policy_proper, replicate_items}
+use Rattle.dp_policy.proofs.PolicyParts.{title_read, horizon_read, limits_kept, agents_read, end_read}
+use Rattle.dp_policy.proofs.PolicyAnswers.{policy_proper}
+use Rattle.dp_lines.proofs.ProperTexts.{replicate_items}
 
 -- ---- one line
 
@@ -36,13 +38,6 @@ line_front : (line : Line) (lines : List Line) (more : List ℕ)
     → text_of_lines (line ∷ lines) ++ more ≡ line_text line.form line.numbers
     ++ 10 ∷ (text_of_lines lines ++ more)
 line_front line lines more = append_assoc (line_text line.form line.numbers) (10 ∷ text_of_lines lines) more
-
-pub lines_front : (lines more : List Line) → text_of_lines (lines ++ more) ≡ text_of_lines lines
-    ++ text_of_lines more
-lines_front [] more = refl
-lines_front (line ∷ lines) more =
-    ap (λ (l : List ℕ). line_text line.form line.numbers ++ 10 ∷ l) (lines_front lines more)
-    ∙ sym (append_assoc (line_text line.form line.numbers) (10 ∷ text_of_lines lines) (text_of_lines more))
 
 numbers_written : {L : Type 0} (form : List Item) (zs : List ℤ) (at : ℕ) (lines : List Line) (more : List ℕ)
     → HasItems form → Allows form zs
@@ -115,7 +110,7 @@ agents_written {L = L} h agent (b ∷ bs) (n ∷ ns) (q ∷ qs) at more few (and
     let parts = AllAllowed-parts rows others a.1 in
     let rest = agents_written {L = L} h (agent + 1) bs ns qs (suc at + h) more (omega arith) iss parts.1 in
     let behind : text_of_lines (rows ++ others) ++ more ≡ text_of_lines rows ++ (text_of_lines others ++ more) =
-    ap (λ (l : List ℕ). l ++ more) (lines_front rows others)
+    ap (λ (l : List ℕ). l ++ more) (text_of_lines-append rows others)
     ∙ append_assoc (text_of_lines rows) (text_of_lines others) more in
     let title : front_of {L = L} (the_words (agent_words agent)) at
     (text_of_lines (fixed_line (agent_form agent) ∷ (rows ++ others)) ++ more)
@@ -163,7 +158,7 @@ policy_text_says m is bytes h qs text kept =
     (assumption, tt)
     text.allowed.1.0 in
     let behind : text_of_lines (agents ++ last) ++ [] ≡ text_of_lines agents
-    ++ text_of_lines last = append-nil (text_of_lines (agents ++ last)) ∙ lines_front agents last in
+    ++ text_of_lines last = append-nil (text_of_lines (agents ++ last)) ∙ text_of_lines-append agents last in
     let rows = ap (front_of {L = TooLarge} (agent_rows h 0 m.actions m.observations) 3) behind ∙ written.1 in
     let end : front_of {L = TooLarge} (the_words end_words) written.0 (text_of_lines last)
     ≡ Ok (rest_at tt (suc written.0) []) =

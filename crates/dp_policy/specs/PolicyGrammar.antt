@@ -7,7 +7,7 @@ use Rattle.dp_model.specs.declared.limit.TooLarge.{TooLarge}
 use Rattle.dp_model.specs.Horizons.{horizon_limits}
 use Rattle.dp_model.specs.Limits.{first_passed}
 use Rattle.dp_lines.specs.Grammar.{Grammar, ends, ◌>>=◌}
-use Rattle.dp_policy.specs.TextSteps.{the_words, the_numbers, unless_passed, first_plain}
+use Rattle.dp_lines.specs.Steps.{the_words, the_numbers, unless_passed, first_plain}
 
 -- a joint policy by its actions: for each agent and each stage those after the own histories, in order
 pub record PolicyActions : Type 0 where

@@ -1,8 +1,8 @@
 -- The rows of a shared policy with its horizon, and what is kept of them without a model.
 use Rattle.std.specs.Prelude.{ℕ, suc, ◌+◌, ◌*◌, ◌^◌, ◌<◌, ◌≤◌, ◌≡◌, List, [], ◌∷◌, length, get_or}
 use Rattle.dp_spec.specs.PolicyTree.{PolicyTree, subtree}
-use Rattle.dp_spec.specs.SharedPolicy.{AgentRows, IsRow, SharedPolicy, first_count, next_count, no_row, row_at,
-    row_count}
+use Rattle.dp_spec.specs.SharedPolicy.{AgentRows, IsRow, SharedPolicy, first_count, next_count, no_row, row_at}
+use Rattle.dp_spec.specs.SharedPolicy.{row_count}
 
 -- rows over a horizon
 pub record HorizonRows : Type 0 where

@@ -1,14 +1,15 @@
 //! Policy texts read.
-ghost use Rattle.std.specs.Prelude.{◌≡◌, ℕ, List, [], ◌∷◌, ◌+◌, ◌-◌, ◌*◌, ◌^◌, ◌<◌, ◌≤◌, length, map, pos,
-    slice_index, Ok, IfOk, IfErr};
+ghost use Rattle.std.specs.Prelude.{◌≡◌, ℕ, List, [], ◌∷◌, ◌+◌, ◌-◌, ◌*◌, ◌^◌, ◌<◌, ◌≤◌, length, map, pos};
+ghost use Rattle.std.specs.Prelude.{slice_index, Ok, IfOk, IfErr};
 ghost use Rattle.std.specs.List.{join_with_byte};
 ghost use Rattle.dp_spec.specs.Mode.{IsWithinLimits};
 ghost use Rattle.dp_policy.specs.declared.fault.PolicyFault.TheVariants.{Memory};
 ghost use Rattle.dp_lines.specs.Scanning.{front_of, text_from};
 ghost use Rattle.dp_policy.specs.PolicyAnswers.{EachPolicyTextHasOneAnswer, HasPolicyFault, IsPolicyAnswer, said_by};
-ghost use Rattle.dp_policy.specs.TextSteps.{the_words, the_numbers};
+ghost use Rattle.dp_lines.specs.Steps.{the_words, the_numbers};
 ghost use Rattle.dp_policy.specs.PolicyGrammar.{agent_words, stage_rows, agent_rows, policy_grammar};
-ghost use Rattle.dp_policy.specs.Reading.{Gives, rest_at, rows_of, agents_of};
+ghost use Rattle.dp_policy.specs.Reading.{Gives, rows_of, agents_of};
+ghost use Rattle.dp_lines.specs.Reading.{rest_at};
 
 use crate::actions::joint_trees;
 use crate::lines::{Lines, numbers, row, words};

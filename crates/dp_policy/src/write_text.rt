@@ -1,13 +1,14 @@
 //! Policy texts written.
-ghost use Rattle.std.specs.Prelude.{◌≡◌, ℕ, List, ◌++◌, ◌∷◌, [], ◌<◌, ◌≤◌, ◌^◌, true, false, codes, decimal, IfOk,
-    OnOk, Ok, length, map};
+ghost use Rattle.std.specs.Prelude.{◌≡◌, ℕ, List, ◌++◌, ◌∷◌, [], ◌<◌, ◌≤◌, ◌^◌, true, false, codes, decimal, IfOk};
+ghost use Rattle.std.specs.Prelude.{OnOk, Ok, length, map};
 ghost use Rattle.std.specs.List.{range_with_len};
 ghost use Rattle.dp_spec.specs.Model.{Model, IsModel};
 ghost use Rattle.dp_spec.specs.PolicyText.{policy_text};
 ghost use Rattle.dp_spec.specs.PolicyTree.{IsJointPolicy, IsPolicyOf};
 ghost use Rattle.dp_policy.specs.ActionRows.{actions_below};
 ghost use Rattle.dp_policy.specs.PolicyAnswers.{IsPolicyAnswer, PassesNone, said_by};
-ghost use Rattle.dp_policy.specs.PolicyBytes.{row_tail, row_bytes, rows_bytes, agents_bytes, policy_bytes};
+ghost use Rattle.dp_lines.specs.Lines.{row_tail};
+ghost use Rattle.dp_policy.specs.PolicyBytes.{row_bytes, rows_bytes, agents_bytes, policy_bytes};
 ghost use Rattle.dp_policy.specs.TreeValue.{policy_tree};
 ghost use Rattle.dp_policy.specs.Trees.{joint_policy};
 

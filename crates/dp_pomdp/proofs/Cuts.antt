@@ -1,14 +1,14 @@
 -- Where look-ahead may stop: weights that are all zero, and a joint action that reaches the cap.
-use Rattle.std.proofs.Common.{◌≡◌, ℕ, zero, suc, ◌<◌, ◌≤◌, ℤ, pos, ◌-◌, ◌+ℤ◌, ◌≤ℤ◌, List, [], ◌∷◌, refl, sym, ap, ◌∙◌,
-    arith}
+use Rattle.std.proofs.Common.{◌≡◌, ℕ, zero, suc, ◌<◌, ◌≤◌, ℤ, pos, ◌-◌, ◌+ℤ◌, ◌≤ℤ◌, List, [], ◌∷◌, refl, sym, ap, ◌∙◌}
+use Rattle.std.proofs.Common.{arith}
 use Rattle.std.specs.Int.{int_min}
 use Rattle.std.proofs.lemmas.Int.{ints, clamps}
 use Rattle.dp_spec.specs.declared.span.Span.{Span}
 use Rattle.dp_base.specs.Sums.{greatest, int_sum, numbers_below}
 use Rattle.dp_spec.specs.Model.{Model, joint_actions, joint_observations, obs_at, reward_at, trans_at}
 use Rattle.dp_spec.specs.Arithmetic.{Arithmetic}
-use Rattle.dp_spec.specs.Quantities.{action_look_ahead_in, look_ahead_in, mdp_table_in, weighted_reward_in,
-    weighted_table_in, weights_after_in}
+use Rattle.dp_spec.specs.Quantities.{action_look_ahead_in, look_ahead_in, mdp_table_in, weighted_reward_in}
+use Rattle.dp_spec.specs.Quantities.{weighted_table_in, weights_after_in}
 use Rattle.dp_laws.proofs.EqualWeights.{look_ahead_in_ext}
 use Rattle.dp_base.proofs.GreatestValues.{greatest_below_at_most, greatest_ext, le_greatest_below}
 use Rattle.dp_spec.specs.Zeros.{KeepsZero, nothing}

@@ -1,6 +1,10 @@
 pub mod Cuts
 pub mod Modes
+pub mod Multiples
+pub mod PushedRows
 pub mod Pushes
 pub mod Rewards
+pub mod Scaled
 pub mod Sound
 pub mod Steps
+pub mod TimesRows

@@ -1,5 +1,6 @@
 -- What look-ahead asks for, in the arithmetic of a mode.
-use Rattle.std.proofs.Common.{◌≡◌, ℕ, ◌-◌, ◌≤◌, Bool, ℤ, List, length, sym, subst, ◌∙◌, arith}
+use Rattle.std.proofs.Common.{◌≡◌, ℕ, ◌-◌, ◌≤◌, Bool, true, false, ℤ, List, length, sym, subst, ◌∙◌, arith}
+use Rattle.std.proofs.lemmas.Bool.{true≢false}
 use Rattle.dp_spec.specs.declared.span.Span.{Span}
 use Rattle.dp_spec.specs.declared.scales.Scales.{Scales}
 use Rattle.dp_spec.specs.Model.{IsModel, Model}
@@ -8,11 +9,23 @@ use Rattle.dp_spec.specs.Arithmetic.{arithmetic}
 use Rattle.dp_spec.specs.Calls.{calls_in}
 use Rattle.dp_spec.specs.Sizes.{AreWeights, CanUpdateWeights, CanReward}
 use Rattle.dp_spec.specs.SizesOfLookAhead.{CanLookAhead}
-use Rattle.dp_laws.proofs.SizeLaws.{arithmetic_is_exact, mode_can_look_ahead, mode_can_update_weights,
-    mode_can_reward}
+use Rattle.dp_laws.proofs.SizeLaws.{arithmetic_is_exact, mode_can_look_ahead, mode_can_update_weights}
+use Rattle.dp_laws.proofs.SizeLaws.{mode_can_reward}
+use Rattle.dp_laws.proofs.ScaledWeights.{scaled_spans_action_look_ahead, scaled_spans_look_ahead}
 use Rattle.dp_laws.proofs.Zeros.{mode_keeps_zero}
 use Rattle.dp_mdp.specs.TableRows.{IsTable}
-use Rattle.dp_pomdp.specs.Looking.{IsLooking, weights_of}
+use Rattle.dp_pomdp.specs.Looking.{IsLooking, ScalesActions, ScalesLook, weights_of}
+use Rattle.dp_pomdp.specs.Memos.{AreKept, KeptLook, look_of}
+
+-- the look-ahead of the exact arithmetic scales with the weights
+mode_scales : (e : Bool) (m : Model) → IsModel m → (c : Scales) → c ≡ m.scales → (arithmetic e c).is_exact ≡ true
+    → ScalesLook (arithmetic e c) m × ScalesActions (arithmetic e c) m
+mode_scales true m is c same exact =
+    subst (λ (c : Scales). ScalesLook (arithmetic true c) m × ScalesActions (arithmetic true c) m) (sym same) (
+      λ r look k w ws vs here scaled. scaled_spans_look_ahead m is r look k w ws vs here scaled,
+      λ r look k a w ws vs here scaled. scaled_spans_action_look_ahead m is r look k a w ws vs here scaled,
+    )
+mode_scales false m is c same exact = absurd (true≢false (sym exact ∙ arithmetic_is_exact false c))
 
 -- The arithmetic of the mode of a true fit, made of the scales c, in the branch of a test of x where it is e:
 -- weights of time t can be looked ahead from over the r steps that are left.
@@ -26,6 +39,7 @@ mode_looking e x c m is same branch h t r u fit early left ws one_each are =
     let most = fit.horizon.1 in
     record {
       zero = mode_keeps_zero e c;
+      scales = λ exact. mode_scales e m is c same exact;
       horizon = h;
       push = subst (λ (c : Scales). CanUpdateWeights (arithmetic e c) (calls_in e c) m h) (sym same)
           (mode_can_update_weights m is h some most e mode);
@@ -50,3 +64,10 @@ mode_table e x c m same branch h r le rows table =
       long = let long = is.long in omega arith;
       each = λ q below. is.each q (omega arith);
     }
+
+-- what is kept in the arithmetic of a branch is kept in that of the mode
+pub mode_kept : (e x : Bool) (c : Scales) (m : Model) → c ≡ m.scales → x ≡ e → (ks : List KeptLook)
+    → AreKept (look_of (arithmetic e c) m) ks → AreKept (look_of (arithmetic x m.scales) m) ks
+mode_kept e x c m same branch ks kept =
+    subst (λ (b : Bool). AreKept (look_of (arithmetic b m.scales) m) ks) (sym branch)
+    (subst (λ (c : Scales). AreKept (look_of (arithmetic e c) m) ks) same kept)

@@ -1,6 +1,6 @@
 -- Weights pushed forwards, as loops form them: state by state, and for each state next state by next state.
-use Rattle.std.proofs.Common.{◌≡◌, ◌≢◌, ℕ, suc, ◌^◌, ◌<◌, ◌≤◌, pos, ◌≤ℤ◌, List, length, set, inl, inr, refl, sym, ap,
-    ◌∙◌, arith, get_or-set_other, get_or-set_same}
+use Rattle.std.proofs.Common.{◌≡◌, ◌≢◌, ℕ, suc, ◌^◌, ◌<◌, ◌≤◌, pos, ◌≤ℤ◌, List, length, set, inl, inr, refl, sym, ap}
+use Rattle.std.proofs.Common.{◌∙◌, arith, get_or-set_other, get_or-set_same}
 use Rattle.std.proofs.lemmas.Bool.{cases_lt}
 use Rattle.std.proofs.lemmas.Int.{ints}
 use Rattle.std.proofs.lemmas.List.{length-set}

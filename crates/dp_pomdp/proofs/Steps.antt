@@ -2,8 +2,8 @@
 use Rattle.std.specs.Int.{w128}
 use Rattle.std.proofs.lemmas.Int.{fits_signed_from_abs}
 use Rattle.dp_mdp.proofs.RunningSums.{read_back}
-use Rattle.std.proofs.Common.{FitsSigned, to_z, of_z, add-one, ◌≡◌, ℕ, suc, zero, ◌+◌, ◌-◌, ◌*◌, ◌^◌, ◌<◌, ◌≤◌, ℤ,
-    pos, ◌+ℤ◌, length, unsigned_abs, List, refl, sym, subst, ◌∙◌, arith}
+use Rattle.std.proofs.Common.{FitsSigned, to_z, of_z, add-one, ◌≡◌, ℕ, suc, zero, ◌+◌, ◌-◌, ◌*◌, ◌^◌, ◌<◌, ◌≤◌, ℤ}
+use Rattle.std.proofs.Common.{pos, ◌+ℤ◌, length, unsigned_abs, List, refl, sym, subst, ◌∙◌, arith}
 use Rattle.std.proofs.Math.Nat.{suc-mul}
 use Rattle.std.proofs.lemmas.Int.{ints}
 use Rattle.dp_spec.specs.declared.span.Span.{Span}
@@ -11,8 +11,8 @@ use Rattle.dp_base.specs.Sums.{int_sum}
 use Rattle.dp_spec.specs.Model.{Model, joint_actions, joint_observations}
 use Rattle.dp_spec.specs.Arithmetic.{Arithmetic}
 use Rattle.dp_spec.specs.Calls.{Calls}
-use Rattle.dp_spec.specs.Quantities.{action_look_ahead_in, look_ahead_in, mdp_table_in, weighted_reward_in,
-    weighted_table_in, weights_after_in}
+use Rattle.dp_spec.specs.Quantities.{action_look_ahead_in, look_ahead_in, mdp_table_in, weighted_reward_in}
+use Rattle.dp_spec.specs.Quantities.{weighted_table_in, weights_after_in}
 use Rattle.dp_spec.specs.SizesOfLookAhead.{next_look_size, weighted_table_size}
 use Rattle.dp_laws.proofs.SizeSums.{abs_add, int_sum_part, reward_size_le}
 use Rattle.dp_pomdp.specs.Looking.{AreZero, IsLooking, weights_of}
@@ -82,6 +82,7 @@ pub looking_next : (A : Arithmetic) (C : Calls) (m : Model) (r : ℕ) (ws next :
     → IsLooking A C m r next
 looking_next A C m r ws next a o is pa po len same = record {
   zero = is.zero;
+  scales = is.scales;
   horizon = is.horizon;
   push = is.push;
   reward = is.reward;

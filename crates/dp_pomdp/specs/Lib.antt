@@ -1,2 +1,5 @@
 pub mod Bounding
 pub mod Looking
+pub mod Memos
+pub mod Multiples
+pub mod Rooms

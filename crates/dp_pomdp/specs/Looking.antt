@@ -1,10 +1,10 @@
 -- Weights held in a list, and that an arithmetic can go on from them.
-use Rattle.std.specs.Prelude.{ℕ, ◌+◌, ◌≡◌, ◌<◌, List, length, pos, slice_index_or, suc}
+use Rattle.std.specs.Prelude.{ℕ, ◌+◌, ◌*◌, ◌≡◌, ◌<◌, true, List, length, pos, ◌*ℤ◌, slice_index_or, suc}
 use Rattle.dp_spec.specs.declared.span.Span.{Span}
 use Rattle.dp_spec.specs.Model.{Model, obs_at, trans_at}
 use Rattle.dp_spec.specs.Arithmetic.{Arithmetic, point}
 use Rattle.dp_spec.specs.Calls.{Calls}
-use Rattle.dp_spec.specs.Quantities.{span_sum}
+use Rattle.dp_spec.specs.Quantities.{action_look_ahead_in, look_ahead_in, span_sum}
 use Rattle.dp_spec.specs.Sizes.{AreWeights, CanUpdateWeights, CanReward}
 use Rattle.dp_spec.specs.SizesOfLookAhead.{CanLookAhead}
 use Rattle.dp_spec.specs.Zeros.{KeepsZero}
@@ -13,9 +13,24 @@ use Rattle.dp_spec.specs.Zeros.{KeepsZero}
 abbrev pub weights_of : List Span → ℕ → Span
 weights_of ws s = slice_index_or ws s (point (pos 0))
 
+-- in exact numbers k times the weights have k times the look-ahead
+abbrev pub ScalesLook : Arithmetic → Model → Type 0
+ScalesLook A m =
+    (r look k : ℕ) (w : ℕ → ℕ) (ws vs : ℕ → Span) → ((s : ℕ) → s < m.states → ws s ≡ point (pos (w s)))
+    → ((s : ℕ) → s < m.states → vs s ≡ point (pos (k * w s)))
+    → look_ahead_in A m r vs look ≡ pos k *ℤ look_ahead_in A m r ws look
+
+-- the same of the look-ahead of each joint action
+abbrev pub ScalesActions : Arithmetic → Model → Type 0
+ScalesActions A m =
+    (r look k a : ℕ) (w : ℕ → ℕ) (ws vs : ℕ → Span) → ((s : ℕ) → s < m.states → ws s ≡ point (pos (w s)))
+    → ((s : ℕ) → s < m.states → vs s ≡ point (pos (k * w s)))
+    → action_look_ahead_in A m r vs a look ≡ pos k *ℤ action_look_ahead_in A m r ws a look
+
 -- they are weights of the time at which r steps are left, for which the arithmetic can look ahead
 pub record IsLooking (A : Arithmetic) (C : Calls) (m : Model) (r : ℕ) (ws : List Span) : Type 0 where
   pub zero : KeepsZero A
+  pub scales : A.is_exact ≡ true → ScalesLook A m × ScalesActions A m
   pub horizon : ℕ
   pub push : CanUpdateWeights A C m horizon
   pub reward : CanReward A C m horizon

@@ -1,5 +1,6 @@
 //! Bounds on what can be earned from weights over the states.
-ghost use Rattle.std.specs.Prelude.{◌≡◌, ◌*◌, ◌-◌, ◌<◌, ◌≤◌, length, IfOk};
+ghost use Rattle.std.specs.Prelude.{◌≡◌, ◌*◌, ◌-◌, ◌++◌, ◌<◌, ◌≤◌, Bool, map, length, IfOk};
+ghost use Rattle.std.specs.List.{range_with_len};
 ghost use Rattle.dp_spec.specs.Arithmetic.{arithmetic};
 ghost use Rattle.dp_spec.specs.Mode.{IsTrueFit};
 ghost use Rattle.dp_spec.specs.Model.{joint_actions};
@@ -8,8 +9,13 @@ ghost use Rattle.dp_spec.specs.Sizes.{AreWeights};
 ghost use Rattle.dp_mdp.specs.TableRows.{IsTable};
 ghost use Rattle.dp_pomdp.specs.Bounding.{BoundsEarnings, BoundsEarningsOf};
 ghost use Rattle.dp_pomdp.specs.Looking.{weights_of};
+ghost use Rattle.dp_pomdp.specs.Memos.{AreKept, look_of};
+ghost use Rattle.dp_pomdp.specs.Rooms.{IsRoomFor};
 
+use crate::memo::Memo;
 use crate::recursion::{action_look_ahead, look_ahead};
+use crate::reduce::base_of;
+use crate::rows::{kept_row, push_times};
 use dp_base::Memory;
 use dp_mdp::MdpTable;
 use dp_model::{Fit, Model};
@@ -17,19 +23,36 @@ use dp_num::{Exact, Outward};
 use dp_spec::Span;
 use std::alloc::Global;
 
-/// Room for the weights of look-ahead, one for each state and each step of the look. It is made once,
-/// and its calls take no memory. Contracts see for how many weights it has room.
+/// How many numbers a memo keeps at most.
+const MOST_NUMBERS: usize = 1 << 22;
+
+/// Room for look-ahead, with what was looked ahead before. It is made once for a model and serves any
+/// weights. Contracts see for how many weights it has room, and what it keeps.
+///
+/// In exact mode weights that are a multiple of others have as many times their look-ahead, so what is
+/// kept is that of weights without a common divisor.
 #[derive(Drop)]
 pub struct LookRoom {
+    // One weight for each state and each step of the look.
     weights: Vec<Span>,
+    // Weights divided by their greatest common divisor, and their row.
+    base: Vec<Span>,
+    row: Vec<i128>,
+    looks: Memo,
+    rows: Memo,
 }
 
 impl std::marker::Model for LookRoom {
-    ghost use Rattle.std.specs.Prelude.{ℕ, length};
+    ghost use Rattle.std.specs.Prelude.{length};
+    ghost use Rattle.dp_pomdp.specs.Rooms.{KeptRoom};
 
-    ghost Value = { ℕ };
+    ghost Value = { KeptRoom };
 
-    ghost view = { λ r. length r.weights.items };
+    ghost view = { λ r. record {
+      buffers = length r.weights.items;
+      looks = r.looks;
+      rows = r.rows;
+    } };
 }
 
 impl LookRoom {
@@ -37,11 +60,19 @@ impl LookRoom {
     /// is want of memory.
     pub fn new(alloc: Global, model: &Model, look: u32) -> Result<LookRoom, Memory>
         requires look { look ≤ 16 }
-        ensures { IfOk result (λ room. room ≡ look * model.now.model.states) }
+        ensures { IfOk result (λ room. (e : Bool) → IsRoomFor e model.now.model look room) }
     {
+        let states = model.states() as usize;
+        let actions = model.joint_actions() as usize;
         let none = Span { low: 0, high: 0 };
-        let weights = vec![in alloc; none; look as usize * model.states() as usize]?;
-        Ok(LookRoom { weights })
+        let weights = vec![in alloc; none; look as usize * states]?;
+        Ok(LookRoom {
+            weights,
+            base: Vec::new(alloc),
+            row: Vec::new(alloc),
+            looks: Memo::new(alloc, MOST_NUMBERS / (2 * states + 1)),
+            rows: Memo::new(alloc, MOST_NUMBERS / (2 * states + actions + 1)),
+        })
     }
 
     /// The look-ahead with look `look` from the weights of time `t`, one for each state: the greatest
@@ -60,17 +91,26 @@ impl LookRoom {
         requires fit { IsTrueFit model.now.model fit.horizon fit.exact fit.unit }
         requires table { IsTable (arithmetic fit.exact model.now.model.scales) model.now.model fit.horizon table.now }
         requires time { t ≤ fit.horizon }
-        requires room { look * model.now.model.states ≤ self.old }
+        requires room { IsRoomFor fit.exact model.now.model look self.old }
         requires one_each { length weights.now ≡ model.now.model.states }
         requires weights { AreWeights fit.exact model.now.model t (weights_of weights.now) }
         ensures is { result ≡ look_ahead_in (arithmetic fit.exact model.now.model.scales) model.now.model
             (fit.horizon - t) (weights_of weights.now) look }
         ensures sound { BoundsEarnings fit.exact model.now.model fit.horizon fit.unit t (weights_of weights.now)
             result }
-        ensures room { self.new ≡ self.old }
+        ensures room { IsRoomFor fit.exact model.now.model look self.new }
     {
         model.invariant();
-        look_in_mode(model, fit, table, weights, t, look, &mut self.weights)
+        look_in_mode(
+            model,
+            fit,
+            table,
+            weights,
+            t,
+            look,
+            &mut self.weights,
+            &mut self.looks,
+        )
     }
 
     /// The same where joint action `a` is done first, with a look of at least 1: the reward of `a`, and
@@ -90,17 +130,71 @@ impl LookRoom {
         requires time { t < fit.horizon }
         requires action { a < joint_actions model.now.model }
         requires some_look { 0 < look }
-        requires room { look * model.now.model.states ≤ self.old }
+        requires room { IsRoomFor fit.exact model.now.model look self.old }
         requires one_each { length weights.now ≡ model.now.model.states }
         requires weights { AreWeights fit.exact model.now.model t (weights_of weights.now) }
         ensures is { result ≡ action_look_ahead_in (arithmetic fit.exact model.now.model.scales) model.now.model
             (fit.horizon - t - 1) (weights_of weights.now) a look }
         ensures sound { BoundsEarningsOf fit.exact model.now.model fit.horizon fit.unit t (weights_of weights.now) a
             result }
-        ensures room { self.new ≡ self.old }
+        ensures room { IsRoomFor fit.exact model.now.model look self.new }
     {
         model.invariant();
-        action_in_mode(model, fit, table, weights, t, a, look, &mut self.weights)
+        action_in_mode(
+            model,
+            fit,
+            table,
+            weights,
+            t,
+            a,
+            look,
+            &mut self.weights,
+            &mut self.looks,
+        )
+    }
+
+    /// Adds to a list the row of the weights: for each joint action what `action_bound` gives, with the
+    /// same look. A row that was computed before, of these weights or of a multiple, is not computed
+    /// again. The only error is want of memory.
+    pub fn push_row(
+        &mut self,
+        model: &Model,
+        fit: Fit,
+        table: &MdpTable,
+        weights: &[Span],
+        t: u32,
+        look: u32,
+        row: &mut Vec<i128>,
+    ) -> Result<(), Memory>
+        requires fit { IsTrueFit model.now.model fit.horizon fit.exact fit.unit }
+        requires table { IsTable (arithmetic fit.exact model.now.model.scales) model.now.model fit.horizon table.now }
+        requires time { t < fit.horizon }
+        requires some_look { 0 < look }
+        requires room { IsRoomFor fit.exact model.now.model look self.old }
+        requires one_each { length weights.now ≡ model.now.model.states }
+        requires weights { AreWeights fit.exact model.now.model t (weights_of weights.now) }
+        ensures is { IfOk result (λ _. row.new.items ≡ row.old.items
+            ++ map (λ a. action_look_ahead_in (arithmetic fit.exact model.now.model.scales) model.now.model
+            (fit.horizon - t - 1) (weights_of weights.now) a look)
+            (range_with_len 0 (joint_actions model.now.model))) }
+        ensures room { IsRoomFor fit.exact model.now.model look self.new }
+    {
+        model.invariant();
+        let factor = base_of(fit.exact, weights, &mut self.base)?;
+        kept_row(
+            model,
+            fit,
+            table,
+            &self.base,
+            t,
+            look,
+            &mut self.weights,
+            &mut self.looks,
+            &mut self.rows,
+            &mut self.row,
+        )?;
+        push_times(factor, &self.row, row)?;
+        Ok(())
     }
 }
 
@@ -113,6 +207,7 @@ fn look_in_mode(
     t: u32,
     look: u32,
     room: &mut [Span],
+    memo: &mut Memo,
 ) -> i128
     requires fit { IsTrueFit model.now.model fit.horizon fit.exact fit.unit }
     requires table { IsTable (arithmetic fit.exact model.now.model.scales) model.now.model fit.horizon table.now }
@@ -120,17 +215,20 @@ fn look_in_mode(
     requires room { look * model.now.model.states ≤ length room.old }
     requires one_each { length weights.now ≡ model.now.model.states }
     requires weights { AreWeights fit.exact model.now.model t (weights_of weights.now) }
-    ensures { result ≡ look_ahead_in (arithmetic fit.exact model.now.model.scales) model.now.model
+    requires memo { AreKept (look_of (arithmetic fit.exact model.now.model.scales) model.now.model) memo.old }
+    ensures is { result ≡ look_ahead_in (arithmetic fit.exact model.now.model.scales) model.now.model
         (fit.horizon - t) (weights_of weights.now) look }
+    ensures room { length room.new ≡ length room.old }
+    ensures memo { AreKept (look_of (arithmetic fit.exact model.now.model.scales) model.now.model) memo.new }
 {
     model.invariant();
     let rest = fit.horizon - t;
     if fit.exact {
         let arith = Exact::of(model.scales());
-        look_ahead(&arith, model, table, rest, weights, look, room)
+        look_ahead(&arith, model, table, true, rest, weights, look, room, memo)
     } else {
         let arith = Outward::of(model.scales());
-        look_ahead(&arith, model, table, rest, weights, look, room)
+        look_ahead(&arith, model, table, false, rest, weights, look, room, memo)
     }
 }
 
@@ -144,6 +242,7 @@ fn action_in_mode(
     a: u32,
     look: u32,
     room: &mut [Span],
+    memo: &mut Memo,
 ) -> i128
     requires fit { IsTrueFit model.now.model fit.horizon fit.exact fit.unit }
     requires table { IsTable (arithmetic fit.exact model.now.model.scales) model.now.model fit.horizon table.now }
@@ -153,17 +252,24 @@ fn action_in_mode(
     requires room { look * model.now.model.states ≤ length room.old }
     requires one_each { length weights.now ≡ model.now.model.states }
     requires weights { AreWeights fit.exact model.now.model t (weights_of weights.now) }
-    ensures { result ≡ action_look_ahead_in (arithmetic fit.exact model.now.model.scales) model.now.model
+    requires memo { AreKept (look_of (arithmetic fit.exact model.now.model.scales) model.now.model) memo.old }
+    ensures is { result ≡ action_look_ahead_in (arithmetic fit.exact model.now.model.scales) model.now.model
         (fit.horizon - t - 1) (weights_of weights.now) a look }
+    ensures room { length room.new ≡ length room.old }
+    ensures memo { AreKept (look_of (arithmetic fit.exact model.now.model.scales) model.now.model) memo.new }
 {
     model.invariant();
     let rest = fit.horizon - t - 1;
     if fit.exact {
         let arith = Exact::of(model.scales());
-        action_look_ahead(&arith, model, table, rest, weights, a, look, room)
+        action_look_ahead(
+            &arith, model, table, true, rest, weights, a, look, room, memo,
+        )
     } else {
         let arith = Outward::of(model.scales());
-        action_look_ahead(&arith, model, table, rest, weights, a, look, room)
+        action_look_ahead(
+            &arith, model, table, false, rest, weights, a, look, room, memo,
+        )
     }
 }
 

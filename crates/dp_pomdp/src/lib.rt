@@ -2,7 +2,10 @@
 #![tactic(auto)]
 
 mod bounds;
+mod memo;
 mod recursion;
+mod reduce;
+mod rows;
 mod step;
 
 pub use bounds::{LookRoom, action_bound, tail_bound};

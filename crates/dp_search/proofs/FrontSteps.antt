@@ -6,8 +6,8 @@ use Rattle.dp_spec.specs.Fitting.{front_bound}
 use Rattle.dp_spec.specs.Front.{Front, fixed_joint_action}
 use Rattle.dp_spec.specs.Model.{Model}
 use Rattle.dp_spec.specs.Quantities.{bound_in, earned_reward_in}
-use Rattle.dp_spec.specs.Steps.{IsUnassigned, advanced_front, advanced_if, chosen_front, front_after_choice,
-    is_complete}
+use Rattle.dp_spec.specs.Steps.{IsUnassigned, advanced_front, advanced_if, chosen_front, front_after_choice}
+use Rattle.dp_spec.specs.Steps.{is_complete}
 use Rattle.dp_spec.specs.Wide.{has_room, is_wide}
 use Rattle.dp_laws.proofs.FrontRoom.{choice_keeps_room}
 use Rattle.dp_cluster.specs.KeptFronts.{IsFrontOf, KeptFront}

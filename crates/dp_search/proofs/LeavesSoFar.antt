@@ -1,6 +1,6 @@
 -- The greatest leaf of a branch, child after child.
-use Rattle.std.proofs.Common.{◌≡◌, ℕ, zero, suc, ◌<◌, ◌≤◌, Bool, true, false, cond, ℤ, pos, List, [], ◌∷◌, length,
-    drop, get_or, map, refl, sym, ap, arith}
+use Rattle.std.proofs.Common.{◌≡◌, ℕ, zero, suc, ◌<◌, ◌≤◌, Bool, true, false, cond, ℤ, pos, List, [], ◌∷◌, length}
+use Rattle.std.proofs.Common.{drop, get_or, map, refl, sym, ap, arith}
 use Rattle.std.specs.Int.{int_max}
 use Rattle.std.proofs.lemmas.Int.{ints}
 use Rattle.dp_spec.specs.BoundTree.{BoundTree, greatest_leaf, greatest_leaf_of, leaf}

@@ -8,10 +8,10 @@ pub mod FrontSteps
 pub mod UpperWeights
 pub mod SpreadSteps
 pub mod PlaceLists
-pub mod WideNodes
 pub mod VersionPolicies
 pub mod UnfinishedFronts
 pub mod BranchPlaces
 pub mod Expansions
 pub mod PlannerFronts
 pub mod PlannedCertificates
+pub mod UnderwayFronts

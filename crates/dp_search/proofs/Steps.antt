@@ -1,6 +1,6 @@
 -- A search goes on: a leaf is looked at, the greatest leaf is grown, the search ends.
-use Rattle.std.proofs.Common.{◌≡◌, ℕ, zero, suc, ◌+◌, ◌*◌, ◌<◌, ◌≤◌, true, false, ◌⊎◌, ℤ, pos, ◌≤ℤ◌, ◌<ℤ◌, List, [],
-    ◌∷◌, length, get_or, map, refl, sym, ap, subst, ◌∙◌, arith, inl, inr, All}
+use Rattle.std.proofs.Common.{◌≡◌, ℕ, zero, suc, ◌+◌, ◌*◌, ◌<◌, ◌≤◌, true, false, ◌⊎◌, ℤ, pos, ◌≤ℤ◌, ◌<ℤ◌, List, []}
+use Rattle.std.proofs.Common.{◌∷◌, length, get_or, map, refl, sym, ap, subst, ◌∙◌, arith, inl, inr, All}
 use Rattle.std.specs.Int.{int_min}
 use Rattle.std.specs.List.Sorted.{IsPermutation}
 use Rattle.std.proofs.lemmas.Int.{ints}

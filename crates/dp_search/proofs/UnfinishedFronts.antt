@@ -1,6 +1,6 @@
 -- Fronts with a class that has no action.
-use Rattle.std.proofs.Common.{◌≡◌, ℕ, zero, suc, ◌*◌, ◌<◌, Bool, true, false, ◌&&◌, List, [], ◌∷◌, length, get_or,
-    Option, None, Some, refl, sym, ap, subst, ◌∙◌, arith}
+use Rattle.std.proofs.Common.{◌≡◌, ℕ, zero, suc, ◌*◌, ◌<◌, Bool, true, false, ◌&&◌, List, [], ◌∷◌, length, get_or}
+use Rattle.std.proofs.Common.{Option, None, Some, refl, sym, ap, subst, ◌∙◌, arith}
 use Rattle.std.specs.Prelude.{replicate}
 use Rattle.std.proofs.lemmas.List.{length-replicate}
 use Rattle.dp_laws.proofs.MergedAgents.{get_or-without_below, length-without}
@@ -9,8 +9,8 @@ use Rattle.dp_spec.specs.Front.{AgentFront, Front, class_counts}
 use Rattle.dp_spec.specs.JointNumbers.{product}
 use Rattle.dp_spec.specs.Merge.{merged_agents, merged_front}
 use Rattle.dp_spec.specs.Model.{IsModel, Model}
-use Rattle.dp_spec.specs.Steps.{IsUnassigned, advanced_agent, advanced_agents, advanced_front, all_chosen,
-    chosen_front, front_after_choice, is_complete}
+use Rattle.dp_spec.specs.Steps.{IsUnassigned, advanced_agent, advanced_agents, advanced_front, all_chosen}
+use Rattle.dp_spec.specs.Steps.{chosen_front, front_after_choice, is_complete}
 use Rattle.dp_spec.specs.WellFormed.{IsFront}
 use Rattle.dp_cluster.proofs.AdvancedParts.{some_class}
 use Rattle.dp_cluster.proofs.ChosenActions.{agents_of}

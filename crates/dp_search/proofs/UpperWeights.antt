@@ -1,6 +1,7 @@
 -- The upper weights of an agent's classes, joint class after joint class.
-use Rattle.std.proofs.Common.{◌≡◌, ℕ, suc, ◌+◌, ◌*◌, ◌/◌, ◌%◌, ◌^◌, ◌<◌, ◌≤◌, Bool, true, false, cond, eqb, inl, inr,
-    ℤ, pos, ◌+ℤ◌, unsigned_abs, List, length, get_or, set, add-one, FitsSigned, to_z, of_z, sym, ap, ◌∙◌, arith}
+use Rattle.std.proofs.Common.{◌≡◌, ℕ, suc, ◌+◌, ◌*◌, ◌/◌, ◌%◌, ◌^◌, ◌<◌, ◌≤◌, Bool, true, false, cond, eqb, inl, inr}
+use Rattle.std.proofs.Common.{ℤ, pos, ◌+ℤ◌, unsigned_abs, List, length, get_or, set, add-one, FitsSigned, to_z, of_z}
+use Rattle.std.proofs.Common.{sym, ap, ◌∙◌, arith}
 use Rattle.std.specs.Int.{w128}
 use Rattle.std.proofs.lemmas.Int.{fits_signed_from_abs, ints, to_z-of_z}
 use Rattle.std.proofs.lemmas.Bool.{cases_eq}

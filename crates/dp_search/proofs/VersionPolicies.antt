@@ -7,10 +7,12 @@ use Rattle.dp_spec.specs.Mode.{IsWithinLimits, IsWithinVersion}
 use Rattle.dp_spec.specs.Model.{IsModel, Model, joint_actions}
 use Rattle.dp_spec.specs.PlainForm.{plain_form}
 use Rattle.dp_spec.specs.PolicyTree.{IsPolicyOf, PolicyTree}
-use Rattle.dp_spec.specs.SharedPolicy.{unfolded}
+use Rattle.dp_spec.specs.SharedForm.{shared_form}
+use Rattle.dp_spec.specs.SharedPolicy.{IsSharedOf, SharedPolicy, unfolded}
 use Rattle.dp_spec.specs.SharedWorth.{form_in, low_worth}
 use Rattle.dp_laws.proofs.ConstantRows.{constant_rows_is}
 use Rattle.dp_laws.proofs.PlainForms.{plain_form_is}
+use Rattle.dp_laws.proofs.SharedForms.{shared_form_is}
 use Rattle.dp_model.specs.declared.horizon.Fit.{Fit}
 use Rattle.dp_policy.specs.SharedRows.{HorizonRows}
 use Rattle.dp_search.specs.FrontPlanners.{IsPlannerPolicy, planner_worth}
@@ -91,3 +93,37 @@ is_second m h version within other = elim within.known [
   | inl one ↦ absurd (other one)
   | inr two ↦ two
 ]
+
+-- the shared form of shared rows in version 2
+pub reduced_kept : (m : Model) (fit : Fit) (version : ℕ) (rows : SharedPolicy) → IsModel m → version ≡ 2
+    → 0 < fit.horizon → IsSharedOf m fit.horizon rows
+    → IsFormOf m fit version (unfolded rows)
+    (record { horizon = fit.horizon; rows = shared_form m fit.horizon (unfolded rows) })
+unfolding low_worth form_in
+reduced_kept m fit version rows is two some shared =
+    let are = shared_form_is m fit.horizon rows is some shared in
+    subst (λ (v : ℕ). IsFormOf m fit v (unfolded rows)
+    (record { horizon = fit.horizon; rows = shared_form m fit.horizon (unfolded rows) }))
+    (sym two) (record {
+      policy = record {
+        horizon = refl;
+        shared = are.0;
+        plain = λ e. absurd (omega (arith, e));
+        shared_form = λ e. are.2;
+      };
+      means = are.1;
+      worth = refl;
+    })
+
+-- rows that were made as a shared form
+pub reduced_made : (m : Model) (fit : Fit) (version : ℕ) (qs : List PolicyTree) → IsModel m → version ≡ 2
+    → 0 < fit.horizon → (q : HorizonRows) → q.horizon ≡ fit.horizon → IsSharedOf m fit.horizon q.rows
+    → unfolded q.rows ≡ qs → (p : HorizonRows)
+    → p ≡ record { horizon = q.horizon; rows = shared_form m q.horizon (unfolded q.rows) }
+    → IsFormOf m fit version qs p
+reduced_made m fit version qs is two some q same shared means p made =
+    subst (λ (rs : List PolicyTree). IsFormOf m fit version rs p) means
+    (subst (IsFormOf m fit version (unfolded q.rows)) (sym (made ∙ (λ j. record {
+      horizon = same j;
+      rows = shared_form m (same j) (unfolded q.rows);
+    }))) (reduced_kept m fit version q.rows is two some shared))

@@ -18,13 +18,13 @@ use Rattle.dp_model.specs.Horizons.{fit_of}
 use Rattle.dp_policy.specs.SharedRows.{HorizonRows}
 use Rattle.dp_cluster.specs.KeptFronts.{IsFrontOf, KeptFront}
 use Rattle.dp_game.specs.Bounders.{IsBounderOf, KeptBounder}
-use Rattle.dp_search.specs.declared.constants.ConstantWorth.{ConstantWorth}
+use Rattle.dp_search.specs.declared.action_worth.ActionWorth.{ActionWorth}
 use Rattle.dp_search.specs.declared.options.PlanOpts.{PlanOpts}
 use Rattle.dp_search.specs.Constants.{IsLeastGreatest, constant_low_worth}
 
 -- A planner is made for a model, a fit of its version, and a look, with the best constant policy.
 pub record IsPlannerFor (m : Model) (f : Fit) (opts : PlanOpts) (b : KeptBounder)
-    (w : ConstantWorth) : Type 0 where
+    (w : ActionWorth) : Type 0 where
   pub model : IsModel m
   pub within : IsWithinVersion m f.horizon opts.version
   pub some_step : 0 < f.horizon

@@ -17,19 +17,18 @@ use Rattle.dp_policy.specs.SharedRows.{HorizonRows}
 use Rattle.dp_tree.specs.TreeValue.{bound_tree}
 use Rattle.dp_cluster.specs.KeptFronts.{KeptFront}
 use Rattle.dp_game.specs.Bounders.{KeptBounder}
-use Rattle.dp_search.specs.declared.constants.ConstantWorth.{ConstantWorth}
+use Rattle.dp_search.specs.declared.action_worth.ActionWorth.{ActionWorth}
 use Rattle.dp_search.specs.declared.options.PlanOpts.{PlanOpts}
 use Rattle.dp_search.specs.declared.place.Place.{Place}
 use Rattle.dp_search.specs.declared.search.Searched.{Searched}
 use Rattle.dp_search.specs.FrontPlanners.{IsPlannerFor, IsPlannerFront, planner_space}
 use Rattle.dp_search.specs.Rules.{IsBranchingRule}
 
--- A planner is made for a model, and its rule may be called. As yet the version is 1.
+-- A planner is made for a model, and its rule may be called.
 pub record IsReadyPlanner {F : Type 0} (g : Shared F (Bor (List Place) × Unit {0}) ℕ) (m : Model) (f : Fit)
-    (opts : PlanOpts) (b : KeptBounder) (w : ConstantWorth) (r : F) : Type 0 where
+    (opts : PlanOpts) (b : KeptBounder) (w : ActionWorth) (r : F) : Type 0 where
   pub planner : IsPlannerFor m f opts b w
   pub rule : IsBranchingRule g r
-  pub first : opts.version ≡ 1
 
 -- A front that a search holds: one of the planner, where before the horizon some class has no action.
 pub record IsSearchFront (m : Model) (h : ℕ) (k : KeptFront) : Type 0 where

@@ -9,3 +9,4 @@ pub mod Toy
 pub mod GreatestLeaves
 pub mod FrontPlaces
 pub mod Expansions
+pub mod Completions

@@ -1,4 +1,4 @@
-ghost use Rattle.std.specs.Prelude.{◌≡◌, ◌+◌, ◌<◌, ◌≤◌, ◌==◌, ◌||◌, ℕ, ℤ, IfOk};
+ghost use Rattle.std.specs.Prelude.{◌≡◌, ◌<◌, ◌≤◌, ◌==◌, ◌||◌, IfOk};
 ghost use Rattle.dp_spec.specs.Arithmetic.{arithmetic};
 ghost use Rattle.dp_spec.specs.ConstantPolicy.{constant_policy};
 ghost use Rattle.dp_spec.specs.ConstantRows.{constant_rows};
@@ -9,19 +9,13 @@ ghost use Rattle.dp_spec.specs.SharedWorth.{shared_worth_in};
 ghost use Rattle.dp_model.specs.Horizons.{fit_of};
 ghost use Rattle.dp_search.specs.Constants.{IsLeastGreatest, constant_low_worth};
 
+use crate::action_worth::{ActionWorth, better};
 use crate::look::copied;
 use dp_base::Memory;
 use dp_model::{Fit, Model};
 use dp_policy::{constant, constant_rows};
 use dp_value::{Room, SharedRoom, worth, worth_shared};
 use std::alloc::Global;
-
-/// A joint action, and the low worth of the constant policy that always does it.
-#[derive(Clone, Copy)]
-pub struct ConstantWorth {
-    pub action: u32,
-    pub worth: i128,
-}
 
 /// The least joint action among those whose constant policies have the greatest low worth in a version of
 /// certificates, with that worth.
@@ -30,7 +24,7 @@ pub fn best_constant(
     model: &Model,
     fit: Fit,
     version: u32,
-) -> Result<ConstantWorth, Memory>
+) -> Result<ActionWorth, Memory>
     requires some_step { 0 < fit.horizon }
     requires limit { fit.horizon ≤ 24 }
     requires within { IsWithinVersion model.now.model fit.horizon version }
@@ -41,28 +35,15 @@ pub fn best_constant(
         b.worth ≡ constant_low_worth fit.exact model.now.model version fit.horizon b.action) }
 {
     model.invariant();
-    let mut best = ConstantWorth {
+    let mut best = ActionWorth {
         action: 0,
         worth: low_worth(alloc, model, fit, version, 0)?,
     };
     for action in 1..model.joint_actions() {
         let worth = low_worth(alloc, model, fit, version, action)?;
-        best = better(action, best, ConstantWorth { action, worth });
+        best = better(action, best, ActionWorth { action, worth });
     }
     Ok(best)
-}
-
-// The second where its worth is the greater, else the first.
-fn better(n: u32, first: ConstantWorth, second: ConstantWorth) -> ConstantWorth
-    requires next { second.action ≡ n }
-    ensures best { (w : ℕ → ℤ) → IsLeastGreatest n w first.action → first.worth ≡ w first.action
-        → second.worth ≡ w n → IsLeastGreatest (n + 1) w result.action × (result.worth ≡ w result.action) }
-{
-    if first.worth < second.worth {
-        second
-    } else {
-        first
-    }
 }
 
 // The low worth of the constant policy of a joint action in a version: of its plain form in version 1 and

@@ -1,6 +1,6 @@
 //! The step that is made at a front, with the fronts after it and their bounds.
-ghost use Rattle.std.specs.Prelude.{◌≡◌, ◌<◌, ◌∷◌, [], ℕ, true, false, All, None, length, map, get_or, slice_index,
-    IfOk, IfSome, OnOk};
+ghost use Rattle.std.specs.Prelude.{◌≡◌, ◌<◌, ◌∷◌, [], ℕ, true, false, All, None, length, map, get_or, slice_index};
+ghost use Rattle.std.specs.Prelude.{IfOk, IfSome, OnOk};
 ghost use Rattle.std.specs.List.{range_with_len};
 ghost use Rattle.dp_spec.specs.Front.{Front as PlainFront};
 ghost use Rattle.dp_spec.specs.Merge.{merged_front};
@@ -15,6 +15,7 @@ ghost use Rattle.dp_cluster.specs.KeptFronts.{IsFrontOf, KeptFront};
 ghost use Rattle.dp_game.specs.Bounders.{IsBounderOf};
 ghost use Rattle.dp_game.specs.Games.{IsGameOf, own_choice};
 ghost use Rattle.dp_search.specs.declared.planner.Child.{Child as SpecChild};
+ghost use Rattle.dp_search.specs.Completions.{bound_after};
 ghost use Rattle.dp_search.specs.Expansions.{IsChild, IsExpansion, mode_bound};
 ghost use Rattle.dp_search.specs.FrontPlanners.{IsPlannerFront, planner_space, widest};
 ghost use Rattle.dp_search.specs.Rules.{IsBranchingRule, MayAnswer};
@@ -26,18 +27,18 @@ use crate::options::PlanOpts;
 use crate::place::Place;
 use crate::planner::{Child, Expanded};
 use dp_base::Memory;
-use dp_cluster::Front;
+use dp_cluster::{Front, MergeFault};
 use dp_game::{Bounder, Game};
 use dp_model::Model;
 use dp_spec::Step;
 use std::alloc::Global;
 
-// Two classes of an agent that can be merged.
+/// Two classes of an agent that can be merged.
 #[derive(Clone, Copy)]
-struct Pair {
-    agent: u32,
-    first: u32,
-    second: u32,
+pub(crate) struct Pair {
+    pub agent: u32,
+    pub first: u32,
+    pub second: u32,
 }
 
 /// The step that is made at a front before the horizon that is not wide, with the fronts after it and
@@ -71,8 +72,12 @@ pub(crate) fn expanded<F: Fn(&[Place]) -> usize>(
     }
 }
 
-// The pair that is merged: where classes are merged, the least pair of the first agent that has one.
-fn pair_to_merge(alloc: Global, front: &Front, merging: bool) -> Result<Option<Pair>, Memory>
+/// The pair that is merged: where classes are merged, the least pair of the first agent that has one.
+pub(crate) fn pair_to_merge(
+    alloc: Global,
+    front: &Front,
+    merging: bool,
+) -> Result<Option<Pair>, Memory>
     requires of_model { (m : PlainModel) × (IsFrontOf m front.now) }
     requires stage { front.now.front.stage < front.now.horizon }
     ensures merging { IfOk result (λ o. IfSome o (λ _. merging ≡ true)) }
@@ -111,6 +116,26 @@ fn next_pair(alloc: Global, front: &Front) -> Result<Option<Pair>, Memory>
     Ok(None)
 }
 
+/// The front after the merge of two classes that can be merged. The only fault is want of memory.
+pub(crate) fn joined(alloc: Global, front: &Front, pair: Pair) -> Result<Front, Memory>
+    requires pair { (m : PlainModel) × (IsFrontOf m front.now × IsPair m front.now.front pair.agent pair.first
+        pair.second) }
+    requires exact { front.now.is_exact ≡ true }
+    requires stage { front.now.front.stage < front.now.horizon }
+    ensures front { IfOk result (λ f.
+        f.front ≡ merged_front front.now.front pair.agent pair.first pair.second) }
+    ensures horizon { IfOk result (λ f. f.horizon ≡ front.now.horizon) }
+    ensures of_model { IfOk result (λ f. (m : PlainModel) → IsFrontOf m front.now → IsFrontOf m f) }
+{
+    match front.merge(alloc, pair.agent, pair.first, pair.second) {
+        Ok(next) => Ok(next),
+        Err(fault) => match fault {
+            MergeFault::Memory => Err(Memory),
+            _ => unreachable!(),
+        },
+    }
+}
+
 // The merge of two classes, with the front after it.
 fn merged(
     alloc: Global,
@@ -123,29 +148,25 @@ fn merged(
     requires front { IsPlannerFront model.now.model bounder.now.horizon front.now }
     requires stage { front.now.front.stage < bounder.now.horizon }
     requires pair { IsPair model.now.model front.now.front pair.agent pair.first pair.second }
+    requires exact { front.now.is_exact ≡ true }
     ensures step { IfOk result (λ x. x.step ≡ Merge pair.agent pair.first pair.second) }
     ensures fronts { IfOk result (λ x. map (λ (c : SpecChild KeptFront). c.front.front) x.children.items
         ≡ merged_front front.now.front pair.agent pair.first pair.second ∷ []) }
     ensures children { IfOk result (λ x. All (IsChild model.now.model bounder.now.horizon bounder.now.look)
         x.children.items) }
 {
-    // The classes are equivalent, so that no fault but want of memory comes.
-    match front.merge(alloc, pair.agent, pair.first, pair.second) {
-        Err(_) => Err(Memory),
-        Ok(next) => {
-            let bound = own_bound(alloc, model, bounder, &next)?;
-            let mut children = Vec::new(alloc);
-            children.push(Child { front: next, bound })?;
-            Ok(Expanded {
-                step: Step::Merge {
-                    agent: pair.agent,
-                    first: pair.first,
-                    second: pair.second,
-                },
-                children,
-            })
-        }
-    }
+    let next = joined(alloc, front, pair)?;
+    let bound = own_bound(alloc, model, bounder, &next)?;
+    let mut children = Vec::new(alloc);
+    children.push(Child { front: next, bound })?;
+    Ok(Expanded {
+        step: Step::Merge {
+            agent: pair.agent,
+            first: pair.first,
+            second: pair.second,
+        },
+        children,
+    })
 }
 
 // The branch on the place that the rule answers, with the fronts after it.
@@ -260,12 +281,13 @@ fn child_of(
     }
 }
 
-// The bound after an action for a class that has none, at the same stage. The game is left as it was.
-fn chosen_bound(game: &mut Game, agent: u32, class: u32, action: u32) -> i128
+/// The bound after an action for a class that has none, at the same stage. The game is left as it was.
+pub(crate) fn chosen_bound(game: &mut Game, agent: u32, class: u32, action: u32) -> i128
     requires agent { agent < length game.old.choices }
     requires class { class < length (get_or game.old.choices agent []) }
     requires unassigned { own_choice game.old agent class ≡ None }
     requires action { action < slice_index game.old.actions agent }
+    ensures is { result ≡ bound_after game.old agent class action }
     ensures bound { (m : PlainModel) (h look : ℕ) (F : PlainFront) → IsGameOf m h look F game.old →
         result ≡ mode_bound m h look (chosen_front F agent class action) }
     ensures game { game.new ≡ game.old }

@@ -1,6 +1,6 @@
 //! The places where a branch may stand.
-ghost use Rattle.std.specs.Prelude.{◌≡◌, ◌<◌, ◌≤◌, ◌+◌, ◌*◌, ◌^◌, ◌++◌, ℕ, ℤ, pos, ◌+ℤ◌, neg_ℤ, ◌≤ℤ◌, unsigned_abs,
-    true, false, None, length, get_or, map, IfOk, OnOk};
+ghost use Rattle.std.specs.Prelude.{◌≡◌, ◌<◌, ◌≤◌, ◌+◌, ◌*◌, ◌^◌, ◌++◌, ℕ, ℤ, pos, ◌+ℤ◌, neg_ℤ, ◌≤ℤ◌, unsigned_abs};
+ghost use Rattle.std.specs.Prelude.{true, false, None, length, get_or, map, IfOk, OnOk};
 ghost use Rattle.std.specs.Int.{int_min};
 ghost use Rattle.dp_base.specs.Sums.{int_sum, nat_sum};
 ghost use Rattle.dp_spec.specs.Arithmetic.{arithmetic};

@@ -2,15 +2,15 @@
 ghost use Rattle.std.specs.Prelude.{◌≡◌};
 ghost use Rattle.dp_search.specs.FrontPlanners.{widest};
 
+use crate::action_worth::ActionWorth;
 use crate::bounding::own_bound;
 use crate::chooser::Chooser;
-use crate::constants::ConstantWorth;
+use crate::completion::completed;
 use crate::expansion::expanded;
 use crate::options::PlanOpts;
 use crate::place::Place;
 use crate::planner::{Child, Expanded, Planner};
 use crate::policies::{constant_of_version, full_of_version, policy_worth};
-use crate::wide::is_wide;
 use dp_base::Memory;
 use dp_cluster::Front;
 use dp_game::Bounder;
@@ -26,7 +26,7 @@ pub(crate) struct FrontPlanner<'a, F> {
     pub fit: Fit,
     pub options: PlanOpts,
     pub bounder: &'a Bounder,
-    pub best: ConstantWorth,
+    pub best: ActionWorth,
     pub rule: &'a Chooser<F>,
 }
 
@@ -109,7 +109,7 @@ impl<'a, F: Fn(&[Place]) -> usize> Planner for FrontPlanner<'a, F> {
     }
 
     fn is_wide(&self, above: u32, front: &Front) -> bool {
-        is_wide(self.model, front, above)
+        front.is_wide(self.model, above)
     }
 
     fn policy(&self, alloc: Global, front: &Front) -> Result<Shared, Memory> {
@@ -118,14 +118,21 @@ impl<'a, F: Fn(&[Place]) -> usize> Planner for FrontPlanner<'a, F> {
         Ok(policy)
     }
 
-    // None is looked for.
     fn completion(
         &self,
-        _alloc: Global,
+        alloc: Global,
         _room: &mut (),
-        _front: &Front,
+        front: &Front,
     ) -> Result<Option<Shared>, Memory> {
-        Ok(None)
+        let found = completed(alloc, self.model, self.bounder, self.options.merge, front)?;
+        match found {
+            None => Ok(None),
+            Some(full) => {
+                let version = self.options.version;
+                let policy = full_of_version(alloc, self.model, self.fit, version, &full)?;
+                Ok(Some(policy))
+            }
+        }
     }
 
     fn expand(

@@ -1,9 +1,11 @@
 //! Best-first search for a bound tree, over any space of fronts, and the planner over the fronts of a model.
 #![tactic(auto)]
 
+mod action_worth;
 mod bounding;
 mod children;
 mod chooser;
+mod completion;
 mod constants;
 mod expansion;
 mod front_places;
@@ -21,7 +23,6 @@ mod search;
 mod state;
 #[cfg(test)]
 mod tests;
-mod wide;
 
 pub use chooser::Chooser;
 pub use front_places::places;

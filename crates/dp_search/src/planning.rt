@@ -28,7 +28,9 @@ use std::alloc::Global;
 ///
 /// The certificate is valid, lean and merged as far as asked for, its policy is at least as good as every
 /// constant one and as each that a full leaf fixes, and each branch stands where the rule answers. The
-/// version is 1; version 2 comes with the rows of a full front. The only error is want of memory.
+/// version is 1 or 2: in version 1 the policy has a row for each own history and the horizon keeps the
+/// limits of such policies, and in version 2 the policy is a shared form, over up to 24 steps. The only
+/// error is want of memory.
 pub fn plan<F: Fn(&[Place]) -> usize>(
     alloc: Global,
     model: &Model,
@@ -36,7 +38,6 @@ pub fn plan<F: Fn(&[Place]) -> usize>(
     options: PlanOpts,
     rule: &Chooser<F>,
 ) -> Result<Certificate, Memory>
-    requires first { options.version ≡ 1 }
     requires within { IsWithinVersion model.now.model fit.horizon options.version }
     requires fit { fit ≡ fit_of model.now.model fit.horizon }
     requires some_look { 1 ≤ options.look }

@@ -3,7 +3,7 @@ ghost use Rattle.std.specs.Prelude.{◌≡◌, ◌<◌, ◌≤◌, IfOk};
 ghost use Rattle.dp_spec.specs.Arithmetic.{arithmetic};
 ghost use Rattle.dp_spec.specs.ConstantPolicy.{constant_policy};
 ghost use Rattle.dp_spec.specs.FullPolicy.{full_policy};
-ghost use Rattle.dp_spec.specs.Mode.{IsWithinLimits, IsWithinVersion};
+ghost use Rattle.dp_spec.specs.Mode.{IsWithinVersion};
 ghost use Rattle.dp_spec.specs.Model.{joint_actions};
 ghost use Rattle.dp_spec.specs.SharedPolicy.{IsSharedOf, unfolded};
 ghost use Rattle.dp_spec.specs.SharedWorth.{low_worth};
@@ -16,7 +16,7 @@ use crate::look::copied;
 use dp_base::Memory;
 use dp_cluster::Front;
 use dp_model::{Fit, Model};
-use dp_policy::{Shared, constant, constant_rows, plain};
+use dp_policy::{Shared, constant, constant_rows, plain, reduce};
 use dp_value::{SharedRoom, worth_shared};
 use std::alloc::Global;
 
@@ -66,7 +66,8 @@ pub(crate) fn constant_of_version(
     }
 }
 
-// The policy that a full front fixes, in the plain form of version 1.
+// The policy that a full front fixes, in the form of a version: plain in version 1, and in version 2 the
+// shared form of its rows, one for each class.
 pub(crate) fn full_of_version(
     alloc: Global,
     model: &Model,
@@ -74,8 +75,7 @@ pub(crate) fn full_of_version(
     version: u32,
     front: &Front,
 ) -> Result<Shared, Memory>
-    requires first { version ≡ 1 }
-    requires within { IsWithinLimits model.now.model fit.horizon }
+    requires within { IsWithinVersion model.now.model fit.horizon version }
     requires of_model { IsFrontOf model.now.model front.now }
     requires horizon { front.now.horizon ≡ fit.horizon }
     requires full { front.now.front.stage ≡ front.now.horizon }
@@ -85,8 +85,13 @@ pub(crate) fn full_of_version(
         (full_policy model.now.model front.now.front)) }
 {
     model.invariant();
-    let _first = version;
-    let policy = front.full_policy(alloc, model)?;
-    let rows = plain(alloc, &policy, model)?;
-    Ok(rows)
+    if version == 1 {
+        let policy = front.full_policy(alloc, model)?;
+        let rows = plain(alloc, &policy, model)?;
+        Ok(rows)
+    } else {
+        let rows = front.full_rows(alloc, model)?;
+        let form = reduce(alloc, &rows, model)?;
+        Ok(form)
+    }
 }

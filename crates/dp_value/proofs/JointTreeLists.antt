@@ -1,7 +1,7 @@
 -- The trees of a joint policy in an array: by agent, with the joint action at their roots, and after a joint
 -- observation.
-use Rattle.std.proofs.Common.{◌≡◌, ℕ, zero, suc, ◌<◌, ◌≤◌, List, [], ◌∷◌, length, get_or, map, take, refl, sym, ap,
-    ◌∙◌, subst, arith, Bor}
+use Rattle.std.proofs.Common.{◌≡◌, ℕ, zero, suc, ◌<◌, ◌≤◌, List, [], ◌∷◌, length, get_or, map, take, refl, sym, ap}
+use Rattle.std.proofs.Common.{◌∙◌, subst, arith, Bor}
 use Rattle.std.proofs.lemmas.List.{length-map}
 use Rattle.dp_spec.specs.JointNumbers.{joint_number, parts_of}
 use Rattle.dp_spec.specs.Model.{Model, joint_actions, joint_observations}

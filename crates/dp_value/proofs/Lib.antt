@@ -1,3 +1,5 @@
+pub mod LinkedParts
+pub mod LinkSums
 pub mod JointRows
 pub mod Modes
 pub mod RewardSums

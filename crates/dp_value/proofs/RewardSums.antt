@@ -23,7 +23,7 @@ reward_is A m r ws a k total is all = is ∙ ap (λ (z : ℕ). span_sum z (λ s.
 
 module _ (A : Arithmetic) (C : Calls) (m : Model) (r : ℕ) (ws : ℕ → Span) (p : IsRewardable A C m r ws) (a : ℕ)
     (pa : a < joint_actions m) where
-  whole : reward_size A m r ws a < 2 ^ 127
+  pub whole : reward_size A m r ws a < 2 ^ 127
   whole = p.can.add p.time r ws a p.left p.weights pa
 
   -- partial sums over the states

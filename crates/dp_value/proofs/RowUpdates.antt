@@ -1,7 +1,7 @@
 -- The weights of the next stage, joint row by joint row.
-use Rattle.std.proofs.Common.{◌≡◌, ◌≢◌, ℕ, zero, suc, ◌+◌, ◌-◌, ◌*◌, ◌/◌, ◌^◌, ◌<◌, ◌≤◌, Bool, true, false, cond,
-    List, length, get_or, set, inl, inr, pos, refl, sym, ap, ◌∙◌, subst, arith, eq-eqb, get_or-set_other,
-    get_or-set_same}
+use Rattle.std.proofs.Common.{◌≡◌, ◌≢◌, ℕ, zero, suc, ◌+◌, ◌-◌, ◌*◌, ◌/◌, ◌^◌, ◌<◌, ◌≤◌, Bool, true, false, cond}
+use Rattle.std.proofs.Common.{List, length, get_or, set, inl, inr, pos, refl, sym, ap, ◌∙◌, subst, arith, eq-eqb}
+use Rattle.std.proofs.Common.{get_or-set_other, get_or-set_same}
 use Rattle.std.proofs.Math.Nat.{mul-le-mul_left}
 use Rattle.std.proofs.lemmas.Nat.{div-mul-add}
 use Rattle.std.proofs.lemmas.Bool.{cases_lt}
@@ -13,8 +13,8 @@ use Rattle.dp_spec.specs.Calls.{Calls, size}
 use Rattle.dp_spec.specs.Model.{Model, joint_observations, obs_at, reward_at, start_at, trans_at}
 use Rattle.dp_spec.specs.Quantities.{span_sum, weighted_reward_in, weights_after_in}
 use Rattle.dp_spec.specs.SharedPolicy.{SharedPolicy}
-use Rattle.dp_spec.specs.SharedWorth.{joint_row_action, joint_row_count, next_joint_row, row_weight_in, rows_earn_in,
-    shared_worth_in}
+use Rattle.dp_spec.specs.SharedWorth.{joint_row_action, joint_row_count, next_joint_row, row_weight_in, rows_earn_in}
+use Rattle.dp_spec.specs.SharedWorth.{shared_worth_in}
 use Rattle.dp_spec.specs.Sizes.{AreWeights, reward_size}
 use Rattle.dp_spec.specs.SizesOfRows.{rows_earn_size, rows_update_size}
 use Rattle.dp_base.specs.Sums.{nat_sum}

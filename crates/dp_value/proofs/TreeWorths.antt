@@ -1,13 +1,13 @@
 -- The recursion along the trees of a joint policy: what it asks, and what it has earned.
-use Rattle.std.proofs.Common.{◌≡◌, ℕ, zero, suc, ◌+◌, ◌^◌, ◌<◌, ◌≤◌, List, [], ◌∷◌, Bor, length, take, refl, sym, ap,
-    ◌∙◌, subst, arith}
+use Rattle.std.proofs.Common.{◌≡◌, ℕ, zero, suc, ◌+◌, ◌^◌, ◌<◌, ◌≤◌, List, [], ◌∷◌, Bor, length, take, refl, sym, ap}
+use Rattle.std.proofs.Common.{◌∙◌, subst, arith}
 use Rattle.dp_spec.specs.declared.span.Span.{Span}
 use Rattle.dp_spec.specs.Arithmetic.{Arithmetic, span_add}
 use Rattle.dp_spec.specs.Calls.{Calls, size}
 use Rattle.dp_spec.specs.Model.{IsModel, Model, joint_observations, obs_at, reward_at, start_at, trans_at}
 use Rattle.dp_spec.specs.PolicyTree.{IsPolicyOf, PolicyTree}
-use Rattle.dp_spec.specs.Quantities.{forward_worth_in, recursive_worth_in, span_sum, weighted_reward_in,
-    weights_after_in}
+use Rattle.dp_spec.specs.Quantities.{forward_worth_in, recursive_worth_in, span_sum, weighted_reward_in}
+use Rattle.dp_spec.specs.Quantities.{weights_after_in}
 use Rattle.dp_spec.specs.SizesOfEarnings.{worth_size}
 use Rattle.dp_spec.specs.Value.{joint_root_action, trees_after}
 use Rattle.dp_spec.specs.Zeros.{KeepsZero, nothing}

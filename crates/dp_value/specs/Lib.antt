@@ -1,4 +1,5 @@
 pub mod JointTrees
+pub mod Links
 pub mod Rewards
 pub mod Rooms
 pub mod RowWeights

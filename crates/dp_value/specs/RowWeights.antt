@@ -9,6 +9,7 @@ use Rattle.dp_spec.specs.SharedPolicy.{IsSharedOf, SharedPolicy}
 use Rattle.dp_spec.specs.SharedWorth.{joint_row_action, joint_row_count, next_joint_row, row_weight_in}
 use Rattle.dp_spec.specs.Sizes.{CanUpdateWeights, CanReward}
 use Rattle.dp_spec.specs.SizesOfRows.{CanShare}
+use Rattle.dp_spec.specs.Zeros.{KeepsZero}
 
 -- the weight of joint row j and state s
 abbrev pub weight_in : ℕ → List Span → ℕ → ℕ → Span
@@ -25,6 +26,7 @@ pub record IsSharable (A : Arithmetic) (C : Calls) (m : Model) (h : ℕ) (p : Sh
   pub model : IsModel m
   pub some_step : 0 < h
   pub shared : IsSharedOf m h p
+  pub zeros : KeepsZero A
   pub update : CanUpdateWeights A C m h
   pub reward : CanReward A C m h
   pub share : CanShare A m h

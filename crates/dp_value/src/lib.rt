@@ -2,6 +2,8 @@
 #![tactic(auto)]
 
 mod joint_trees;
+mod linked;
+mod links;
 mod reward;
 mod room;
 mod rows;

@@ -7,6 +7,7 @@ ghost use Rattle.dp_model.specs.Horizons.{fit_of};
 ghost use Rattle.dp_value.specs.Rooms.{IsRoomFor};
 ghost use Rattle.dp_value.specs.Worths.{IsWorthOf, ends_of};
 
+use crate::links::Links;
 use crate::rows::joint_rows;
 use crate::shared_worth::shared_worth;
 use dp_base::Memory;
@@ -26,10 +27,11 @@ pub struct Worth {
 }
 
 /// The memory that computing the worth of a shared policy takes: the weights of the joint rows of two
-/// stages.
+/// stages, and lists of which states follow which, so that steps of chance 0 are left out.
 #[derive(Drop)]
 pub struct SharedRoom {
     fit: Fit,
+    links: Links,
     now: Vec<Span>,
     next: Vec<Span>,
 }
@@ -40,7 +42,7 @@ impl std::marker::Model for SharedRoom {
 
     ghost Value = { KeptRoom };
 
-    ghost view = { λ r. record { fit = r.fit; cells = length r.now.items } };
+    ghost view = { λ r. record { fit = r.fit; cells = length r.now.items; links = r.links } };
 
     ghost invariant = { λ r. length r.next.items ≡ length r.now.items };
 }
@@ -60,6 +62,7 @@ impl SharedRoom {
         let cells = most_joint_rows(model, policy) * model.states() as usize;
         Ok(SharedRoom {
             fit,
+            links: Links::new(alloc, model)?,
             now: zeros(alloc, cells)?,
             next: zeros(alloc, cells)?,
         })
@@ -110,6 +113,7 @@ fn sums_in_mode(model: &Model, policy: &Shared, room: &mut SharedRoom) -> Span
         shared_worth(
             &Exact::of(model.scales()),
             model,
+            &room.links,
             policy,
             &mut room.now,
             &mut room.next,
@@ -118,6 +122,7 @@ fn sums_in_mode(model: &Model, policy: &Shared, room: &mut SharedRoom) -> Span
         shared_worth(
             &Outward::of(model.scales()),
             model,
+            &room.links,
             policy,
             &mut room.now,
             &mut room.next,

@@ -6,11 +6,13 @@ ghost use Rattle.dp_spec.specs.Calls.{size};
 ghost use Rattle.dp_spec.specs.Model.{joint_actions, joint_observations, start_at};
 ghost use Rattle.dp_spec.specs.Quantities.{span_sum, weights_after_in};
 ghost use Rattle.dp_spec.specs.SharedWorth.{joint_row_count, rows_earn_in, shared_worth_in};
+ghost use Rattle.dp_spec.specs.Zeros.{KeepsZero};
+ghost use Rattle.dp_value.specs.Links.{AreLinksOf};
 ghost use Rattle.dp_value.specs.WeightUpdates.{AreUpdatable, weights_of};
 ghost use Rattle.dp_value.specs.RowWeights.{AreRowWeights, IsSharable, row_gives, row_part, weight_in};
 
-use crate::next_weight;
-use crate::reward::weighted_reward;
+use crate::linked::{linked_reward, linked_weight};
+use crate::links::Links;
 use crate::rows::{action_of, joint_rows, next_of};
 use dp_model::Model;
 use dp_num::{Arith, add_spans};
@@ -21,10 +23,12 @@ use dp_spec::Span;
 pub(crate) fn shared_worth<A: Arith>(
     arith: &A,
     model: &Model,
+    links: &Links,
     policy: &Shared,
     now: &mut [Span],
     next: &mut [Span],
 ) -> Span
+    requires links { AreLinksOf model.now.model links.now }
     requires sizes { IsSharable (A.operations arith.now) (A.calls arith.now)
         model.now.model policy.now.horizon policy.now.rows }
     requires now { (t : ℕ) → t < policy.now.horizon →
@@ -35,9 +39,9 @@ pub(crate) fn shared_worth<A: Arith>(
     start_weights(arith, model, policy, now);
     let mut total = Span { low: 0, high: 0 };
     for stage in 0..policy.horizon() {
-        total = earned(arith, model, policy, stage, now, total);
+        total = earned(arith, model, links, policy, stage, now, total);
         if stage + 1 < policy.horizon() {
-            update_stage(arith, model, policy, stage, now, next);
+            update_stage(arith, model, links, policy, stage, now, next);
             copy(next, now);
         }
     }
@@ -70,11 +74,13 @@ fn copy(from: &[Span], to: &mut [Span])
 fn earned<A: Arith>(
     arith: &A,
     model: &Model,
+    links: &Links,
     policy: &Shared,
     stage: u32,
     now: &[Span],
     before: Span,
 ) -> Span
+    requires links { AreLinksOf model.now.model links.now }
     requires sizes { IsSharable (A.operations arith.now) (A.calls arith.now)
         model.now.model policy.now.horizon policy.now.rows }
     requires stage { stage < policy.now.horizon }
@@ -88,9 +94,10 @@ fn earned<A: Arith>(
     let mut total = Span { low: 0, high: 0 };
     for row in 0..joint_rows(model, policy, stage) {
         let weights = weights_at(now, model.states(), row);
-        let reward = weighted_reward(
+        let reward = linked_reward(
             arith,
             model,
+            links,
             weights,
             action_of(model, policy, stage, row),
             rest,
@@ -115,11 +122,13 @@ fn weights_at(now: &[Span], states: u32, row: usize) -> &[Span]
 fn update_stage<A: Arith>(
     arith: &A,
     model: &Model,
+    links: &Links,
     policy: &Shared,
     stage: u32,
     now: &[Span],
     next: &mut [Span],
 )
+    requires links { AreLinksOf model.now.model links.now }
     requires sizes { IsSharable (A.operations arith.now) (A.calls arith.now)
         model.now.model policy.now.horizon policy.now.rows }
     requires stage { suc stage < policy.now.horizon }
@@ -129,7 +138,7 @@ fn update_stage<A: Arith>(
 {
     clear(next);
     for row in 0..joint_rows(model, policy, stage) {
-        add_row(arith, model, policy, stage, row, now, next);
+        add_row(arith, model, links, policy, stage, row, now, next);
     }
 }
 
@@ -146,12 +155,14 @@ fn clear(next: &mut [Span])
 fn add_row<A: Arith>(
     arith: &A,
     model: &Model,
+    links: &Links,
     policy: &Shared,
     stage: u32,
     row: usize,
     now: &[Span],
     next: &mut [Span],
 )
+    requires links { AreLinksOf model.now.model links.now }
     requires sizes { IsSharable (A.operations arith.now) (A.calls arith.now)
         model.now.model policy.now.horizon policy.now.rows }
     requires stage { suc stage < policy.now.horizon }
@@ -169,7 +180,7 @@ fn add_row<A: Arith>(
     let weights = weights_at(now, model.states(), row);
     for seen in 0..model.joint_observations() {
         let to = next_of(model, policy, stage, row, seen);
-        add_seen(arith, model, weights, action, seen, to, next);
+        add_seen(arith, model, links, weights, action, seen, to, next);
     }
 }
 
@@ -177,12 +188,15 @@ fn add_row<A: Arith>(
 fn add_seen<A: Arith>(
     arith: &A,
     model: &Model,
+    links: &Links,
     weights: &[Span],
     action: u32,
     seen: u32,
     to: usize,
     next: &mut [Span],
 )
+    requires zeros { KeepsZero (A.operations arith.now) }
+    requires links { AreLinksOf model.now.model links.now }
     requires one_each { length weights.now ≡ model.now.model.states }
     requires sizes { AreUpdatable (A.operations arith.now) (A.calls arith.now)
         model.now.model (weights_of weights.now) }
@@ -201,7 +215,7 @@ fn add_seen<A: Arith>(
 {
     for state in 0..model.states() {
         let at = to * model.states() as usize + state as usize;
-        let updated = next_weight(arith, model, weights, action, seen, state);
+        let updated = linked_weight(arith, model, links, weights, action, seen, state);
         next[at] = add_spans(next[at], updated);
     }
 }

@@ -7,6 +7,7 @@ ghost use Rattle.dp_spec.specs.Quantities.{forward_worth_in};
 ghost use Rattle.dp_model.specs.Horizons.{fit_of};
 ghost use Rattle.dp_policy.specs.Trees.{joint_policy};
 ghost use Rattle.dp_value.specs.JointTrees.{IsEvaluable};
+ghost use Rattle.dp_value.specs.Links.{AreLinksOf};
 ghost use Rattle.dp_value.specs.Rooms.{IsRoomOf};
 ghost use Rattle.dp_value.specs.WeightUpdates.{weights_of};
 ghost use Rattle.dp_value.specs.Worths.{IsWorthOf, ends_of};
@@ -14,6 +15,7 @@ ghost use Rattle.dp_spec.specs.Model.{start_at};
 
 use crate::Worth;
 use crate::joint_trees::trees_of;
+use crate::links::Links;
 use crate::room::{worth_of, zeros};
 use crate::tree_worth::worth_from;
 use dp_base::Memory;
@@ -24,10 +26,11 @@ use dp_spec::Span;
 use std::alloc::Global;
 
 /// The memory that computing the worth of a joint policy takes: one weight of each state for each
-/// step.
+/// step, and lists of which states follow which, so that steps of chance 0 are left out.
 #[derive(Drop)]
 pub struct Room {
     fit: Fit,
+    links: Links,
     weights: Vec<Span>,
 }
 
@@ -37,7 +40,7 @@ impl std::marker::Model for Room {
 
     ghost Value = { KeptRoom };
 
-    ghost view = { λ r. record { fit = r.fit; cells = length r.weights.items } };
+    ghost view = { λ r. record { fit = r.fit; cells = length r.weights.items; links = r.links } };
 }
 
 impl Room {
@@ -51,6 +54,7 @@ impl Room {
         let cells = fit.horizon as usize * model.states() as usize;
         Ok(Room {
             fit,
+            links: Links::new(alloc, model)?,
             weights: zeros(alloc, cells)?,
         })
     }
@@ -84,11 +88,18 @@ fn sums_in_mode(model: &Model, policy: &Policy, room: &mut Room) -> Span
 {
     model.invariant();
     if room.fit.exact {
-        sums(&Exact::of(model.scales()), model, policy, &mut room.weights)
+        sums(
+            &Exact::of(model.scales()),
+            model,
+            &room.links,
+            policy,
+            &mut room.weights,
+        )
     } else {
         sums(
             &Outward::of(model.scales()),
             model,
+            &room.links,
             policy,
             &mut room.weights,
         )
@@ -96,7 +107,14 @@ fn sums_in_mode(model: &Model, policy: &Policy, room: &mut Room) -> Span
 }
 
 // The sums in an arithmetic.
-fn sums<A: Arith>(arith: &A, model: &Model, policy: &Policy, weights: &mut [Span]) -> Span
+fn sums<A: Arith>(
+    arith: &A,
+    model: &Model,
+    links: &Links,
+    policy: &Policy,
+    weights: &mut [Span],
+) -> Span
+    requires links { AreLinksOf model.now.model links.now }
     requires some { 0 < policy.now.horizon }
     requires room { policy.now.horizon * model.now.model.states ≤ length weights.old }
     requires sizes { IsEvaluable (A.operations arith.now) (A.calls arith.now) model.now.model policy.now.horizon
@@ -106,7 +124,7 @@ fn sums<A: Arith>(arith: &A, model: &Model, policy: &Policy, weights: &mut [Span
 {
     start_weights(arith, model, weights);
     let trees = trees_of(policy);
-    worth_from(arith, model, &trees, policy.horizon() - 1, weights)
+    worth_from(arith, model, links, &trees, policy.horizon() - 1, weights)
 }
 
 // Writes the weights of the start.

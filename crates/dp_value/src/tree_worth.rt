@@ -2,13 +2,14 @@
 ghost use Rattle.std.specs.Prelude.{◌≡◌, ℕ, ◌*◌, ◌<◌, ◌≤◌, false, suc, length};
 ghost use Rattle.dp_spec.specs.Model.{joint_actions, joint_observations};
 ghost use Rattle.dp_spec.specs.Quantities.{recursive_worth_in, weights_after_in};
-ghost use Rattle.dp_spec.specs.Zeros.{nothing};
+ghost use Rattle.dp_spec.specs.Zeros.{KeepsZero, nothing};
 ghost use Rattle.dp_value.specs.JointTrees.{IsEvaluable, first_trees};
+ghost use Rattle.dp_value.specs.Links.{AreLinksOf};
 ghost use Rattle.dp_value.specs.WeightUpdates.{AreUpdatable, weights_of};
 
 use crate::joint_trees::{joint_action, subtrees};
-use crate::next_weight;
-use crate::reward::weighted_reward;
+use crate::linked::{is_some, linked_reward, linked_weight};
+use crate::links::Links;
 use dp_model::Model;
 use dp_num::{Arith, add_spans};
 use dp_policy::PTree;
@@ -19,10 +20,12 @@ use dp_spec::Span;
 pub(crate) fn worth_from<A: Arith>(
     arith: &A,
     model: &Model,
+    links: &Links,
     trees: &[&PTree; 6],
     rest: u32,
     weights: &mut [Span],
 ) -> Span
+    requires links { AreLinksOf model.now.model links.now }
     requires room { suc rest * model.now.model.states ≤ length weights.old }
     requires sizes { IsEvaluable (A.operations arith.now) (A.calls arith.now) model.now.model (suc rest)
         (weights_of weights.old) (first_trees (length model.now.model.actions) trees.now) }
@@ -31,12 +34,12 @@ pub(crate) fn worth_from<A: Arith>(
 {
     let action = joint_action(model, trees, rest);
     let (now, later) = weights.split_at_mut(model.states() as usize);
-    let mut total = weighted_reward(arith, model, now, action, rest);
+    let mut total = linked_reward(arith, model, links, now, action, rest);
     if rest > 0 {
         for seen in 0..model.joint_observations() {
-            if update_all(arith, model, now, action, seen, later) {
+            if update_all(arith, model, links, now, action, seen, later) {
                 let after = subtrees(model, trees, seen, rest);
-                let earned = worth_from(arith, model, &after, rest - 1, later);
+                let earned = worth_from(arith, model, links, &after, rest - 1, later);
                 total = add_spans(total, earned);
             }
         }
@@ -48,11 +51,14 @@ pub(crate) fn worth_from<A: Arith>(
 fn update_all<A: Arith>(
     arith: &A,
     model: &Model,
+    links: &Links,
     weights: &[Span],
     action: u32,
     seen: u32,
     later: &mut [Span],
 ) -> bool
+    requires zeros { KeepsZero (A.operations arith.now) }
+    requires links { AreLinksOf model.now.model links.now }
     requires one_each { length weights.now ≡ model.now.model.states }
     requires room { model.now.model.states ≤ length later.old }
     requires sizes { AreUpdatable (A.operations arith.now) (A.calls arith.now)
@@ -65,17 +71,9 @@ fn update_all<A: Arith>(
 {
     let mut some = false;
     for state in 0..model.states() {
-        let weight = next_weight(arith, model, weights, action, seen, state);
+        let weight = linked_weight(arith, model, links, weights, action, seen, state);
         some = some || is_some(weight);
         later[state as usize] = weight;
     }
     some
-}
-
-// Whether a weight is not 0.
-#[inline]
-fn is_some(weight: Span) -> bool
-    ensures { result ≡ false → weight ≡ nothing }
-{
-    weight.low != 0 || weight.high != 0
 }

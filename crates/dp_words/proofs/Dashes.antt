@@ -1,7 +1,7 @@
 -- The job does not depend on whether an option takes a lone dash for its value: no dash is a value
 -- of any option.
-use Rattle.std.proofs.Common.{◌≡◌, ◌∙◌, ◌&&◌, ◌||◌, ◌⊎◌, inl, inr, Bool, cond, codes, true, false, not, refl, sym, ap,
-    List, [], ◌∷◌, ◌++◌, map, Option, Some, None, true≢false}
+use Rattle.std.proofs.Common.{◌≡◌, ◌∙◌, ◌&&◌, ◌||◌, ◌⊎◌, inl, inr, Bool, cond, codes, true, false, not, refl, sym, ap}
+use Rattle.std.proofs.Common.{List, [], ◌∷◌, ◌++◌, map, Option, Some, None, true≢false}
 use Rattle.std.proofs.Math.Bool.{and-false, or-true}
 use Rattle.std.proofs.lemmas.Bool.{and_parts, not-true}
 use Rattle.std.specs.Prelude.{option_and_then}
@@ -9,11 +9,12 @@ use Rattle.std.specs.Option.{option_map_or}
 use Rattle.std.specs.List.{list_all, list_any, before_first, after_first}
 use Rattle.std.specs.Str.{bytes_eq}
 use Rattle.dp_base.specs.DecimalShape.{is_index}
-use Rattle.dp_words.specs.Line.{Given, Text, attached_value, begins_with_dash, dashed, ends_options, given_as,
-    is_given, value_in, is_equals, is_flag, is_named, is_once, is_option, is_valued, is_well_given, may_be_value,
-    name_of, options_in, options_of, plain_after, plain_of, takes_next, value_of}
-use Rattle.dp_words.specs.Words.{OptionRow, all_hold, holds, job_by, job_of, no_merge, options, job_of_values,
-    value_names}
+use Rattle.dp_words.specs.Line.{Given, Text, attached_value, begins_with_dash, dashed, ends_options, given_as}
+use Rattle.dp_words.specs.Line.{is_given, value_in, is_equals, is_flag, is_named, is_once, is_option, is_valued}
+use Rattle.dp_words.specs.Line.{is_well_given, may_be_value, name_of, options_in, options_of, plain_after, plain_of}
+use Rattle.dp_words.specs.Line.{takes_next, value_of}
+use Rattle.dp_words.specs.Words.{OptionRow, all_hold, holds, job_by, job_of, no_merge, options, job_of_values}
+use Rattle.dp_words.specs.Words.{value_names}
 use Rattle.dp_words.specs.Command.{may_be}
 use Rattle.dp_words.proofs.Rows.{same_text, text_same}
 use Rattle.dp_words.proofs.Rules.{is_in}

@@ -1,6 +1,6 @@
 -- The matches of the command, by what its parse is.
-use Rattle.std.proofs.Common.{◌≡◌, ◌∙◌, true, false, refl, sym, ap, subst, List, [], ◌∷◌, map, Option, Some, None,
-    unwrap_or, option_map, inl, inr, string_bytes, Global}
+use Rattle.std.proofs.Common.{◌≡◌, ◌∙◌, true, false, refl, sym, ap, subst, List, [], ◌∷◌, map, Option, Some, None}
+use Rattle.std.proofs.Common.{unwrap_or, option_map, inl, inr, string_bytes, Global}
 use Rattle.std.specs.Prelude.{String, find, option_and_then, slice_get}
 use Rattle.std.specs.Option.{option_map_or}
 use Rattle.std.specs.Str.{bytes_eq}

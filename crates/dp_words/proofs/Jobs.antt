@@ -1,7 +1,7 @@
 -- The job of the matches is that of the words.
-use Rattle.std.proofs.Common.{◌≡◌, ◌≤◌, ◌-◌, length, map, take, drop, slice_index_or, arith, ◌∙◌, ◌&&◌, Bool, cond,
-    codes, true, false, not, refl, sym, ap, subst, List, [], ◌∷◌, Option, Some, None, Result, Ok, Err, IsErrAnd,
-    is_some, true≢false}
+use Rattle.std.proofs.Common.{◌≡◌, ◌≤◌, ◌-◌, length, map, take, drop, slice_index_or, arith, ◌∙◌, ◌&&◌, Bool, cond}
+use Rattle.std.proofs.Common.{codes, true, false, not, refl, sym, ap, subst, List, [], ◌∷◌, Option, Some, None}
+use Rattle.std.proofs.Common.{Result, Ok, Err, IsErrAnd, is_some, true≢false}
 use Rattle.std.proofs.lemmas.Bool.{and_parts}
 use Rattle.std.specs.Prelude.{find, option_and_then}
 use Rattle.std.specs.List.{list_all}
@@ -10,13 +10,13 @@ use Rattle.std.specs.Str.{bytes_eq}
 use Rattle.std.specs.Borrow.{Bor}
 use Rattle.std.proofs.lemmas.List.{take_all}
 use Rattle.clap.specs.declared.parser.matches.ArgMatches.{ArgMatches}
-use Rattle.dp_words.specs.Line.{Given, Text, dashed, given_as, is_flag, is_given, is_named, is_once, is_valued,
-    is_well_given, options_of, plain_of, value_in}
+use Rattle.dp_words.specs.Line.{Given, Text, dashed, given_as, is_flag, is_given, is_named, is_once, is_valued}
+use Rattle.dp_words.specs.Line.{is_well_given, options_of, plain_of, value_in}
 use Rattle.dp_words.specs.declared.job.Job.{Job}
 use Rattle.dp_words.specs.declared.job.WordFault.{WordFault}
 use Rattle.dp_words.specs.declared.job.WordFault.TheVariants as faults
-use Rattle.dp_words.specs.Words.{CommandRow, IsReadAs, Values, all_hold, command_job, row_job, commands, job_of,
-    job_of_values, value_names}
+use Rattle.dp_words.specs.Words.{CommandRow, IsReadAs, Values, all_hold, command_job, row_job, commands, job_of}
+use Rattle.dp_words.specs.Words.{job_of_values, value_names}
 use Rattle.dp_words.specs.Command.{IsParsedAs, Tells, flag_id, may_be, merging_off, plain_words, values_of}
 use Rattle.dp_words.proofs.Rows.{same_text}
 use Rattle.dp_words.proofs.Rules.{is_in}
@@ -37,9 +37,16 @@ EachReads (f ∷ fs) = ReadsOptions f × EachReads fs
 
 -- one entry for each command of the table
 commands_read : EachReads commands
-commands_read =
-    (λ v off files. refl, (λ v off files. refl, (λ v off files. refl,
-        (λ v off files. refl, (λ v off files. refl, tt)))))
+commands_read = (
+  λ v off files. refl,
+  (
+    λ v off files. refl,
+    (
+      λ v off files. refl,
+      (λ v off files. refl, (λ v off files. refl, tt)),
+    ),
+  ),
+)
 
 found_same : (fs : List CommandRow) → EachReads fs
     → (v : Values) (off : Bool) (files : List Text) (p : CommandRow → Bool)

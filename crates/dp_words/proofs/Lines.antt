@@ -1,6 +1,7 @@
 -- The uses that `clap` makes of the words are those of their options and plain words.
-use Rattle.std.proofs.Common.{◌≡◌, ◌∙◌, ◌&&◌, ◌||◌, ◌⊎◌, inl, inr, Bool, cond, codes, true, false, not, refl, sym, ap,
-    ap₂, subst, List, [], ◌∷◌, ◌++◌, Option, Some, None, is_some, append-nil, append_assoc, true≢false}
+use Rattle.std.proofs.Common.{◌≡◌, ◌∙◌, ◌&&◌, ◌||◌, ◌⊎◌, inl, inr, Bool, cond, codes, true, false, not, refl, sym, ap}
+use Rattle.std.proofs.Common.{ap₂, subst, List, [], ◌∷◌, ◌++◌, Option, Some, None, is_some, append-nil, append_assoc}
+use Rattle.std.proofs.Common.{true≢false}
 use Rattle.std.proofs.lemmas.Bool.{and_parts, not-true}
 use Rattle.std.specs.List.{list_all, list_any, before_first, after_first}
 use Rattle.std.specs.Str.{bytes_eq}
@@ -9,15 +10,16 @@ use Rattle.clap.specs.Walk.{Row, Rule, Text, arg_by_long, has_row, used, with_va
 use Rattle.clap.specs.declared.builder.value_parser.Reading.{Reading}
 use Rattle.clap.specs.declared.builder.value_parser.Reading.TheVariants.{AsWritten}
 use Rattle.clap.specs.declared.parser.matches.ValueSource.TheVariants.{CommandLine}
-use Rattle.dp_words.specs.Line.{Given, attached_value, dashed, ends_options, is_equals, is_flag, is_named, is_once,
-    is_option, is_valued, name_of, next_value, options_in, options_of, plain_after, takes_next, value_of}
+use Rattle.dp_words.specs.Line.{Given, attached_value, dashed, ends_options, is_equals, is_flag, is_named, is_once}
+use Rattle.dp_words.specs.Line.{is_option, is_valued, name_of, next_value, options_in, options_of, plain_after}
+use Rattle.dp_words.specs.Line.{takes_next, value_of}
 use Rattle.dp_words.proofs.Cuts.{before_here, before_next, after_here, after_next}
 use Rattle.dp_words.proofs.Rows.{any_after, if_id, same_text, text_same, values_after, values_at, without_none}
 use Rattle.dp_words.specs.Command.{flag_id, may_be, plain_id}
 use Rattle.dp_words.proofs.Rules.{AreApart, apart, by_long_is, built_flag, found_long, is_in, built_option, rules}
 use Rattle.dp_words.proofs.WordKinds.{WordKind, kind_end, kind_long, kind_short, kind_plain, view_of}
-use Rattle.dp_words.proofs.Walks.{Use, given, or_else_nil, plain_uses, refused, uses_by, uses_of_rule, built_plain,
-    run, sort_is, sort_of_view, uses}
+use Rattle.dp_words.proofs.Walks.{Use, given, or_else_nil, plain_uses, refused, uses_by, uses_of_rule, built_plain}
+use Rattle.dp_words.proofs.Walks.{run, sort_is, sort_of_view, uses}
 
 -- the text of an option that was given, that of a flag being `true`
 abbrev pub text_of : Option Text → Text

@@ -1,6 +1,6 @@
 -- The parse of the command: it passes exactly where the options are well given, and finds their values.
-use Rattle.std.proofs.Common.{◌≡◌, ◌∙◌, ◌&&◌, ◌||◌, Bool, cond, codes, true, false, not, refl, sym, ap, subst, List,
-    [], ◌∷◌, ◌++◌, Option, Some, None, is_some, ◌⊎◌, inl, inr, true≢false, append-nil}
+use Rattle.std.proofs.Common.{◌≡◌, ◌∙◌, ◌&&◌, ◌||◌, Bool, cond, codes, true, false, not, refl, sym, ap, subst, List}
+use Rattle.std.proofs.Common.{[], ◌∷◌, ◌++◌, Option, Some, None, is_some, ◌⊎◌, inl, inr, true≢false, append-nil}
 use Rattle.std.proofs.Math.Bool.{and-false, or-true}
 use Rattle.std.proofs.lemmas.Bool.{and_parts}
 use Rattle.std.specs.Prelude.{fold, find, option_and_then, slice_get}
@@ -9,23 +9,23 @@ use Rattle.std.specs.List.{list_all, list_any}
 use Rattle.std.specs.Str.{bytes_eq}
 use Rattle.clap.specs.Kinds.{Kinds, or_else}
 use Rattle.clap.specs.Takes.{is_given as is_used}
-use Rattle.clap.specs.Walk.{Held, idle, rows_after, Row, Rule, Text, finished, has_row, nothing_held, settled, walk,
-    walk_from, with_default, with_values}
+use Rattle.clap.specs.Walk.{Held, idle, rows_after, Row, Rule, Text, finished, has_row, nothing_held, settled, walk}
+use Rattle.clap.specs.Walk.{walk_from, with_default, with_values}
 use Rattle.clap.specs.Simple.{App, built, filled_from, names_of, entered, matches_of, new_shape}
-use Rattle.clap.specs.Faults.{built_fault, check_fault, default_fault, defaults_fault, level_fault, entered_fault,
-    fault_of, settle_fault, walk_fault}
+use Rattle.clap.specs.Faults.{built_fault, check_fault, default_fault, defaults_fault, level_fault, entered_fault}
+use Rattle.clap.specs.Faults.{fault_of, settle_fault, walk_fault}
 use Rattle.clap.specs.declared.builder.value_parser.Reading.TheVariants.{AsWritten}
 use Rattle.clap.specs.declared.parser.matches.ValueSource.TheVariants.{DefaultValue}
-use Rattle.dp_words.specs.Line.{Given, dashed, given_as, is_flag, is_given, is_named, is_once, is_valued,
-    is_well_given, value_in}
+use Rattle.dp_words.specs.Line.{Given, dashed, given_as, is_flag, is_given, is_named, is_once, is_valued}
+use Rattle.dp_words.specs.Line.{is_well_given, value_in}
 use Rattle.dp_words.proofs.Rows.{same_text, values_after, values_at}
 use Rattle.dp_words.specs.Command.{flag_id, flag_rule, option_rule, plain_id, plain_rule}
 use Rattle.dp_words.proofs.Rules.{AreApart, is_in, built_flag, built_option, rules, table}
-use Rattle.dp_words.proofs.Lines.{HaveKinds, HaveValues, Agree, given_to, none_has_row, may_follow, given_options,
-    not_flag, not_plain, plain_words, text_of, uses_agree}
+use Rattle.dp_words.proofs.Lines.{HaveKinds, HaveValues, Agree, given_to, none_has_row, may_follow, given_options}
+use Rattle.dp_words.proofs.Lines.{not_flag, not_plain, plain_words, text_of, uses_agree}
 use Rattle.dp_words.proofs.WordKinds.{view_of}
-use Rattle.dp_words.proofs.Walks.{or_else_nil, Viewed, at, built_shape, if_passes, built_plain, run, end_rows, uses,
-    walk_is}
+use Rattle.dp_words.proofs.Walks.{or_else_nil, Viewed, at, built_shape, if_passes, built_plain, run, end_rows, uses}
+use Rattle.dp_words.proofs.Walks.{walk_is}
 
 same_both : {X : Type 0} (b : Bool) (x : X) → cond b x x ≡ x
 same_both true x = refl

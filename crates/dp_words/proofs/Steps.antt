@@ -1,6 +1,7 @@
 -- A plan of the words is over at least one step, its look is from 1 to 16, and its version 1 or 2.
-use Rattle.std.proofs.Common.{◌≡◌, arith, ◌≤◌, ◌&&◌, ◌||◌, not, Bool, cond, codes, true, false, true≢false, refl, ap,
-    sym, ◌∙◌, subst, ℕ, List, [], ◌∷◌, length, Option, Some, None, Result, Ok, Err, IfOk, is_some, unwrap_or, ◌⊎◌}
+use Rattle.std.proofs.Common.{◌≡◌, arith, ◌≤◌, ◌&&◌, ◌||◌, not, Bool, cond, codes, true, false, true≢false, refl, ap}
+use Rattle.std.proofs.Common.{sym, ◌∙◌, subst, ℕ, List, [], ◌∷◌, length, Option, Some, None, Result, Ok, Err, IfOk}
+use Rattle.std.proofs.Common.{is_some, unwrap_or, ◌⊎◌}
 use Rattle.std.specs.Prelude.{◌==◌, find, nat_le, option_and_then}
 use Rattle.std.specs.List.{list_all, list_any}
 use Rattle.std.specs.Option.{option_map_or}
@@ -10,9 +11,10 @@ use Rattle.std.proofs.lemmas.Bool.{leb-true, and_parts}
 use Rattle.dp_words.specs.declared.job.Job.{Job}
 use Rattle.dp_words.specs.declared.job.WordFault.{WordFault}
 use Rattle.dp_words.specs.Line.{Given, Text, is_given, is_well_given, may_be_value, options_of, plain_of, value_in}
-use Rattle.dp_words.specs.Words.{CommandRow, HasLook, HasSomeStep, HasVersion, IsReadAs, Setting, Values, all_hold,
-    cert, command_job, commands, file_at, fits, holds, horizon, is_allowed, is_number, job_of, look, no_merge,
-    number_of, number_option, options, plan_row, read, row_job, job_of_values, value_names}
+use Rattle.dp_words.specs.Words.{CommandRow, HasLook, HasSomeStep, HasVersion, IsReadAs, Setting, Values, all_hold}
+use Rattle.dp_words.specs.Words.{cert, command_job, commands, file_at, fits, holds, horizon, is_allowed, is_number}
+use Rattle.dp_words.specs.Words.{job_of, look, no_merge, number_of, number_option, options, plan_row, read, row_job}
+use Rattle.dp_words.specs.Words.{job_of_values, value_names}
 use Rattle.dp_words.proofs.Ranges.{Each, options_hold}
 use Rattle.dp_words.proofs.Rows.{same_text}
 use Rattle.dp_words.proofs.Rules.{is_in}

@@ -1,6 +1,6 @@
 -- What a word is: by the definitions, and by `clap`.
-use Rattle.std.proofs.Common.{◌≡◌, ◌∙◌, ◌==◌, ℕ, Bool, cond, true, false, refl, sym, ap, arith, List, [], ◌∷◌, Option,
-    Some, None, subst}
+use Rattle.std.proofs.Common.{◌≡◌, ◌∙◌, ◌==◌, ℕ, Bool, cond, true, false, refl, sym, ap, arith, List, [], ◌∷◌, Option}
+use Rattle.std.proofs.Common.{Some, None, subst}
 use Rattle.std.specs.Prelude.{slice_get, encode_utf8_all}
 use Rattle.std.specs.Str.{bytes_eq, chars, IsUtf8}
 use Rattle.std.specs.List.{list_any, before_first, after_first}

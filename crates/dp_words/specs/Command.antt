@@ -1,6 +1,6 @@
 -- The one flat command by which `clap` reads the words, and what its matches say.
-use Rattle.std.specs.Prelude.{◌≡◌, Bool, true, false, not, List, [], Some, Result, Ok, Err, codes, fold, unwrap_or,
-    option_map}
+use Rattle.std.specs.Prelude.{◌≡◌, Bool, true, false, not, List, [], Some, Result, Ok, Err, codes, fold, unwrap_or}
+use Rattle.std.specs.Prelude.{option_map}
 use Rattle.std.specs.List.{list_any}
 use Rattle.std.specs.Option.{option_map_or}
 use Rattle.std.specs.Str.{bytes_eq}

@@ -1,7 +1,7 @@
 -- What the words of the command line ask for: the tables of options and commands, and the job.
-use Rattle.std.specs.Prelude.{◌≡◌, ◌⊎◌, ℕ, ◌≤◌, ◌-◌, ◌^◌, Bool, true, ◌&&◌, ◌||◌, ◌==◌, not, nat_eq, nat_le, List, [],
-    ◌∷◌, ◌++◌, map, length, find, Option, Some, None, Result, Ok, Err, is_some, option_and_then, unwrap_or, slice_get,
-    codes, if◌then◌else◌}
+use Rattle.std.specs.Prelude.{◌≡◌, ◌⊎◌, ℕ, ◌≤◌, ◌-◌, ◌^◌, Bool, true, ◌&&◌, ◌||◌, ◌==◌, not, nat_eq, nat_le, List, []}
+use Rattle.std.specs.Prelude.{◌∷◌, ◌++◌, map, length, find, Option, Some, None, Result, Ok, Err, is_some}
+use Rattle.std.specs.Prelude.{option_and_then, unwrap_or, slice_get, codes, if◌then◌else◌}
 use Rattle.std.specs.Option.{option_map_or}
 use Rattle.std.specs.Str.{bytes_eq}
 use Rattle.std.specs.Str.Parse.{digits_value}

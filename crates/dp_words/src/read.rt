@@ -1,7 +1,7 @@
 // The job of the words.
 ghost use Rattle.std.specs.Prelude.{◌≡◌, ◌∷◌, IfOk, map, true, string_bytes};
-ghost use Rattle.dp_words.specs.Words.{HasLook, HasSomeStep, HasVersion, IsReadAs, all_hold, check_row, command_job,
-    job_of, job_of_values, plan_row, row_job, show_row, sim_row, value_row};
+ghost use Rattle.dp_words.specs.Words.{HasLook, HasSomeStep, HasVersion, IsReadAs, all_hold, check_row, command_job};
+ghost use Rattle.dp_words.specs.Words.{job_of, job_of_values, plan_row, row_job, show_row, sim_row, value_row};
 ghost use Rattle.dp_words.specs.Command.{merging_off, plain_words, values_of};
 
 use crate::job::{CheckJob, Job, PlanJob, ShowJob, SimJob, ValueJob, WordFault};

@@ -3,9 +3,9 @@ use Rattle.dp_spec.specs.BoundTree.{branch}
 use Rattle.dp_tree.specs.TreeValue.{bound_tree, bound_trees}
 use Rattle.dp_tree.proofs.TreeValues.{bound_tree_leaf, bound_tree_branch, bound_tree_merge}
 use Rattle.dp_cert.specs.TreeSizes.{IsSmallTree}
-use Rattle.dp_cert.proofs.TreeSizeSteps.{AreSmallFrom, no_room, branch_small, small_branch, branch_children,
-    small_start, small_further, small_stops, small_end, merge_small, small_merge, mapped_drop, mapped_length,
-    mapped_end}
+use Rattle.dp_cert.proofs.TreeSizeSteps.{AreSmallFrom, no_room, branch_small, small_branch, branch_children}
+use Rattle.dp_cert.proofs.TreeSizeSteps.{small_start, small_further, small_stops, small_end, merge_small, small_merge}
+use Rattle.dp_cert.proofs.TreeSizeSteps.{mapped_drop, mapped_length, mapped_end}
 use Rattle.dp_cert.proofs.fits.+small_tree.Goals as goal
 
 pub returns-then-most-eq0 : goal.returns-then-most-eq0

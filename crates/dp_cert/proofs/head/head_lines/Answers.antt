@@ -4,9 +4,9 @@ use Rattle.std.proofs.lemmas.Result.{err_from_is_err_and}
 use Rattle.dp_spec.specs.CertificateText.{look_form, mode_form, inner_form}
 use Rattle.dp_cert.specs.CertificateGrammar.{interval_grammar}
 use Rattle.dp_cert.specs.HeadValue.{interval_of}
-use Rattle.dp_cert.specs.TextSteps.{the_words, the_numbers, one_of}
+use Rattle.dp_lines.specs.Steps.{the_words, the_numbers, one_of}
 use Rattle.dp_cert.proofs.HeadParts.{behind_look, behind_mode, behind_interval, behind_inner, behind_title, head_end}
-use Rattle.dp_cert.proofs.TextParts.{bind_ok, fails_then}
+use Rattle.dp_lines.proofs.TextParts.{bind_ok, fails_then}
 use Rattle.dp_cert.proofs.head.head_lines.Goals as goal
 
 pub returns-in_err-interval : goal.returns-in_err-interval

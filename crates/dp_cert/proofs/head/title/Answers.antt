@@ -4,9 +4,9 @@ use Rattle.std.specs.Fmt.{decimal}
 use Rattle.std.proofs.lemmas.Result.{err_from_is_err_and}
 use Rattle.dp_spec.specs.PolicyText.{title_form}
 use Rattle.dp_lines.specs.Grammar.{ends}
-use Rattle.dp_cert.specs.TextSteps.{one_of}
-use Rattle.dp_cert.proofs.FixedLines.{one_is_word, two_is_word, one_joined, two_joined}
-use Rattle.dp_cert.proofs.TextParts.{bind_ok, fails_then}
+use Rattle.dp_lines.specs.Steps.{one_of}
+use Rattle.dp_cert.proofs.TitleLines.{one_is_word, two_is_word, one_joined, two_joined}
+use Rattle.dp_lines.proofs.TextParts.{bind_ok, fails_then}
 use Rattle.dp_cert.proofs.head.title.Goals as goal
 
 pub returns-in_err-is_first : goal.returns-in_err-is_first

@@ -2,8 +2,8 @@ use Rattle.std.proofs.Common.{◌∷◌, [], map, ap, ◌∙◌, Ok, arith}
 use Rattle.std.specs.Prelude.{pos}
 use Rattle.dp_spec.specs.TextLines.{fixed, plain}
 use Rattle.dp_lines.proofs.LineAnswers.{line_shorter}
-use Rattle.dp_cert.proofs.LineCounts.{one_number, one_is, one_inside}
-use Rattle.dp_cert.proofs.TextParts.{numbers_to, numbers_bad}
+use Rattle.dp_lines.proofs.LineCounts.{one_number, one_is, one_inside}
+use Rattle.dp_lines.proofs.TextParts.{numbers_to, numbers_bad}
 use Rattle.dp_cert.proofs.lines.number.Goals as goal
 
 pub index-requires : goal.index-requires

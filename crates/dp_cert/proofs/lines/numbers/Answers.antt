@@ -3,8 +3,8 @@ use Rattle.std.specs.Prelude.{pos}
 use Rattle.dp_spec.specs.TextLines.{fixed}
 use Rattle.dp_lines.specs.Lines.{plain_form}
 use Rattle.dp_lines.proofs.LineAnswers.{line_shorter}
-use Rattle.dp_cert.proofs.LineCounts.{line_inside, numbers_count}
-use Rattle.dp_cert.proofs.TextParts.{numbers_to, numbers_bad}
+use Rattle.dp_lines.proofs.LineCounts.{line_inside, numbers_count}
+use Rattle.dp_lines.proofs.TextParts.{numbers_to, numbers_bad}
 use Rattle.dp_cert.proofs.lines.numbers.Goals as goal
 
 pub after-requires : goal.after-requires

@@ -1,7 +1,7 @@
 use Rattle.std.proofs.Common.{ap, ◌∙◌, Err}
 use Rattle.dp_lines.specs.Lines.{fixed_form}
-use Rattle.dp_cert.proofs.FixedLines.{only_shape}
-use Rattle.dp_cert.proofs.TextParts.{first_to, second_to, neither_bad}
+use Rattle.dp_lines.proofs.FixedLines.{only_shape}
+use Rattle.dp_lines.proofs.TextParts.{first_to, second_to, neither_bad}
 use Rattle.dp_cert.proofs.lines.one_of.Goals as goal
 
 pub returns-in-Ok : goal.returns-in-Ok

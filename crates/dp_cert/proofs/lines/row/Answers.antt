@@ -2,8 +2,8 @@ use Rattle.std.proofs.Common.{map}
 use Rattle.std.specs.Prelude.{pos}
 use Rattle.dp_lines.specs.Lines.{plain_form}
 use Rattle.dp_lines.proofs.LineAnswers.{line_shorter}
-use Rattle.dp_cert.proofs.LineCounts.{row_count}
-use Rattle.dp_cert.proofs.TextParts.{numbers_to, numbers_bad}
+use Rattle.dp_lines.proofs.LineCounts.{row_count}
+use Rattle.dp_lines.proofs.TextParts.{numbers_to, numbers_bad}
 use Rattle.dp_cert.proofs.lines.row.Goals as goal
 
 pub after-requires : goal.after-requires

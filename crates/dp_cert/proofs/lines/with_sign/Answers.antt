@@ -3,8 +3,8 @@ use Rattle.std.specs.Int.{w128}
 use Rattle.std.proofs.lemmas.Int.{to_z-of_z}
 use Rattle.dp_spec.specs.TextLines.{fixed, signed}
 use Rattle.dp_lines.proofs.LineAnswers.{line_shorter}
-use Rattle.dp_cert.proofs.TextParts.{numbers_to, numbers_bad}
-use Rattle.dp_cert.specs.Reading.{rest_at}
+use Rattle.dp_lines.proofs.TextParts.{numbers_to, numbers_bad}
+use Rattle.dp_lines.specs.Reading.{rest_at}
 use Rattle.dp_cert.proofs.lines.with_sign.Goals as goal
 
 pub after-requires : goal.after-requires

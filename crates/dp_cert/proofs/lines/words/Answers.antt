@@ -1,4 +1,4 @@
-use Rattle.dp_cert.proofs.TextParts.{words_to, words_bad}
+use Rattle.dp_lines.proofs.TextParts.{words_to, words_bad}
 use Rattle.dp_cert.proofs.lines.words.Goals as goal
 
 pub returns-in-Ok : goal.returns-in-Ok

@@ -1,6 +1,6 @@
 use Rattle.std.proofs.Common.{◌∙◌, arith}
-use Rattle.dp_cert.specs.PolicyGrammar.{agent_words}
-use Rattle.dp_cert.proofs.AgentWords.{agent_words_are}
+use Rattle.dp_policy.specs.PolicyGrammar.{agent_words}
+use Rattle.dp_policy.proofs.AgentParts.{agent_words_are}
 use Rattle.dp_cert.proofs.plain_text.agent_line.Goals as goal
 
 pub returns : goal.returns

@@ -1,6 +1,6 @@
 use Rattle.std.proofs.Common.{arith}
 use Rattle.dp_policy.proofs.JoinedRows.{few_observations}
-use Rattle.dp_cert.proofs.StageParts.{action_some, histories_few}
+use Rattle.dp_policy.proofs.AgentParts.{action_some, histories_few}
 use Rattle.dp_cert.proofs.plain_text.plain_agent.Goals as goal
 
 pub plain_stages-requires-clause-actions : goal.plain_stages-requires-clause-actions

@@ -1,7 +1,7 @@
 use Rattle.std.proofs.Common.{◌≡◌, drop, map}
 use Rattle.dp_lines.specs.Scanning.{front_of}
 use Rattle.dp_cert.specs.PolicyGrammar.{plain_agents}
-use Rattle.dp_cert.specs.Reading.{onto}
+use Rattle.dp_lines.specs.Reading.{onto}
 use Rattle.dp_cert.proofs.plain_text.plain_agents.Given as goal
 
 -- the agents so far and what the later ones say are what all say

@@ -2,7 +2,7 @@ use Rattle.std.proofs.Common.{◌+◌, ◌-◌, ◌∷◌, [], map, ap, ◌∙�
 use Rattle.std.proofs.lemmas.List.{map-append}
 use Rattle.std.proofs.lemmas.Result.{err_from_is_err_and}
 use Rattle.dp_cert.specs.PolicyGrammar.{plain_stage, plain_stages}
-use Rattle.dp_cert.proofs.ListParts.{more_fails, more_read}
+use Rattle.dp_lines.proofs.TextParts.{more_fails, more_read}
 use Rattle.dp_cert.proofs.StageParts.{plain_stages_at}
 use Rattle.dp_cert.proofs.plain_text.plain_stages.Goals as goal
 

@@ -1,7 +1,7 @@
 use Rattle.std.proofs.Common.{◌≡◌, ◌-◌, map}
 use Rattle.dp_lines.specs.Scanning.{front_of}
 use Rattle.dp_cert.specs.PolicyGrammar.{plain_stages}
-use Rattle.dp_cert.specs.Reading.{onto}
+use Rattle.dp_lines.specs.Reading.{onto}
 use Rattle.dp_cert.proofs.plain_text.plain_stages.Given as goal
 
 -- the rows so far and what the later stages say are what all say

@@ -5,10 +5,10 @@ use Rattle.dp_tree.specs.TreeValue.{bound_tree}
 use Rattle.dp_cert.specs.CertificateGrammar.{head_grammar, horizon_grammar, title_grammar, tree_grammar}
 use Rattle.dp_cert.specs.HeadValue.{head_of}
 use Rattle.dp_cert.specs.PolicyGrammar.{policy_grammar}
-use Rattle.dp_cert.specs.Reading.{rest_at}
-use Rattle.dp_cert.proofs.CertificateParts.{behind_head, behind_horizon, behind_policy, behind_tree, behind_version,
-    from_version}
-use Rattle.dp_cert.proofs.TextParts.{bind_ok, fails_then}
+use Rattle.dp_lines.specs.Reading.{rest_at}
+use Rattle.dp_cert.proofs.CertificateParts.{behind_head, behind_horizon, behind_policy, behind_tree, behind_version}
+use Rattle.dp_cert.proofs.CertificateParts.{from_version}
+use Rattle.dp_lines.proofs.TextParts.{bind_ok, fails_then}
 use Rattle.dp_cert.proofs.read.lines.Goals as goal
 
 pub returns-in_err-version : goal.returns-in_err-version

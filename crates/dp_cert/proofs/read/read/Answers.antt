@@ -2,8 +2,7 @@ use Rattle.std.proofs.Common.{rules}
 use Rattle.std.proofs.lemmas.Result.{err_from_is_err_and}
 use Rattle.dp_cert.specs.CertificateGrammar.{certificate_grammar}
 use Rattle.dp_cert.specs.CertificateValue.{certificate_of}
-use Rattle.dp_cert.proofs.CertificateParts.{text_ends, text_fails, text_goes_on}
-use Rattle.dp_cert.proofs.TextParts.{fails_also}
+use Rattle.dp_lines.proofs.TextParts.{text_ends, text_fails, text_goes_on, fails_also}
 use Rattle.dp_cert.proofs.read.read.Goals as goal
 
 pub returns-in_err-certificate : goal.returns-in_err-certificate

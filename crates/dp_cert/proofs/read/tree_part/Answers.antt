@@ -5,8 +5,9 @@ use Rattle.dp_spec.specs.BoundTree.{BoundTree}
 use Rattle.dp_lines.specs.Grammar.{ends, ◌>>=◌}
 use Rattle.dp_tree.specs.TreeValue.{bound_tree}
 use Rattle.dp_cert.specs.CertificateGrammar.{tree_lines}
-use Rattle.dp_cert.specs.TextSteps.{Text, the_words}
-use Rattle.dp_cert.proofs.TextParts.{bind_ok, fails_then}
+use Rattle.dp_cert.specs.PolicyGrammar.{Text}
+use Rattle.dp_lines.specs.Steps.{the_words}
+use Rattle.dp_lines.proofs.TextParts.{bind_ok, fails_then}
 use Rattle.dp_cert.proofs.read.tree_part.Goals as goal
 
 end_behind : BoundTree → Text BoundTree

@@ -4,9 +4,10 @@ use Rattle.std.proofs.lemmas.Result.{err_from_is_err_and}
 use Rattle.dp_spec.specs.SharedRows.{products}
 use Rattle.dp_lines.specs.Scanning.{front_of}
 use Rattle.dp_cert.specs.PolicyGrammar.{counts_grammar, shared_agents, shared_stages}
-use Rattle.dp_cert.specs.TextSteps.{and_then}
-use Rattle.dp_cert.proofs.ListParts.{more_fails, more_read, part_fails, part_read}
-use Rattle.dp_cert.proofs.StageParts.{action_some, shared_agents_at}
+use Rattle.dp_lines.specs.Steps.{and_then}
+use Rattle.dp_lines.proofs.TextParts.{more_fails, more_read, part_fails, part_read}
+use Rattle.dp_policy.proofs.AgentParts.{action_some}
+use Rattle.dp_cert.proofs.StageParts.{shared_agents_at}
 use Rattle.dp_cert.proofs.shared_text.shared_agents.Goals as goal
 
 pub shared_stages-requires-clause-actions : goal.shared_stages-requires-clause-actions

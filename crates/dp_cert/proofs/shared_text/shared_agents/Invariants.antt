@@ -3,7 +3,7 @@ use Rattle.std.specs.List.{AllByRecursion}
 use Rattle.std.specs.Prelude.{replicate}
 use Rattle.dp_lines.specs.Scanning.{front_of}
 use Rattle.dp_cert.specs.PolicyGrammar.{shared_agents}
-use Rattle.dp_cert.specs.Reading.{onto}
+use Rattle.dp_lines.specs.Reading.{onto}
 use Rattle.dp_cert.proofs.shared_text.shared_agents.Given as goal
 
 -- the agents so far and what the later ones say are what all say

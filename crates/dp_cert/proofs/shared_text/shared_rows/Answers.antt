@@ -2,7 +2,7 @@ use Rattle.std.proofs.Common.{◌+◌, ◌-◌}
 use Rattle.std.proofs.lemmas.Result.{err_from_is_err_and}
 use Rattle.dp_lines.specs.Lines.{plain_form}
 use Rattle.dp_cert.specs.PolicyGrammar.{row_line, rows_of_form}
-use Rattle.dp_cert.proofs.ListParts.{more_fails, more_read}
+use Rattle.dp_lines.proofs.TextParts.{more_fails, more_read}
 use Rattle.dp_cert.proofs.StageParts.{rows_at}
 use Rattle.dp_cert.proofs.shared_text.shared_rows.Goals as goal
 

@@ -2,7 +2,7 @@ use Rattle.std.proofs.Common.{◌≡◌, ◌-◌}
 use Rattle.dp_lines.specs.Lines.{plain_form}
 use Rattle.dp_lines.specs.Scanning.{front_of}
 use Rattle.dp_cert.specs.PolicyGrammar.{rows_of_form}
-use Rattle.dp_cert.specs.Reading.{onto}
+use Rattle.dp_lines.specs.Reading.{onto}
 use Rattle.dp_cert.proofs.shared_text.shared_rows.Given as goal
 
 -- the rows so far and what the later lines say are what all say

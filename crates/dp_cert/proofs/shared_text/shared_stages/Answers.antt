@@ -6,9 +6,9 @@ use Rattle.dp_spec.specs.TextLines.{Item}
 use Rattle.dp_lines.specs.Lines.{plain_form}
 use Rattle.dp_lines.specs.Scanning.{front_of}
 use Rattle.dp_cert.specs.PolicyGrammar.{first_of_counts, nexts_before, rows_of_form, shared_stages}
-use Rattle.dp_cert.specs.Reading.{onto}
-use Rattle.dp_cert.specs.TextSteps.{and_then}
-use Rattle.dp_cert.proofs.ListParts.{more_fails, more_read}
+use Rattle.dp_lines.specs.Reading.{onto}
+use Rattle.dp_lines.specs.Steps.{and_then}
+use Rattle.dp_lines.proofs.TextParts.{more_fails, more_read}
 use Rattle.dp_cert.proofs.RowParts.{some_dropped}
 use Rattle.dp_cert.proofs.StageParts.{shared_stages_at}
 use Rattle.dp_cert.proofs.shared_text.shared_stages.Goals as goal

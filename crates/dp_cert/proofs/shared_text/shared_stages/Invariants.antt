@@ -1,7 +1,7 @@
 use Rattle.std.proofs.Common.{◌≡◌, drop, map}
 use Rattle.dp_lines.specs.Scanning.{front_of}
 use Rattle.dp_cert.specs.PolicyGrammar.{shared_stages}
-use Rattle.dp_cert.specs.Reading.{onto}
+use Rattle.dp_lines.specs.Reading.{onto}
 use Rattle.dp_cert.proofs.shared_text.shared_stages.Given as goal
 
 -- the stages so far and what the later ones say are what all say

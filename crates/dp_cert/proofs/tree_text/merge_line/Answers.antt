@@ -1,5 +1,5 @@
 use Rattle.std.proofs.Common.{arith, ap, ◌∙◌, Ok}
-use Rattle.dp_cert.proofs.LineCounts.{three_numbers, three_are}
+use Rattle.dp_lines.proofs.LineCounts.{three_numbers, three_are}
 use Rattle.dp_cert.proofs.tree_text.merge_line.Goals as goal
 
 pub index-requires : goal.index-requires

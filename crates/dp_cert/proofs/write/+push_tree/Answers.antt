@@ -91,5 +91,5 @@ returns-after-loop-kid-clause-typed t c =
     let items = c.deref-kid-items.result.now in
     let e = mapped_end bound_tree items l.kid-index (omega (arith, c.loop-kid-test.false)) in
     subst (λ (ts : List BoundTree). HaveTypedNumbers (bound_trees ts)
-        → HasTypedNumbers (bound_tree c.args.tree.now)) e
+    → HasTypedNumbers (bound_tree c.args.tree.now)) e
     l.invariant.1 tt

@@ -1,6 +1,7 @@
 use Rattle.std.proofs.Common.{◌∷◌, ◌++◌, ◌≡◌, [], List, suc, add-one, drop, map, true, ap, subst, ◌∙◌}
 use Rattle.dp_spec.specs.SharedPolicy.{AgentRows, PolicyRow}
-use Rattle.dp_cert.specs.CertificateBytes.{actions_bytes, row_tail}
+use Rattle.dp_cert.specs.CertificateBytes.{actions_bytes}
+use Rattle.dp_lines.specs.Lines.{row_tail}
 use Rattle.dp_cert.proofs.TreeSizeSteps.{mapped_drop}
 use Rattle.dp_cert.proofs.WrittenTrees.{step_on}
 use Rattle.dp_cert.proofs.write.push_actions.Goals as goal

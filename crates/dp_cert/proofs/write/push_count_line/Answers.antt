@@ -1,6 +1,6 @@
 use Rattle.std.proofs.Common.{◌∷◌, ◌++◌, [], map, length, sym, ap, ◌∙◌}
 use Rattle.std.specs.Prelude.{codes, false}
-use Rattle.dp_cert.specs.CertificateBytes.{row_tail}
+use Rattle.dp_lines.specs.Lines.{row_tail}
 use Rattle.dp_cert.proofs.WrittenTrees.{behind, mapped_twice}
 use Rattle.dp_cert.proofs.write.push_count_line.Goals as goal
 

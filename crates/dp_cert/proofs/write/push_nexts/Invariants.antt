@@ -1,5 +1,5 @@
 use Rattle.std.proofs.Common.{◌≡◌, ◌++◌, drop, false}
-use Rattle.dp_cert.specs.CertificateBytes.{row_tail}
+use Rattle.dp_lines.specs.Lines.{row_tail}
 use Rattle.dp_cert.proofs.write.push_nexts.Given as goal
 
 -- what is written and what is still to be are all

@@ -8,13 +8,19 @@ use Rattle.dp_cluster.proofs.FrontParts.{unassigned_in}
 use Rattle.dp_check.specs.Bounding.{arithmetic_of}
 use Rattle.dp_check.specs.Walks.{passed, with_merge}
 use Rattle.dp_check.proofs.FrontBounds.{early}
-use Rattle.dp_check.proofs.EntrySteps.{merge_misplaced, merge_passes, mergeable, merged_with_room, may_fail,
-    merge_refused}
+use Rattle.dp_check.proofs.EntrySteps.{
+  merge_misplaced,
+  merge_passes,
+  mergeable,
+  merged_with_room,
+  may_fail,
+  merge_refused,
+}
 use Rattle.dp_check.proofs.NodeSteps.{below_is}
 use Rattle.dp_check.proofs.enter.enter_merge.Goals as goal
 
-pub returns-then-not-may_merge : goal.returns-then-not-may_merge
-returns-then-not-may_merge c = λ k.
+pub returns-then-not-may_merge-clause-entered : goal.returns-then-not-may_merge-clause-entered
+returns-then-not-may_merge-clause-entered c = λ k.
     merge_misplaced (arithmetic_of c.args.m.now.model c.args.bounds.now)
     c.args.m.now.model c.args.bounds.now.fit.horizon c.args.node.now c.args.agent c.args.first c.args.second k
     c.args.tally.now
@@ -75,8 +81,8 @@ below-requires-clause-above c =
     (leaf (pos 0)) (sym (c.may_merge.ensures (leaf (pos 0))) ∙ search (rules, c.if-not-may_merge.false)) in
     is.deeper
 
-pub returns-in_ok-looks-in-Ok : goal.returns-in_ok-looks-in-Ok
-returns-in_ok-looks-in-Ok c =
+pub returns-in_ok-looks-in-Ok-clause-entered : goal.returns-in_ok-looks-in-Ok-clause-entered
+returns-in_ok-looks-in-Ok-clause-entered c =
     let A = arithmetic_of c.args.m.now.model c.args.bounds.now in
     let fits : SFits w128 c.cap-cap.result = search (rules, c.cap-cap.type_inv) in
     let equal = (c.in-Ok.ensures.merged c.args.m.now.model c.requires.node.front.of_model).equivalent in (
@@ -99,8 +105,8 @@ refused-requires c =
     may_fail m b c.requires.bounds c.args.node.now c.requires.node c.args.agent c.args.first c.args.second is
     c.in-Err.fault (c.in-Err.ensures.fault m c.requires.node.front.of_model)
 
-pub returns-in_ok-reason-in-Err : goal.returns-in_ok-reason-in-Err
-returns-in_ok-reason-in-Err c = λ k.
+pub returns-in_ok-reason-in-Err-clause-entered : goal.returns-in_ok-reason-in-Err-clause-entered
+returns-in_ok-reason-in-Err-clause-entered c = λ k.
     let m = c.args.m.now.model in
     let b = c.args.bounds.now in
     merge_refused m b c.args.node.now c.args.agent c.args.first c.args.second k c.args.tally.now

@@ -8,20 +8,33 @@ use Rattle.dp_cluster.proofs.FrontParts.{unassigned_in}
 use Rattle.dp_check.specs.Bounding.{arithmetic_of}
 use Rattle.dp_check.specs.Nodes.{nodes_at}
 use Rattle.dp_check.specs.Walks.{walked}
-use Rattle.dp_check.proofs.WalkSteps.{branch_room, branch_starts, branch_stops, child_passes, child_room,
-    child_smaller, child_stops, choices_from, merge_goes_on, merge_room, merge_stops, merged_smaller, room_left}
+use Rattle.dp_check.proofs.WalkSteps.{
+  branch_room,
+  branch_starts,
+  branch_stops,
+  child_passes,
+  child_room,
+  child_smaller,
+  child_stops,
+  choices_from,
+  merge_goes_on,
+  merge_room,
+  merge_stops,
+  merged_smaller,
+  room_left,
+}
 use Rattle.dp_check.proofs.walk.+walk.Goals as goal
 
-pub returns-in-Leaf : goal.returns-in-Leaf
-returns-in-Leaf t c =
+pub returns-in-Leaf-clause-is : goal.returns-in-Leaf-clause-is
+returns-in-Leaf-clause-is t c =
     let m = c.args.m.now.model in
     let b = c.args.bounds.now in
     ap (λ T. walked (arithmetic_of m b) m b.fit.horizon (nodes_at m b T c.args.node.now) c.args.tally.now)
     (ap bound_tree c.in-Leaf.is ∙ bound_tree_leaf c.in-Leaf.bound)
     ∙ c.leaf.ensures
 
-pub returns-in-Some : goal.returns-in-Some
-returns-in-Some t c =
+pub returns-in-Some-clause-is : goal.returns-in-Some-clause-is
+returns-in-Some-clause-is t c =
     let Ts = map bound_tree c.in-Branch.kids.items in
     let is = ap bound_tree c.in-Branch.is ∙ bound_tree_branch c.in-Branch.agent c.in-Branch.class
     c.in-Branch.kids in
@@ -67,6 +80,7 @@ loop-action-init t c =
           (passes (bound_trees Ts) many),
       room.0,
       room.1,
+      c.requires.room,
     )
 
 pub walk-requires : goal.walk-requires
@@ -88,7 +102,7 @@ walk-requires t c =
     child_room m b c.args.node.now c.in-Branch.agent c.in-Branch.class c.loop-action.action
     (bound_tree c.index.result.now) (map bound_tree (drop (suc c.loop-action.action) items))
     (map bound_tree (drop c.loop-action.action items)) is
-    c.in_ok-child-in-Branch.child c.in_ok-child-in-Branch.ensures c.loop-action.tally _
+    c.in_ok-child-in-Branch.child c.in_ok-child-in-Branch.ensures.below c.loop-action.tally _
     c.loop-action.invariant.0
     c.loop-action.invariant.1 in
     let whole = ap bound_tree c.in-Branch.is ∙ bound_tree_branch c.in-Branch.agent c.in-Branch.class
@@ -99,14 +113,14 @@ walk-requires t c =
       (
         c.requires.bounds,
         (
-          c.in_ok-child-in-Branch.ensures.of_model,
-          (room, c.loop-action.invariant.2),
+          c.in_ok-child-in-Branch.ensures.below.of_model,
+          (room, (c.loop-action.invariant.2, c.after_choice.ensures.room)),
         ),
       ),
     )
 
-pub returns-in-Some-2 : goal.returns-in-Some-2
-returns-in-Some-2 t c =
+pub returns-in-Some-2-clause-is : goal.returns-in-Some-2-clause-is
+returns-in-Some-2-clause-is t c =
     let m = c.args.m.now.model in
     let b = c.args.bounds.now in
     let items = c.in-Branch.kids.items in
@@ -120,11 +134,11 @@ returns-in-Some-2 t c =
       c.loop-action-test.true,
     ) in
     let is = mapped_drop bound_tree items c.loop-action.action c.index.result.now lt c.index.ensures in
-    let found = rw c.in-Some-2.is at c.in_ok-reason-in-Branch-2.ensures in
+    let found = rw c.in-Some-2.is at c.in_ok-reason-in-Branch-2.ensures.is in
     child_stops m b c.args.node.now c.in-Branch.agent c.in-Branch.class c.loop-action.action
     (bound_tree c.index.result.now) (map bound_tree (drop (suc c.loop-action.action) items))
     (map bound_tree (drop c.loop-action.action items)) is
-    c.in_ok-child-in-Branch.child c.in_ok-child-in-Branch.ensures c.loop-action.tally _
+    c.in_ok-child-in-Branch.child c.in_ok-child-in-Branch.ensures.below c.loop-action.tally _
     c.loop-action.invariant.0 _
     found
 
@@ -143,25 +157,25 @@ loop-action-preserved t c =
       c.loop-action-test.true,
     ) in
     let is = mapped_drop bound_tree items c.loop-action.action c.index.result.now lt c.index.ensures in
-    let passes = rw c.in_default-2.is at c.in_ok-reason-in-Branch-2.ensures in
+    let passes = rw c.in_default-2.is at c.in_ok-reason-in-Branch-2.ensures.is in
     let next =
     child_passes m b c.args.node.now c.in-Branch.agent c.in-Branch.class c.loop-action.action
     (bound_tree c.index.result.now) (map bound_tree (drop (suc c.loop-action.action) items))
     (map bound_tree (drop c.loop-action.action items)) is
-    c.in_ok-child-in-Branch.child c.in_ok-child-in-Branch.ensures c.loop-action.tally _
+    c.in_ok-child-in-Branch.child c.in_ok-child-in-Branch.ensures.below c.loop-action.tally _
     c.loop-action.invariant.0
     c.walk.new.tally passes in
     let room =
     room_left m b c.args.node.now c.in-Branch.agent c.in-Branch.class c.loop-action.action
     (bound_tree c.index.result.now) (map bound_tree (drop (suc c.loop-action.action) items))
     (map bound_tree (drop c.loop-action.action items)) is
-    c.in_ok-child-in-Branch.child c.in_ok-child-in-Branch.ensures c.loop-action.tally _
+    c.in_ok-child-in-Branch.child c.in_ok-child-in-Branch.ensures.below c.loop-action.tally _
     c.loop-action.invariant.0
     c.walk.new.tally passes c.loop-action.invariant.2 c.loop-action.invariant.1 in
-    rw add-one (next, room.0, room.1)
+    rw add-one (next, room.0, room.1, c.walk.ensures.room)
 
-pub returns-after-loop-action : goal.returns-after-loop-action
-returns-after-loop-action t c =
+pub returns-after-loop-action-clause-is : goal.returns-after-loop-action-clause-is
+returns-after-loop-action-clause-is t c =
     let m = c.args.m.now.model in
     let b = c.args.bounds.now in
     let items = c.in-Branch.kids.items in
@@ -185,7 +199,7 @@ walk-requires-in-Below t c =
     let b = c.args.bounds.now in
     let is = ap bound_tree c.in-Merge.is ∙ bound_tree_merge c.in-Merge.agent c.in-Merge.first c.in-Merge.second
     c.in-Merge.kid in
-    let enters = rw c.in-Below.is at c.in_ok-child-in-Merge.ensures in
+    let enters = rw c.in-Below.is at c.in_ok-child-in-Merge.ensures.entered in
     let room =
     merge_room m b c.args.node.now c.in-Merge.agent c.in-Merge.first c.in-Merge.second
     (bound_tree c.in-Merge.kid.value) (bound_tree c.args.tree.now) is c.args.tally.now c.enter_merge.new.tally
@@ -196,28 +210,28 @@ walk-requires-in-Below t c =
       rw value (omega (arith, less, c.decreases)),
       (
         c.requires.bounds,
-        (enters.1.of_model, (rw value room.0, room.1)),
+        (enters.1.of_model, (rw value room.0, (room.1, c.enter_merge.ensures.room))),
       ),
     )
 
-pub returns-in-Wrong : goal.returns-in-Wrong
-returns-in-Wrong t c =
+pub returns-in-Wrong-clause-is : goal.returns-in-Wrong-clause-is
+returns-in-Wrong-clause-is t c =
     let m = c.args.m.now.model in
     let b = c.args.bounds.now in
     let is = ap bound_tree c.in-Merge.is ∙ bound_tree_merge c.in-Merge.agent c.in-Merge.first c.in-Merge.second
     c.in-Merge.kid in
-    let wrong = rw c.in-Wrong.is at c.in_ok-child-in-Merge.ensures in
+    let wrong = rw c.in-Wrong.is at c.in_ok-child-in-Merge.ensures.entered in
     merge_stops m b c.args.node.now c.in-Merge.agent c.in-Merge.first c.in-Merge.second
     (bound_tree c.in-Merge.kid.value) (bound_tree c.args.tree.now) is c.args.tally.now _
     (wrong (bound_tree c.in-Merge.kid.value))
 
-pub returns-in_ok-found-in-Below : goal.returns-in_ok-found-in-Below
-returns-in_ok-found-in-Below t c =
+pub returns-in_ok-found-in-Below-clause-is : goal.returns-in_ok-found-in-Below-clause-is
+returns-in_ok-found-in-Below-clause-is t c =
     let m = c.args.m.now.model in
     let b = c.args.bounds.now in
     let is = ap bound_tree c.in-Merge.is ∙ bound_tree_merge c.in-Merge.agent c.in-Merge.first c.in-Merge.second
     c.in-Merge.kid in
-    let enters = rw c.in-Below.is at c.in_ok-child-in-Merge.ensures in
+    let enters = rw c.in-Below.is at c.in_ok-child-in-Merge.ensures.entered in
     let value = c.deref.ensures in
     merge_goes_on m b c.args.node.now c.in-Merge.agent c.in-Merge.first c.in-Merge.second
     (bound_tree c.in-Merge.kid.value) (bound_tree c.args.tree.now)
@@ -225,4 +239,4 @@ returns-in_ok-found-in-Below t c =
     (enters.0 (bound_tree c.in-Merge.kid.value)) enters.1
     ∙ ap (λ k. walked (arithmetic_of m b) m b.fit.horizon (nodes_at m b (bound_tree k) c.in-Below.child)
     c.enter_merge.new.tally) (sym value)
-    ∙ c.in_ok-found-in-Below.ensures
+    ∙ c.in_ok-found-in-Below.ensures.is

@@ -1,7 +1,7 @@
 use Rattle.std.proofs.Common.{◌≡◌, ◌+◌, ◌≤◌, ◌^◌, drop, map}
 use Rattle.dp_spec.specs.BoundTree.{node_count, node_counts}
 use Rattle.dp_tree.specs.TreeValue.{bound_tree, bound_trees}
-use Rattle.dp_check.specs.Bounding.{arithmetic_of}
+use Rattle.dp_check.specs.Bounding.{IsLookRoom, arithmetic_of}
 use Rattle.dp_check.specs.Nodes.{nodes_at}
 use Rattle.dp_check.specs.Walks.{walked}
 use Rattle.dp_check.proofs.WalkSteps.{choices_from}
@@ -19,3 +19,4 @@ invariant-loop-action l =
     left) l.tally)
     × (l.tally.nodes + node_counts (bound_trees left) ≤ 2 ^ 28)
     × (l.tally.inner ≤ l.tally.nodes)
+    × (IsLookRoom l.m.model l.bounds l.room)

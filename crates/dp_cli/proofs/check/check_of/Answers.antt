@@ -17,7 +17,7 @@ returns-in_err-cert c =
     let exit = err_from_is_err_and c.from_residual.result c.from_residual.ensures.1 in
     rw (exit.1, exit.2)
     (stops_reading (reason_fault c.args.read.now.model.model) c.args.read.now.model.model c.invariant.ensures.model
-        c.args.bytes.now
+    c.args.bytes.now
     c.in_err-cert.field-0.0
     c.in_err-cert.ensures.answers)
 

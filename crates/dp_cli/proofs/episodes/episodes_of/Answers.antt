@@ -14,16 +14,21 @@ new-actor-requires c =
     let p = c.args.policy.now in
     let i = c.loop-agent.agent in
     let there : i < length p.rows = omega (arith, c.agents-agent-end.ensures.is, c.loop-agent-test.true) in
-    record { rule = (unfolded_tree (get_or p.rows i []) 0, record {
-      callable = λ history has a b e f h k.
-          let ask = may_ask c.args.model.now.model p.horizon p.rows c.requires i there history.now has in
-          (there, (ask.shorter, ask.seen));
-      answers = λ history action has returns.
-          let told : action ≡ root_action (remaining_after (unfolded_tree (get_or p.rows i []) 0) returns.shown.now) =
-          search (rules, returns.says) in
-          told ∙ ap (λ (os : List ℕ). root_action (remaining_after (unfolded_tree (get_or p.rows i []) 0) os))
-          returns.shows;
-    }) }
+    record {
+      rule = (
+        unfolded_tree (get_or p.rows i []) 0,
+        record {
+          callable = λ history has a b e f h k.
+              let ask = may_ask c.args.model.now.model p.horizon p.rows c.requires i there history.now has in
+              (there, (ask.shorter, ask.seen));
+          answers = λ history action has returns.
+              let told : action ≡ root_action (remaining_after (unfolded_tree (get_or p.rows i []) 0) returns.shown.now) =
+              search (rules, returns.says) in
+              told ∙ ap (λ (os : List ℕ). root_action (remaining_after (unfolded_tree (get_or p.rows i []) 0) os))
+              returns.shows;
+        },
+      );
+    }
 
 pub played-requires : goal.played-requires
 played-requires c =

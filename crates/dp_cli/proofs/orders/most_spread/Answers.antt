@@ -11,7 +11,7 @@ loop-number-init c = first_of_one (λ p. pos p.spread) no_place c.args.places.no
 pub loop-number-preserved : goal.loop-number-preserved
 loop-number-preserved c = elim c.if-places-best.branch [
   | then-places-best w ↦ rw w.best-is (first_is_next (λ p.
-        pos p.spread) no_place c.args.places.now c.loop-number.number
+      pos p.spread) no_place c.args.places.now c.loop-number.number
       c.loop-number.best c.loop-number.invariant (omega (arith, ints, w.if-places-best.true)))
   | else-places-best w ↦ rw w.best-is (first_stays (λ p. pos p.spread) no_place c.args.places.now c.loop-number.number
       c.loop-number.best c.loop-number.invariant (omega (arith, ints, w.if-places-best.false)))

@@ -28,7 +28,12 @@ returns c =
     let m = c.args.model.now.model in
     let p = c.args.policy.now in
     let all : c.loop-agent.agent ≡ length m.observations =
-    omega (arith, c.agents-agent-end.ensures.is, c.loop-agent-test.false, c.loop-agent.auto.agent-end,
-    c.invariant.ensures.model.sizes.alike) in
+    omega (
+      arith,
+      c.agents-agent-end.ensures.is,
+      c.loop-agent-test.false,
+      c.loop-agent.auto.agent-end,
+      c.invariant.ensures.model.sizes.alike,
+    ) in
     c.loop-agent.invariant ∙ ap (λ n. c.args.text.now.items ++ flat_map (lines_of_agent c.args.model.now.names
     m.observations (unfolded p.rows) p.horizon) (range_with_len 0 n)) all

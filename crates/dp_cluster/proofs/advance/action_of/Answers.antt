@@ -2,8 +2,8 @@ use Rattle.std.proofs.Common.{◌<◌, ◌≤◌, ℕ, length, refl, ap, subst, 
 use Rattle.std.specs.Prelude.{unwrap_or}
 use Rattle.dp_spec.specs.JointNumbers.{product}
 use Rattle.dp_spec.specs.ClassSteps.{chosen_joint_action}
-use Rattle.dp_cluster.proofs.ChosenActions.{action_room, agents_of, choosing_end, choosing_next, choosing_start,
-    chosen_below, chosen_is, own_in, some, some_after}
+use Rattle.dp_cluster.proofs.ChosenActions.{action_room, agents_of, choosing_end, choosing_next, choosing_start}
+use Rattle.dp_cluster.proofs.ChosenActions.{chosen_below, chosen_is, own_in, some, some_after}
 use Rattle.dp_cluster.proofs.Pairs.{actions_product}
 use Rattle.dp_cluster.proofs.advance.action_of.Goals as goal
 

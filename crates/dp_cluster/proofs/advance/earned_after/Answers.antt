@@ -5,8 +5,8 @@ use Rattle.dp_spec.specs.Front.{class_counts}
 use Rattle.dp_spec.specs.JointNumbers.{product}
 use Rattle.dp_spec.specs.Quantities.{weighted_reward_in}
 use Rattle.dp_value.specs.WeightUpdates.{weights_of}
-use Rattle.dp_cluster.proofs.Advances.{earned_end, earned_next, earned_room, earned_start, earned_to, rewardable,
-    rewarded_is}
+use Rattle.dp_cluster.proofs.Advances.{earned_end, earned_next, earned_room, earned_start, earned_to, rewardable}
+use Rattle.dp_cluster.proofs.Advances.{rewarded_is}
 use Rattle.dp_cluster.proofs.advance.earned_after.Goals as goal
 
 pub loop-class-init : goal.loop-class-init

@@ -3,8 +3,8 @@ use Rattle.dp_spec.specs.Front.{class_counts}
 use Rattle.dp_spec.specs.JointNumbers.{product}
 use Rattle.dp_spec.specs.ClassSteps.{pair_counts}
 use Rattle.dp_cluster.proofs.FrontParts.{as_many_counts}
-use Rattle.dp_cluster.proofs.Pairs.{classes_few, code_next, code_room, seen_few, seen_product, unpair_end,
-    unpair_start, whole_is}
+use Rattle.dp_cluster.proofs.Pairs.{classes_few, code_next, code_room, seen_few, seen_product, unpair_end}
+use Rattle.dp_cluster.proofs.Pairs.{unpair_start, whole_is}
 use Rattle.dp_cluster.proofs.advance.pair_of.Goals as goal
 
 pub loop-agent-init : goal.loop-agent-init

@@ -1,5 +1,5 @@
-use Rattle.std.proofs.Common.{◌≡◌, ◌<◌, suc, true, false, sym, subst, ◌∙◌, ◌*◌, IfOk, List, Result, Ok, Err, Vec,
-    Global}
+use Rattle.std.proofs.Common.{◌≡◌, ◌<◌, suc, true, false, sym, subst, ◌∙◌, ◌*◌, IfOk, List, Result, Ok, Err, Vec}
+use Rattle.std.proofs.Common.{Global}
 use Rattle.dp_base.specs.declared.memory.Memory.{Memory}
 use Rattle.dp_spec.specs.declared.span.Span.{Span}
 use Rattle.dp_spec.specs.Arithmetic.{Arithmetic}

@@ -1,5 +1,5 @@
-use Rattle.std.proofs.Common.{◌≡◌, ◌<◌, ◌++◌, ◌^◌, ◌*◌, ◌-◌, ◌+◌, ◌/◌, ◌%◌, ℕ, map, add-one, sym, ap, subst, ◌∙◌,
-    arith}
+use Rattle.std.proofs.Common.{◌≡◌, ◌<◌, ◌++◌, ◌^◌, ◌*◌, ◌-◌, ◌+◌, ◌/◌, ◌%◌, ℕ, map, add-one, sym, ap, subst, ◌∙◌}
+use Rattle.std.proofs.Common.{arith}
 use Rattle.std.specs.List.{range_with_len}
 use Rattle.dp_spec.specs.declared.span.Span.{Span}
 use Rattle.dp_spec.specs.Calls.{size}
@@ -9,8 +9,9 @@ use Rattle.dp_cluster.specs.Advances.{weight_rows}
 use Rattle.dp_cluster.specs.Joins.{merged_weight, own_count}
 use Rattle.dp_cluster.proofs.AdvancedParts.{some_class}
 use Rattle.dp_cluster.proofs.FrontParts.{unassigned_in}
-use Rattle.dp_cluster.proofs.JoinedWeights.{b_in, below', few_product, kept_room, merged_room, old_in, other_in,
-    place_is, place_room, rows_end, some_count, some_product, some_width, weight_is}
+use Rattle.dp_cluster.proofs.JoinedWeights.{b_in, below', few_product, kept_room, merged_room, old_in, other_in}
+use Rattle.dp_cluster.proofs.JoinedWeights.{place_is, place_room, rows_end, some_count, some_product, some_width}
+use Rattle.dp_cluster.proofs.JoinedWeights.{weight_is}
 use Rattle.dp_cluster.proofs.join.joined_weights.Goals as goal
 
 pub classes-count-requires : goal.classes-count-requires

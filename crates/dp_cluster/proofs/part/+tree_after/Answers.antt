@@ -5,8 +5,8 @@ use Rattle.dp_spec.specs.PolicyTree.{node}
 use Rattle.dp_policy.specs.TreeValue.{policy_tree, policy_trees}
 use Rattle.dp_cluster.specs.AgentParts.{action_after}
 use Rattle.dp_cluster.proofs.OwnParts.{next_made}
-use Rattle.dp_cluster.proofs.PastTrees.{below_next, class_in, last_is, leads_next, more_is, place_few, reached_next,
-    stage_read, tree_made}
+use Rattle.dp_cluster.proofs.PastTrees.{below_next, class_in, last_is, leads_next, more_is, place_few, reached_next}
+use Rattle.dp_cluster.proofs.PastTrees.{stage_read, tree_made}
 use Rattle.dp_cluster.proofs.part.+tree_after.Goals as goal
 use Rattle.dp_cluster.proofs.part.+tree_after.Goals.{then-left-gt1+else-loop-seen-test, else-left-gt1}
 

@@ -7,8 +7,20 @@ use Rattle.dp_game.specs.Kept.{game_with}
 use Rattle.dp_game.proofs.Bounds.{classes_few, classes_some, same_agents}
 use Rattle.dp_game.proofs.Changes.{changing_end, changing_start}
 use Rattle.dp_game.proofs.TakenApart.{count_at}
-use Rattle.dp_game.proofs.Walks.{come_fits, come_next, gone_fits, gone_next, in_best, in_table, in_wanted, joint_few,
-    joint_room, places_are, some_width, walk_next}
+use Rattle.dp_game.proofs.Walks.{
+  come_fits,
+  come_next,
+  gone_fits,
+  gone_next,
+  in_best,
+  in_table,
+  in_wanted,
+  joint_few,
+  joint_room,
+  places_are,
+  some_width,
+  walk_next,
+}
 use Rattle.dp_game.proofs.change.change_class.Goals as goal
 
 pub width_from-width-requires-clause-some : goal.width_from-width-requires-clause-some

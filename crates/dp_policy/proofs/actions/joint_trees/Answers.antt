@@ -3,8 +3,8 @@ use Rattle.dp_spec.specs.FullPolicy.{tree_doing_after}
 use Rattle.dp_policy.specs.ActionRows.{action_in}
 use Rattle.dp_policy.specs.Reading.{agents_of, rows_of}
 use Rattle.dp_policy.proofs.AgentParts.{histories_few}
-use Rattle.dp_policy.proofs.AgentTrees.{AreAgentStages, agent_stages, agents_counted, one_tree_more, rows_of_agent,
-    stages_are}
+use Rattle.dp_policy.proofs.AgentTrees.{AreAgentStages, agent_stages, agents_counted, one_tree_more, rows_of_agent}
+use Rattle.dp_policy.proofs.AgentTrees.{stages_are}
 use Rattle.std.proofs.lemmas.List.{length-map}
 use Rattle.dp_policy.proofs.actions.joint_trees.Goals as goal
 

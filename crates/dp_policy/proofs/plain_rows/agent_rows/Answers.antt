@@ -3,8 +3,8 @@ use Rattle.std.proofs.lemmas.List.{map-append}
 use Rattle.dp_policy.specs.declared.tree.PTree.{PTree}
 use Rattle.dp_policy.specs.TreeRows.{AreRowsOfTrees, AreSubtrees, GoOn}
 use Rattle.dp_policy.specs.TreeValue.{policy_tree}
-use Rattle.dp_policy.proofs.RowsOfTrees.{few_nexts, next_trees, plain_rows_step, stage_few, stage_goes_on,
-    stage_nexts_few}
+use Rattle.dp_policy.proofs.RowsOfTrees.{few_nexts, next_trees, plain_rows_step, stage_few, stage_goes_on}
+use Rattle.dp_policy.proofs.RowsOfTrees.{stage_nexts_few}
 use Rattle.dp_policy.proofs.plain_rows.agent_rows.Goals as goal
 
 pub stage_rows-requires-clause-count : goal.stage_rows-requires-clause-count

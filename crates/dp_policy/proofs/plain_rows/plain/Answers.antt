@@ -1,5 +1,5 @@
-use Rattle.std.proofs.Common.{ℕ, ◌+◌, ◌^◌, ◌<◌, ◌≤◌, ◌++◌, ◌∷◌, [], add-one, drop, get_or, length, map, sym, ap,
-    subst, ◌∙◌, arith}
+use Rattle.std.proofs.Common.{ℕ, ◌+◌, ◌^◌, ◌<◌, ◌≤◌, ◌++◌, ◌∷◌, [], add-one, drop, get_or, length, map, sym, ap}
+use Rattle.std.proofs.Common.{subst, ◌∙◌, arith}
 use Rattle.std.proofs.lemmas.List.{length-map, map-append}
 use Rattle.dp_spec.specs.PlainForm.{plain_form, plain_rows, plain_rows_of}
 use Rattle.dp_spec.specs.PolicyTree.{IsPolicyTree}
@@ -9,8 +9,8 @@ use Rattle.dp_policy.specs.Trees.{joint_policy, tree_of}
 use Rattle.dp_policy.specs.TreeValue.{policy_tree}
 use Rattle.dp_policy.proofs.JoinedRows.{few_observations}
 use Rattle.dp_policy.proofs.JoinedTrees.{few_actions, more_actions, tree_of_agent, trees_alike}
-use Rattle.dp_policy.proofs.RowsOfTrees.{plain_agents_step, plain_end, plain_form_kept, plain_form_made,
-    some_observation, stage_limit}
+use Rattle.dp_policy.proofs.RowsOfTrees.{plain_agents_step, plain_end, plain_form_kept, plain_form_made}
+use Rattle.dp_policy.proofs.RowsOfTrees.{some_observation, stage_limit}
 use Rattle.dp_policy.proofs.plain_rows.plain.Goals as goal
 
 pub loop-agent-init : goal.loop-agent-init

@@ -4,9 +4,9 @@ use Rattle.std.proofs.lemmas.Result.{err_from_is_err_and}
 use Rattle.dp_model.specs.declared.limit.TooLarge.{TooLarge}
 use Rattle.dp_policy.specs.PolicyGrammar.{agent_words}
 use Rattle.dp_policy.specs.Reading.{agents_of, rows_of}
-use Rattle.dp_policy.proofs.TextParts.{fails_also}
-use Rattle.dp_policy.proofs.AgentParts.{action_some, histories_few, agent_words_are, agents_further,
-    agents_stop_at_title, agents_stop_at_rows}
+use Rattle.dp_lines.proofs.TextParts.{fails_also}
+use Rattle.dp_policy.proofs.AgentParts.{action_some, histories_few, agent_words_are, agents_further}
+use Rattle.dp_policy.proofs.AgentParts.{agents_stop_at_title, agents_stop_at_rows}
 use Rattle.dp_policy.proofs.policy_text.agents.Goals as goal
 
 pub returns-in_err-named : goal.returns-in_err-named

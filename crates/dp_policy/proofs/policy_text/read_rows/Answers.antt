@@ -2,9 +2,9 @@ use Rattle.std.proofs.Common.{rules, sym, ◌∙◌, refl, map, arith}
 use Rattle.std.specs.Prelude.{pos, codes}
 use Rattle.std.proofs.lemmas.Result.{err_from_is_err_and}
 use Rattle.dp_policy.specs.PolicyGrammar.{title_words, end_words, policy_grammar}
-use Rattle.dp_policy.proofs.TextParts.{fails_also}
-use Rattle.dp_policy.proofs.PolicyParts.{title_read, title_fails, horizon_read, horizon_fails, limit_passed,
-    limits_kept, agents_read, agents_fail, end_read, end_fails, text_fails, text_ends, text_goes_on, horizon_is}
+use Rattle.dp_lines.proofs.TextParts.{fails_also, text_fails, text_ends, text_goes_on}
+use Rattle.dp_policy.proofs.PolicyParts.{title_read, title_fails, horizon_read, horizon_fails, limit_passed}
+use Rattle.dp_policy.proofs.PolicyParts.{limits_kept, agents_read, agents_fail, end_read, end_fails, horizon_is}
 use Rattle.dp_policy.proofs.policy_text.read_rows.Goals as goal
 
 pub returns-in_err-titled-clause-gives : goal.returns-in_err-titled-clause-gives

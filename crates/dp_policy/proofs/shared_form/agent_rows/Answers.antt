@@ -1,11 +1,12 @@
-use Rattle.std.proofs.Common.{◌≡◌, ℕ, suc, ◌+◌, ◌-◌, ◌<◌, ◌≤◌, [], ◌∷◌, ◌++◌, List, add-one, cond, nat_lt, get_or,
-    length, map, refl, sym, ap, subst, ◌∙◌, arith}
+use Rattle.std.proofs.Common.{◌≡◌, ℕ, suc, ◌+◌, ◌-◌, ◌<◌, ◌≤◌, [], ◌∷◌, ◌++◌, List, add-one, cond, nat_lt, get_or}
+use Rattle.std.proofs.Common.{length, map, refl, sym, ap, subst, ◌∙◌, arith}
 use Rattle.std.proofs.lemmas.List.{length-map, map-append}
 use Rattle.dp_spec.specs.SharedPolicy.{AgentRows, row_count}
 use Rattle.dp_policy.specs.Renumbered.{AreRenumbered}
 use Rattle.dp_policy.proofs.JoinedRows.{kept_rows, rows_alike, rows_of_agent, some_step}
-use Rattle.dp_policy.proofs.ReducedStages.{AreReducedUpTo, kinds_few, kinds_follow, kinds_small, made_is_form,
-    next_kinds, no_kinds, reached_inside, reduced_first, reduced_step, stage_by_kinds}
+use Rattle.dp_policy.proofs.ReducedStages.{AreReducedUpTo, kinds_few, kinds_follow, kinds_small, made_is_form}
+use Rattle.dp_policy.proofs.ReducedStages.{next_kinds, no_kinds, reached_inside, reduced_first, reduced_step}
+use Rattle.dp_policy.proofs.ReducedStages.{stage_by_kinds}
 use Rattle.dp_policy.proofs.RowsOfTrees.{some_observation}
 use Rattle.dp_policy.proofs.shared_form.agent_rows.Goals as goal
 

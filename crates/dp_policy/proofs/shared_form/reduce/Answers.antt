@@ -1,5 +1,5 @@
-use Rattle.std.proofs.Common.{ℕ, ◌+◌, ◌≤◌, ◌++◌, ◌∷◌, [], add-one, drop, get_or, length, map, sym, ap, subst, ◌∙◌,
-    arith}
+use Rattle.std.proofs.Common.{ℕ, ◌+◌, ◌≤◌, ◌++◌, ◌∷◌, [], add-one, drop, get_or, length, map, sym, ap, subst, ◌∙◌}
+use Rattle.std.proofs.Common.{arith}
 use Rattle.std.proofs.lemmas.List.{map-append}
 use Rattle.dp_spec.specs.SharedForm.{shared_form, shared_rows, shared_rows_of}
 use Rattle.dp_spec.specs.SharedPolicy.{SharedPolicy, unfolded, unfolded_tree}

@@ -1,7 +1,8 @@
 use Rattle.std.proofs.Common.{◌-◌, true, false, sym, subst, ◌∙◌, refl}
 use Rattle.dp_spec.specs.Calls.{AreInRange}
 use Rattle.dp_spec.proofs.ScaleRange.{scales_in_range}
-use Rattle.dp_pomdp.proofs.Modes.{mode_looking}
+use Rattle.dp_laws.proofs.SizeLaws.{arithmetic_is_exact}
+use Rattle.dp_pomdp.proofs.Modes.{mode_kept, mode_looking}
 use Rattle.dp_pomdp.proofs.bounds.look_in_mode.Goals as goal
 
 pub of-arith-requires : goal.of-arith-requires
@@ -35,3 +36,19 @@ look_ahead-requires-else-fit-clause-sizes c =
     (c.of-arith-else-fit.ensures ∙ c.scales-else-fit.ensures) c.if-fit.false fit.horizon c.args.t
     (fit.horizon - c.args.t) fit.unit
     c.requires.fit c.requires.time refl c.args.weights.now c.requires.one_each c.requires.weights
+
+pub look_ahead-requires-clause-mode : goal.look_ahead-requires-clause-mode
+look_ahead-requires-clause-mode c = sym (arithmetic_is_exact true c.of-arith.result)
+
+pub look_ahead-requires-else-fit-clause-mode : goal.look_ahead-requires-else-fit-clause-mode
+look_ahead-requires-else-fit-clause-mode c = sym (arithmetic_is_exact false c.of-arith-else-fit.result)
+
+pub returns-then-fit-clause-memo : goal.returns-then-fit-clause-memo
+returns-then-fit-clause-memo c =
+    mode_kept true c.args.fit.exact c.of-arith.result c.args.model.now.model
+    (c.of-arith.ensures ∙ c.scales.ensures) c.if-fit.true _ c.look_ahead.ensures.memo
+
+pub returns-else-fit-clause-memo : goal.returns-else-fit-clause-memo
+returns-else-fit-clause-memo c =
+    mode_kept false c.args.fit.exact c.of-arith-else-fit.result c.args.model.now.model
+    (c.of-arith-else-fit.ensures ∙ c.scales-else-fit.ensures) c.if-fit.false _ c.look_ahead-else-fit.ensures.memo

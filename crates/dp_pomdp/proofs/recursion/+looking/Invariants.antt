@@ -2,22 +2,31 @@ use Rattle.std.proofs.Common.{◌≡◌, ◌+◌, ◌-◌, ◌+ℤ◌, suc}
 use Rattle.dp_spec.specs.Quantities.{action_look_ahead_in, look_ahead_in, weighted_reward_in, weights_after_in}
 use Rattle.dp_base.specs.Sums.{greatest, int_sum, numbers_below}
 use Rattle.dp_pomdp.specs.Looking.{weights_of}
+use Rattle.dp_pomdp.specs.Memos.{AreKept, look_of}
 use Rattle.dp_pomdp.proofs.recursion.+looking.Given as goal
 
 abbrev pub decreases-action_look_ahead : goal.decreases-action_look_ahead
-decreases-action_look_ahead g l = suc (l.rest + l.rest)
+decreases-action_look_ahead g l = suc (l.rest + l.rest + l.rest)
+
+abbrev pub decreases-greatest_look : goal.decreases-greatest_look
+decreases-greatest_look g l = suc (suc (l.rest + l.rest + l.rest))
 
 abbrev pub decreases-look_ahead : goal.decreases-look_ahead
-decreases-look_ahead g l = l.rest + l.rest
+decreases-look_ahead g l = l.rest + l.rest + l.rest
 
 abbrev pub invariant-action_look_ahead-loop-seen : goal.invariant-action_look_ahead-loop-seen
-invariant-action_look_ahead-loop-seen g l = l.total ≡ (weighted_reward_in (g.A.Arith.operations l.arith)
-    l.model.model l.rest (weights_of l.weights) l.action).high +ℤ int_sum l.seen
-    (λ o. look_ahead_in (g.A.Arith.operations l.arith) l.model.model l.rest
-    (weights_after_in (g.A.Arith.operations l.arith) l.model.model (weights_of l.weights) l.action o)
-    (l.look - 1))
+invariant-action_look_ahead-loop-seen g l = record {
+  sum : l.total ≡ (weighted_reward_in (g.A.Arith.operations l.arith)
+      l.model.model l.rest (weights_of l.weights) l.action).high +ℤ int_sum l.seen
+      (λ o. look_ahead_in (g.A.Arith.operations l.arith) l.model.model l.rest
+      (weights_after_in (g.A.Arith.operations l.arith) l.model.model (weights_of l.weights) l.action o)
+      (l.look - 1));
+  kept : AreKept (look_of (g.A.Arith.operations l.arith) l.model.model) l.memo;
+}
 
-abbrev pub invariant-look_ahead-loop-action : goal.invariant-look_ahead-loop-action
-invariant-look_ahead-loop-action g l = l.best ≡ greatest (λ a. action_look_ahead_in
-    (g.A.Arith.operations l.arith)
-    l.model.model (l.rest - 1) (weights_of l.weights) a l.look) (numbers_below l.action)
+abbrev pub invariant-greatest_look-loop-action : goal.invariant-greatest_look-loop-action
+invariant-greatest_look-loop-action g l = record {
+  best : l.best ≡ greatest (λ a. action_look_ahead_in (g.A.Arith.operations l.arith)
+      l.model.model l.rest (weights_of l.weights) a l.look) (numbers_below l.action);
+  kept : AreKept (look_of (g.A.Arith.operations l.arith) l.model.model) l.memo;
+}

@@ -3,7 +3,7 @@ use Rattle.std.specs.Int.{w128}
 use Rattle.std.specs.Prelude.{None}
 use Rattle.std.proofs.lemmas.Int.{to_z-of_z}
 use Rattle.dp_spec.specs.Steps.{chosen_front}
-use Rattle.dp_game.specs.Games.{KeptGame, with_own_choice}
+use Rattle.dp_game.specs.Games.{KeptGame, game_bound, with_own_choice}
 use Rattle.dp_search.proofs.SpreadSteps.{choice_made, taken_back}
 use Rattle.dp_search.proofs.expansion.chosen_bound.Goals as goal
 
@@ -13,6 +13,11 @@ unchoose-requires-clause-chosen c = (
   rw c.choose.ensures.is (choice_made c.args.game.now c.args.agent c.args.class c.args.action c.requires.agent
       c.requires.class),
 )
+
+pub returns-clause-is : goal.returns-clause-is
+returns-clause-is c =
+    to_z-of_z w128 c.bound-bound.result (search (rules, c.bound-bound.type_inv)) ∙ c.bound-bound.ensures.is
+    ∙ ap game_bound c.choose.ensures.is
 
 pub returns-clause-bound : goal.returns-clause-bound
 returns-clause-bound c m h look F is =

@@ -7,8 +7,8 @@ use Rattle.dp_spec.specs.Steps.{chosen_front}
 use Rattle.dp_cluster.proofs.ChosenActions.{agents_of}
 use Rattle.dp_game.specs.Games.{IsGameOf, with_own_choice}
 use Rattle.dp_search.proofs.PlaceLists.{agent_in, choice_in, class_in, unassigned}
-use Rattle.dp_search.proofs.SpreadSteps.{choice_made, class_kept, least_bound, least_of_at_most, spread_is,
-    taken_back}
+use Rattle.dp_search.proofs.SpreadSteps.{choice_made, class_kept, least_bound, least_of_at_most, spread_is}
+use Rattle.dp_search.proofs.SpreadSteps.{taken_back}
 use Rattle.dp_search.proofs.front_places.spread_of_class.Goals as goal
 
 pub actions-action-end-requires : goal.actions-action-end-requires

@@ -7,8 +7,8 @@ use Rattle.dp_search.specs.declared.held_leaf.HeldLeaf.{HeldLeaf}
 use Rattle.dp_search.specs.SearchStates.{open_leaf}
 use Rattle.dp_search.proofs.Steps.{leaf_held, leaf_passes, running_moved}
 use Rattle.dp_search.proofs.look.hold.Goals as goal
-use Rattle.dp_search.proofs.look.hold.Goals.{else-exceeds-via-then-exceeds+else-not-is_wide,
-    else-exceeds-via-else-exceeds}
+use Rattle.dp_search.proofs.look.hold.Goals.{else-exceeds-via-then-exceeds+else-not-is_wide}
+use Rattle.dp_search.proofs.look.hold.Goals.{else-exceeds-via-else-exceeds}
 
 pub returns-in_ok-push-clause-runs : goal.returns-in_ok-push-clause-runs
 returns-in_ok-push-clause-runs g c = λ budget rest running.

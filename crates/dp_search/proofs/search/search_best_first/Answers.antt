@@ -1,5 +1,5 @@
-use Rattle.std.proofs.Common.{◌≡◌, ℕ, ℤ, ◌∷◌, [], refl, sym, ap, subst, ◌∙◌, arith, rules, to_z, of_z, ◌≤ℤ◌, ◌+◌, ◌*◌,
-    map}
+use Rattle.std.proofs.Common.{◌≡◌, ℕ, ℤ, ◌∷◌, [], refl, sym, ap, subst, ◌∙◌, arith, rules, to_z, of_z, ◌≤ℤ◌, ◌+◌, ◌*◌}
+use Rattle.std.proofs.Common.{map}
 use Rattle.std.specs.Int.{w128}
 use Rattle.std.specs.BinaryHeap.{heap_items}
 use Rattle.std.proofs.lemmas.Int.{to_z-of_z, ints}

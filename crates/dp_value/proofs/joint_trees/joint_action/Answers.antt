@@ -1,5 +1,5 @@
-use Rattle.std.proofs.Common.{◌≢◌, ℕ, ◌<◌, length, take, sym, ap, subst, ◌∙◌, arith, below_more, get_or-set_other,
-    get_or-set_same}
+use Rattle.std.proofs.Common.{◌≢◌, ℕ, ◌<◌, length, take, sym, ap, subst, ◌∙◌, arith, below_more, get_or-set_other}
+use Rattle.std.proofs.Common.{get_or-set_same}
 use Rattle.std.proofs.Math.ListN.{length-set}
 use Rattle.dp_spec.specs.PolicyTree.{root_action}
 use Rattle.dp_spec.specs.Model.{joint_actions}

@@ -7,8 +7,8 @@ use Rattle.dp_spec.specs.Quantities.{span_sum, weights_after_in}
 use Rattle.dp_spec.specs.SharedWorth.{joint_row_action, row_weight_in}
 use Rattle.dp_value.specs.WeightUpdates.{weights_of}
 use Rattle.dp_value.specs.RowWeights.{row_gives, row_part, weight_in}
-use Rattle.dp_value.proofs.RowUpdates.{gives_all, part_here, part_room, part_step, row_updatable, row_updated,
-    span_assoc}
+use Rattle.dp_value.proofs.RowUpdates.{gives_all, part_here, part_room, part_step, row_updatable, row_updated}
+use Rattle.dp_value.proofs.RowUpdates.{span_assoc}
 use Rattle.dp_value.proofs.shared_worth.add_row.Goals as goal
 
 pub add_seen-requires-clause-sizes : goal.add_seen-requires-clause-sizes

@@ -12,7 +12,7 @@ add_spans-requires g c =
     (arith, c.states-state-end.ensures.is, c.loop-state-test.true) in
     record {
       room = rw (
-        c.next_weight-updated.ensures,
+        c.linked_weight-updated.ensures,
         c.states.ensures.is,
         c.loop-state.invariant.rest c.args.to k lk (λ e. omega arith),
       ) (c.requires.sum k lk);
@@ -26,7 +26,7 @@ loop-state-preserved g c =
     (arith, c.states-state-end.ensures.is, c.loop-state-test.true) in
     let is = c.add_spans.ensures ∙ (λ i. span_add (get_or c.loop-state.next
     (c.args.to * c.states.ensures.is i + c.loop-state.state) (point (pos 0)))
-    (c.next_weight-updated.ensures i)) in
+    (c.linked_weight-updated.ensures i)) in
     let room : c.args.to * c.args.model.now.model.states + c.loop-state.state
     < length c.loop-state.next = omega (arith, lk, c.requires.to, c.loop-state.auto.next) in
     rw (add-one, c.states.ensures.is)

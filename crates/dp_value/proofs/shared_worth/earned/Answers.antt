@@ -9,8 +9,8 @@ use Rattle.dp_value.specs.RowWeights.{weight_in}
 use Rattle.dp_value.proofs.RowUpdates.{earn_all, earn_all_room, earn_room, row_reward, row_rewardable, rows_reward}
 use Rattle.dp_value.proofs.shared_worth.earned.Goals as goal
 
-pub weighted_reward-reward-requires-clause-sizes : goal.weighted_reward-reward-requires-clause-sizes
-weighted_reward-reward-requires-clause-sizes g c =
+pub linked_reward-reward-requires-clause-sizes : goal.linked_reward-reward-requires-clause-sizes
+linked_reward-reward-requires-clause-sizes g c =
     let A = g.A.Arith.operations c.args.arith.now in
     let m = c.args.model.now.model in
     let p = c.args.policy.now.rows in
@@ -43,11 +43,11 @@ add_spans-total-requires g c =
     (arith, c.joint_rows-row-end.ensures.is, c.loop-row-test.true) in
     let same = subst (λ (S : ℕ). (s : ℕ) → s < S → weights_of c.weights_at-weights.result.now s
     ≡ weight_in S c.args.now.now c.loop-row.row s) c.states.ensures.is c.weights_at-weights.ensures.are in
-    let reward = c.weighted_reward-reward.ensures ∙ ap (λ (a : ℕ). weighted_reward_in A m r
+    let reward = c.linked_reward-reward.ensures ∙ ap (λ (a : ℕ). weighted_reward_in A m r
     (weights_of c.weights_at-weights.result.now) a) c.action_of.ensures.is
     ∙ row_reward A (g.A.Arith.calls c.args.arith.now) m h p c.requires.sizes t c.requires.stage c.args.now.now
     c.requires.weights j lj c.weights_at-weights.result.now same r (joint_row_action m p t j) in
-    let step : span_add c.loop-row.total c.weighted_reward-reward.result
+    let step : span_add c.loop-row.total c.linked_reward-reward.result
     ≡ span_sum (suc c.loop-row.row) (rows_reward A m p t r) =
     (λ i. span_add (c.loop-row.invariant i) (reward i)) in
     record {
@@ -71,11 +71,11 @@ loop-row-preserved g c =
     (arith, c.joint_rows-row-end.ensures.is, c.loop-row-test.true) in
     let same = subst (λ (S : ℕ). (s : ℕ) → s < S → weights_of c.weights_at-weights.result.now s
     ≡ weight_in S c.args.now.now c.loop-row.row s) c.states.ensures.is c.weights_at-weights.ensures.are in
-    let reward = c.weighted_reward-reward.ensures ∙ ap (λ (a : ℕ). weighted_reward_in A m r
+    let reward = c.linked_reward-reward.ensures ∙ ap (λ (a : ℕ). weighted_reward_in A m r
     (weights_of c.weights_at-weights.result.now) a) c.action_of.ensures.is
     ∙ row_reward A (g.A.Arith.calls c.args.arith.now) m h p c.requires.sizes t c.requires.stage c.args.now.now
     c.requires.weights j lj c.weights_at-weights.result.now same r (joint_row_action m p t j) in
-    let step : span_add c.loop-row.total c.weighted_reward-reward.result
+    let step : span_add c.loop-row.total c.linked_reward-reward.result
     ≡ span_sum (suc c.loop-row.row) (rows_reward A m p t r) =
     (λ i. span_add (c.loop-row.invariant i) (reward i)) in
     c.add_spans-total.ensures ∙ step ∙ ap (λ (k : ℕ). span_sum k (rows_reward A m p t r))

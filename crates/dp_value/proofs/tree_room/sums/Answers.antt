@@ -3,8 +3,13 @@ use Rattle.dp_spec.specs.Model.{start_at}
 use Rattle.dp_policy.specs.Trees.{joint_policy}
 use Rattle.dp_value.specs.JointTrees.{first_trees}
 use Rattle.dp_value.specs.WeightUpdates.{weights_of}
-use Rattle.dp_value.proofs.TreeWorths.{same_evaluable, trees_held, worth_from_start}
+use Rattle.dp_value.proofs.TreeWorths.{same_evaluable, some_trees, trees_held, worth_from_start}
 use Rattle.dp_value.proofs.tree_room.sums.Goals as goal
+
+pub trees_of-trees-requires : goal.trees_of-trees-requires
+trees_of-trees-requires g c =
+    some_trees c.args.model.now.model c.requires.sizes.model c.args.policy.now.horizon c.args.policy.now
+    c.requires.sizes.policy
 
 pub worth_from-requires-clause-sizes : goal.worth_from-requires-clause-sizes
 worth_from-requires-clause-sizes g c =

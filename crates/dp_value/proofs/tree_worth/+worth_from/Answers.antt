@@ -1,5 +1,5 @@
-use Rattle.std.proofs.Common.{◌≡◌, ℕ, suc, take, ◌+◌, ◌-◌, ◌*◌, ◌^◌, ◌<◌, ◌≤◌, length, add-one, sym, ap, subst, ◌∙◌,
-    arith}
+use Rattle.std.proofs.Common.{◌≡◌, ℕ, suc, take, ◌+◌, ◌-◌, ◌*◌, ◌^◌, ◌<◌, ◌≤◌, length, add-one, sym, ap, subst, ◌∙◌}
+use Rattle.std.proofs.Common.{arith}
 use Rattle.dp_spec.specs.declared.span.Span.{Span}
 use Rattle.dp_spec.specs.Calls.{size}
 use Rattle.dp_spec.specs.Arithmetic.{Arithmetic}
@@ -9,13 +9,14 @@ use Rattle.dp_spec.specs.Value.{joint_root_action, trees_after}
 use Rattle.dp_value.specs.JointTrees.{IsEvaluable, first_trees}
 use Rattle.dp_value.specs.WeightUpdates.{weights_of}
 use Rattle.dp_value.proofs.RowUpdates.{rewarded_alike, updated_alike}
-use Rattle.dp_value.proofs.TreeWorths.{after_part, earned_first, earned_last, earned_room, earned_step,
-    next_evaluable, none_earned, now_rewardable, now_updatable, recursion_alike, skipped_step, taken_at}
+use Rattle.dp_value.proofs.TreeWorths.{after_part, earned_first, earned_last, earned_room, earned_step}
+use Rattle.dp_value.proofs.TreeWorths.{next_evaluable, none_earned, now_rewardable, now_updatable, recursion_alike}
+use Rattle.dp_value.proofs.TreeWorths.{skipped_step, taken_at}
 use Rattle.dp_value.proofs.tree_worth.+worth_from.Goals.{then-update_all, else-update_all}
 use Rattle.dp_value.proofs.tree_worth.+worth_from.Goals as goal
 
-pub weighted_reward-total-requires-clause-sizes : goal.weighted_reward-total-requires-clause-sizes
-weighted_reward-total-requires-clause-sizes g t c =
+pub linked_reward-total-requires-clause-sizes : goal.linked_reward-total-requires-clause-sizes
+linked_reward-total-requires-clause-sizes g t c =
     let m = c.args.model.now.model in
     let ws = weights_of c.args.weights.now in
     let qs = first_trees (length m.actions) c.args.trees.now in
@@ -33,7 +34,7 @@ loop-seen-init g t c =
     let front = c.split_at_mut-now.ensures.front ∙ ap (λ (k : ℕ). take k c.args.weights.now)
     c.states.ensures.is in
     let v = weights_of c.split_at_mut-now.result.0.now in
-    c.weighted_reward-total.ensures
+    c.linked_reward-total.ensures
     ∙ ap (weighted_reward_in A m c.args.rest v) c.joint_action-action.ensures.is
     ∙ rewarded_alike A m c.args.rest v ws (joint_root_action m qs)
     (λ s ls. ap (λ l. weights_of l s) front ∙ taken_at c.args.weights.now m.states s ls)
@@ -48,8 +49,8 @@ returns-else-rest-gt0 g t c =
     let front = c.split_at_mut-now.ensures.front ∙ ap (λ (k : ℕ). take k c.args.weights.now)
     c.states.ensures.is in
     let v = weights_of c.split_at_mut-now.result.0.now in
-    earned_last A m c.args.rest ws qs (omega (arith, c.if-rest-gt0.false)) c.weighted_reward-total.result
-    (c.weighted_reward-total.ensures
+    earned_last A m c.args.rest ws qs (omega (arith, c.if-rest-gt0.false)) c.linked_reward-total.result
+    (c.linked_reward-total.ensures
     ∙ ap (weighted_reward_in A m c.args.rest v) c.joint_action-action.ensures.is
     ∙ rewarded_alike A m c.args.rest v ws (joint_root_action m qs)
     (λ s ls. ap (λ l. weights_of l s) front ∙ taken_at c.args.weights.now m.states s ls))
@@ -107,9 +108,12 @@ worth_from-earned-requires g t c =
       (
         within,
         (
-          subst (λ (k : ℕ). k * m.states ≤ length c.update_all.new.later) (sym less) room,
-          subst (IsEvaluable A (g.A.Arith.calls c.args.arith.now) m (suc (rest - 1))
-              (weights_of c.update_all.new.later)) (sym c.subtrees-after.ensures) sizes,
+          c.requires.links,
+          (
+            subst (λ (k : ℕ). k * m.states ≤ length c.update_all.new.later) (sym less) room,
+            subst (IsEvaluable A (g.A.Arith.calls c.args.arith.now) m (suc (rest - 1))
+                (weights_of c.update_all.new.later)) (sym c.subtrees-after.ensures) sizes,
+          ),
         ),
       ),
     )

@@ -6,8 +6,8 @@ use Rattle.dp_words.specs.Line.{Text}
 use Rattle.dp_words.specs.Command.{merging_off, values_of}
 use Rattle.dp_words.proofs.Fits.{merging_stops, rest_decides}
 use Rattle.dp_words.proofs.line.fits.Goals as goal
-use Rattle.dp_words.proofs.line.fits.Goals.{else-merging_off-via-then-merging_off+else-not-is_among,
-    else-merging_off-via-else-merging_off}
+use Rattle.dp_words.proofs.line.fits.Goals.{else-merging_off-via-then-merging_off+else-not-is_among}
+use Rattle.dp_words.proofs.line.fits.Goals.{else-merging_off-via-else-merging_off}
 
 pub returns-then-not-is_among : goal.returns-then-not-is_among
 returns-then-not-is_among c =

@@ -1,5 +1,5 @@
-use Rattle.std.proofs.Common.{◌≡◌, ◌∙◌, rules, ap, ap₂, sym, arith, map, drop, suc, ◌+◌, drop-cons, drop_of_length-le,
-    slice_index_or}
+use Rattle.std.proofs.Common.{◌≡◌, ◌∙◌, rules, ap, ap₂, sym, arith, map, drop, suc, ◌+◌, drop-cons, drop_of_length-le}
+use Rattle.std.proofs.Common.{slice_index_or}
 use Rattle.clap.specs.Words.{App, app_of, rule_of, with_rule}
 use Rattle.dp_words.specs.Command.{option_rule, with_options}
 use Rattle.dp_words.proofs.parse.with_options.Goals as goal

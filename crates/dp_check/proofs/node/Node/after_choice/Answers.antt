@@ -1,6 +1,14 @@
 use Rattle.std.proofs.Common.{ap}
-use Rattle.dp_check.proofs.NodeSteps.{advance_room, advanced_is, advanced_with_room, below_is, chosen_is,
-    chosen_with_room, deeper, kept_looks}
+use Rattle.dp_check.proofs.NodeSteps.{
+  advance_room,
+  advanced_is,
+  advanced_with_room,
+  below_is,
+  chosen_is,
+  chosen_with_room,
+  deeper,
+  kept_looks,
+}
 use Rattle.dp_check.proofs.node.Node.after_choice.Goals as goal
 
 pub advance-requires-clause-room : goal.advance-requires-clause-room
@@ -57,16 +65,16 @@ below-requires-else-complete-clause-above c =
     c.args.class c.args.action c.requires.stage c.requires.unassigned c.requires.narrow c.in_ok-front.front
     c.in_ok-front.ensures.is
 
-pub returns-in_ok-looks : goal.returns-in_ok-looks
-returns-in_ok-looks c =
+pub returns-in_ok-looks-clause-below : goal.returns-in_ok-looks-clause-below
+returns-in_ok-looks-clause-below c =
     below_is c.args.m.now.model c.args.bounds.now c.args.self.now _ _ _
     (advanced_is c.args.m.now.model c.args.bounds.now c.requires.bounds c.args.self.now c.requires.of_model
     c.args.agent c.args.class c.args.action c.requires.stage c.requires.unassigned c.requires.narrow
     c.in_ok-front.front c.in_ok-front.ensures.is
     _ c.complete.ensures c.if-complete.true c.in_ok-next.next c.in_ok-next.ensures.front) c.below.ensures
 
-pub returns-in_ok-looks-2 : goal.returns-in_ok-looks-2
-returns-in_ok-looks-2 c =
+pub returns-in_ok-looks-2-clause-below : goal.returns-in_ok-looks-2-clause-below
+returns-in_ok-looks-2-clause-below c =
     below_is c.args.m.now.model c.args.bounds.now c.args.self.now _ _ _
     (chosen_is c.args.m.now.model c.args.bounds.now c.requires.bounds c.args.self.now c.requires.of_model
     c.args.agent c.args.class c.args.action c.requires.stage c.requires.unassigned c.requires.narrow

@@ -11,15 +11,20 @@ pub next-requires-clause-stored : goal.next-requires-clause-stored
 next-requires-clause-stored c =
     next_stored c.args.m.now.model c.args.self.now c.requires.of_model c.requires.stage c.requires.complete _ _
     c.earned_in-earned.result c.in_ok-agents.ensures.fronts c.in_ok-agents.ensures.observations
+    c.in_ok-agents.ensures.past
     (advanced_weights_few c.args.m.now.model c.args.self.now c.requires.of_model c.requires.room)
     (λ early. ap (λ v. v.items) c.in_ok-new.ensures.ok ∙ c.in_ok-weights.ensures early)
-    c.earned_in-earned.ensures
+    c.earned_in-earned.ensures c.invariant-2.ensures
+
+pub returns-clause-past : goal.returns-clause-past
+returns-clause-past c = ap (λ (k : KeptFront). k.past) c.next.ensures ∙ c.in_ok-agents.ensures.past
 
 pub returns-clause-of_model : goal.returns-clause-of_model
 returns-clause-of_model c =
     subst (IsFrontOf c.args.m.now.model) (sym c.next.ensures)
     (next_kept c.args.m.now.model c.args.self.now c.requires.of_model c.requires.stage c.requires.complete _ _
     c.earned_in-earned.result c.in_ok-agents.ensures.fronts c.in_ok-agents.ensures.observations
+    c.in_ok-agents.ensures.past
     (advanced_weights_few c.args.m.now.model c.args.self.now c.requires.of_model c.requires.room)
     (λ early. ap (λ v. v.items) c.in_ok-new.ensures.ok ∙ c.in_ok-weights.ensures early)
     c.earned_in-earned.ensures)

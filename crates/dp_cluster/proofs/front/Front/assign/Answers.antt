@@ -1,4 +1,4 @@
-use Rattle.std.proofs.Common.{◌≡◌, ◌<◌, ℕ, map, set, length, get_or, sym, ap, subst, ◌∙◌}
+use Rattle.std.proofs.Common.{◌≡◌, ◌<◌, [], ℕ, map, set, length, get_or, sym, ap, subst, ◌∙◌}
 use Rattle.std.proofs.lemmas.List.{length-map}
 use Rattle.dp_spec.specs.Steps.{chosen_front}
 use Rattle.dp_cluster.specs.KeptFronts.{IsFrontOf, IsStored, KeptFront, kept_front}
@@ -41,7 +41,8 @@ kept_value c =
     (ap (λ (k : KeptFront). get_or k.front.agents c.args.agent c.part.result.now.front) c.self.view_is
     ∙ c.part.ensures.front c.part.result.now.front)
     (ap (λ (k : KeptFront). get_or k.observations c.args.agent 0) c.self.view_is
-    ∙ c.part.ensures.observations) in
+    ∙ c.part.ensures.observations)
+    (ap (λ (k : KeptFront). get_or k.past c.args.agent []) c.self.view_is ∙ c.part.ensures.past) in
     let list = c.in_ok-replaced.ensures ∙ ap (λ l. set (map (λ p. p.value) l) c.args.agent c.in_ok-part.part)
     c.deref-parts.ensures.value in
     after_assign _ _ _ _ parts (map (λ p. p.value) c.in_ok-replaced.field-0.items)

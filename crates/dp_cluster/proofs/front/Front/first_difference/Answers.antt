@@ -1,8 +1,8 @@
 use Rattle.std.proofs.Common.{◌<◌, inl, inr, sym, subst, ℕ, ◌∙◌, arith}
 use Rattle.dp_cluster.proofs.RunsOfWeights.{difference_is, none_in_proportion, place_few, proportion_next}
 use Rattle.dp_cluster.proofs.front.Front.first_difference.Goals as goal
-use Rattle.dp_cluster.proofs.front.Front.first_difference.Goals.{then-t-eq0-via-then-t-eq0,
-    then-t-eq0-via-else-t-eq0+then-u-eq0}
+use Rattle.dp_cluster.proofs.front.Front.first_difference.Goals.{then-t-eq0-via-then-t-eq0}
+use Rattle.dp_cluster.proofs.front.Front.first_difference.Goals.{then-t-eq0-via-else-t-eq0+then-u-eq0}
 
 pub returns-then-t-eq0 : goal.returns-then-t-eq0
 returns-then-t-eq0 c =

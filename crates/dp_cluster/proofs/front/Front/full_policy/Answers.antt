@@ -9,8 +9,8 @@ use Rattle.dp_laws.proofs.AdvancedFronts.{as_many_agents}
 use Rattle.dp_policy.specs.TreeValue.{policy_tree}
 use Rattle.dp_policy.specs.Trees.{joint_policy}
 use Rattle.dp_cluster.proofs.FrontParts.{as_many_counts}
-use Rattle.dp_cluster.proofs.FullFronts.{alone, full_policy_is, keeps, of_model, some_where, trees_end, trees_next,
-    value, value_where}
+use Rattle.dp_cluster.proofs.FullFronts.{alone, full_policy_is, keeps, of_model, some_where, trees_end, trees_next}
+use Rattle.dp_cluster.proofs.FullFronts.{value, value_where}
 use Rattle.dp_cluster.proofs.PastTrees.{doing_end, doing_step, fixed_stages}
 use Rattle.dp_cluster.proofs.front.Front.full_policy.Goals as goal
 

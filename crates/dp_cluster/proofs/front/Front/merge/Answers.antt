@@ -3,8 +3,8 @@ use Rattle.dp_spec.specs.Front.{Front}
 use Rattle.dp_cluster.specs.KeepingPolicies.{KeepsToo, LosesNothing}
 use Rattle.dp_cluster.proofs.MergeFaults.{assigned, comparable, keeps_too, loses_nothing, merged, unequal}
 use Rattle.dp_cluster.proofs.front.Front.merge.Goals as goal
-use Rattle.dp_cluster.proofs.front.Front.merge.Goals.{then-is_some-via-then-is_some,
-    then-is_some-via-else-is_some+then-is_some-2}
+use Rattle.dp_cluster.proofs.front.Front.merge.Goals.{then-is_some-via-then-is_some}
+use Rattle.dp_cluster.proofs.front.Front.merge.Goals.{then-is_some-via-else-is_some+then-is_some-2}
 
 pub returns-then-is_some-clause-fault : goal.returns-then-is_some-clause-fault
 returns-then-is_some-clause-fault c = λ m is.

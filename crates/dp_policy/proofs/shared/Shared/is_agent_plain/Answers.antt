@@ -1,8 +1,8 @@
 use Rattle.std.proofs.Common.{[], add-one, get_or, refl, sym, arith}
 use Rattle.std.proofs.Math.Nat.{pow-zero}
 use Rattle.dp_policy.proofs.Lists.{is_not, is_so, not_true}
-use Rattle.dp_policy.proofs.PlainStages.{none_before, plain_count_step, plain_stage_of, plain_stage_step,
-    plain_stages_end, small_product}
+use Rattle.dp_policy.proofs.PlainStages.{none_before, plain_count_step, plain_stage_of, plain_stage_step}
+use Rattle.dp_policy.proofs.PlainStages.{plain_stages_end, small_product}
 use Rattle.dp_policy.proofs.shared.Shared.is_agent_plain.Goals as goal
 
 pub loop-stage-init : goal.loop-stage-init

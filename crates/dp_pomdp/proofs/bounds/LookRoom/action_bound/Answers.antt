@@ -13,7 +13,7 @@ returns-clause-sound c =
     let fit = c.args.fit in
     let ws = weights_of c.args.weights.now in
     let fits : SFits w128 c.action_in_mode.result = search rules in
-    let is = to_z-of_z w128 _ fits ∙ c.action_in_mode.ensures in
+    let is = to_z-of_z w128 _ fits ∙ c.action_in_mode.ensures.is in
     subst (BoundsEarningsOf fit.exact m fit.horizon fit.unit c.args.t ws c.args.a) (sym is)
     (action_look_ahead_bounds fit.exact m c.invariant.ensures.model fit.horizon c.args.t c.args.a c.args.look
     fit.unit c.requires.fit c.requires.time ws)

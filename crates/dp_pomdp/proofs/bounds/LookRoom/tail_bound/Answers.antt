@@ -13,7 +13,7 @@ returns-clause-sound c =
     let fit = c.args.fit in
     let ws = weights_of c.args.weights.now in
     let fits : SFits w128 c.look_in_mode.result = search rules in
-    let is = to_z-of_z w128 _ fits ∙ c.look_in_mode.ensures in
+    let is = to_z-of_z w128 _ fits ∙ c.look_in_mode.ensures.is in
     subst (BoundsEarnings fit.exact m fit.horizon fit.unit c.args.t ws) (sym is)
     (look_ahead_bounds fit.exact m c.invariant.ensures.model fit.horizon c.args.t c.args.look fit.unit
     c.requires.fit c.requires.time ws)

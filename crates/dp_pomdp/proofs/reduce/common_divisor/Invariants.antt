@@ -1,0 +1,7 @@
+use Rattle.std.proofs.Common.{ℕ, ◌<◌, unsigned_abs}
+use Rattle.std.specs.Int.{◌∣◌}
+use Rattle.dp_pomdp.specs.Looking.{weights_of}
+use Rattle.dp_pomdp.proofs.reduce.common_divisor.Given as goal
+
+abbrev pub invariant-loop-weight : goal.invariant-loop-weight
+invariant-loop-weight l = (s : ℕ) → s < l.weight-index → l.common ∣ unsigned_abs (weights_of l.weights s).high
