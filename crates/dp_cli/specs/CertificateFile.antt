@@ -10,8 +10,7 @@ use Rattle.dp_cli.specs.declared.refusal.JobFault.{JobFault}
 use Rattle.dp_cli.specs.ValueCommand.{lines_fault}
 
 -- what is wrong by what its lines say: the first line that is not as required, or a limit that is passed before one,
--- or
--- else what is wrong with the certificate
+-- or else what is wrong with the certificate
 abbrev pub said_or : (Certificate → Option JobFault) → Result Certificate (Fault TooLarge) → Option JobFault
 said_or after (Ok c) = after c
 said_or after (Err fault) = lines_fault {V = Certificate} (Err fault)

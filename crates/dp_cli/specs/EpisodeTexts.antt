@@ -36,8 +36,7 @@ episode_text number episode =
     ++ (signed_field_text (codes "total ") episode.total ++ codes "\n"))))
 
 -- The episodes of a joint policy from a number on, so many of them, one after the other from one stream of words.
--- Each
--- takes one word and two for each step.
+-- Each takes one word and two for each step.
 abbrev pub episodes_text : Model → ℕ → List PolicyTree → ℕ → ℕ → Stream → List ℕ
 episodes_text m h qs number zero stream = []
 episodes_text m h qs number (suc left) stream =

@@ -36,8 +36,7 @@ fault_of_show texts = None
 -- ---- what is put
 
 -- The bytes are the text of a certificate for a model, and the text tells its policy in names: for each agent and
--- each
--- own history, stage by stage, the names of what was seen and of the action that the agent's tree does after it.
+-- each own history, stage by stage, the names of what was seen and of the action that the agent's tree does after it.
 pub record IsShownText (m : NamedModel) (cert text : List ℕ) : Type 0 where
   pub is_model : IsModel m.model
   pub certificate : Certificate

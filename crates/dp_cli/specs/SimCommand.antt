@@ -24,8 +24,7 @@ fault_of_sim texts = None
 -- ---- what is put
 
 -- The bytes are the text of a certificate for a model, whose policy is a joint policy of the model, and the text
--- tells
--- episodes of this policy, as many as are asked for, one after the other from the words of the seed.
+-- tells episodes of this policy, as many as are asked for, one after the other from the words of the seed.
 pub record IsPlayedText (m : Model) (seed episodes : ℕ) (cert text : List ℕ) : Type 0 where
   pub is_model : IsModel m
   pub certificate : Certificate
