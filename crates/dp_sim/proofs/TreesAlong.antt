@@ -1,6 +1,6 @@
 -- A joint policy along joint observations, and each of its trees along the agent's own.
-use Rattle.std.proofs.Common.{◌≡◌, ℕ, zero, suc, ◌+◌, ◌<◌, List, [], ◌∷◌, ◌++◌, length, get_or, map, refl, sym, ap,
-    ◌∙◌, subst, arith}
+use Rattle.std.proofs.Common.{◌≡◌, ℕ, zero, suc, ◌+◌, ◌<◌, List, [], ◌∷◌, ◌++◌, length, get_or, map, refl, sym, ap}
+use Rattle.std.proofs.Common.{◌∙◌, subst, arith}
 use Rattle.dp_spec.specs.JointNumbers.{parts_of}
 use Rattle.dp_spec.specs.Model.{Model, joint_observations}
 use Rattle.dp_spec.specs.PolicyTree.{IsPolicyOf, IsPolicyTree, PolicyTree, node, subtree, subtrees}
@@ -40,7 +40,7 @@ history_within b n (suc (suc r)) q (o ∷ os) some is has =
     let counted : tree_count (subtrees q) ≡ n = observations_counted b n (suc (suc r)) q (omega arith) is in
     let first : o < n = omega (arith, counted, has.0) in
     let rest = history_within b n (suc r) (subtree q o) os (omega arith)
-        (subtree_fits b n (suc r) q o first is) has.1 in
+    (subtree_fits b n (suc r) q o first is) has.1 in
     (omega (arith, rest.0), each first rest.1)
   where
     each : o < n → ((t : ℕ) → t < length os → get_or os t 0 < n) → (t : ℕ) → t < suc (length os)

@@ -22,7 +22,8 @@ new-actor-requires c =
               let ask = may_ask c.args.model.now.model p.horizon p.rows c.requires i there history.now has in
               (there, (ask.shorter, ask.seen));
           answers = λ history action has returns.
-              let told : action ≡ root_action (remaining_after (unfolded_tree (get_or p.rows i []) 0) returns.shown.now) =
+              let told : action ≡ root_action (remaining_after
+              (unfolded_tree (get_or p.rows i []) 0) returns.shown.now) =
               search (rules, returns.says) in
               told ∙ ap (λ (os : List ℕ). root_action (remaining_after (unfolded_tree (get_or p.rows i []) 0) os))
               returns.shows;
@@ -47,7 +48,7 @@ played-requires c =
           let inside : i < c.loop-agent.agent = omega (arith, lt, counted, all) in
           let there : i < length p.rows = omega (arith, lt, counted) in
           let agent : (get_or c.deref.result.now i d).rule.1 ≡ i =
-              rw value (c.loop-agent.invariant.of_agent i d inside)
+          rw value (c.loop-agent.invariant.of_agent i d inside)
           in
           let of_policy : (get_or c.deref.result.now i d).rule.0.now ≡ p =
           rw value (c.loop-agent.invariant.of_policy i d inside) in

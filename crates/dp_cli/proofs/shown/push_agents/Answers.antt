@@ -20,7 +20,7 @@ loop-agent-preserved c =
     c.args.text.now.items c.loop-agent.text.items c.push_agent.new.text.items i c.loop-agent.invariant
     (c.in_ok-push_agent.ensures ∙ ap (λ (q : PolicyTree). c.loop-agent.text.items
     ++ agent_text c.args.model.now.names i (get_or m.observations i 0) q p.horizon)
-        (sym (tree_of_rows p.rows i there)))
+    (sym (tree_of_rows p.rows i there)))
 
 pub returns : goal.returns
 unfolding policy_text
