@@ -27,7 +27,7 @@ counts() {
     fi
 }
 
-# Each agent listens, listens, and then opens one door, the other, or listens: six subtrees, two arrows from each of three.
+# Each agent listens twice and then opens one door, the other, or listens: six subtrees, two arrows from three.
 "$program" show "$root/models/tiger.dpomdp" "$root/certificates/tiger-3.cert" |
     "$root/tools/draw-policy" >"$folder/picture"
 counts 'a policy of version 1' 12 12
