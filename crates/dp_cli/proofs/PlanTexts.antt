@@ -18,7 +18,8 @@ use Rattle.dp_spec.specs.Promises.{IsPlanned}
 use Rattle.dp_words.specs.declared.job.PlanJob.{PlanJob}
 use Rattle.dp_cli.specs.declared.refusal.JobFault.{JobFault}
 use Rattle.dp_cli.specs.declared.refusal.JobFault.TheVariants as job_faults
-use Rattle.dp_cli.specs.CheckCommand.{certificate_fault, fault_of_check, said_fault, told_reason}
+use Rattle.dp_cli.specs.CertificateFile.{said_or}
+use Rattle.dp_cli.specs.CheckCommand.{certificate_fault, fault_of_check, reason_fault, told_reason}
 use Rattle.dp_cli.specs.ModelText.{model_fault, model_meant, model_of_text}
 use Rattle.dp_cli.specs.Orders.{order_rule}
 use Rattle.dp_cli.specs.Planned.{CanPlan, IsPlanOf, options_for, options_of, plan_limits}
@@ -51,7 +52,7 @@ plan_passes m job bytes h =
     let valid = h.planned.valid in
     let kept : horizon_passed m c.version c.horizon ≡ None =
     (λ i. horizon_passed m (h.planned.version i) (h.planned.horizon i)) ∙ h.kept in
-    ap (said_fault m) (text_is_computed m h.is_model bytes c h.spelled kept (valid_depth m c valid))
+    ap (said_or (reason_fault m)) (text_is_computed m h.is_model bytes c h.spelled kept (valid_depth m c valid))
     ∙ ap (option_map (λ reason. job_faults.Rejected (told_reason reason)))
     ((no_reason_where_valid m c valid.within valid.policy).1 valid)
 
