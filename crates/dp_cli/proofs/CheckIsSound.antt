@@ -1,5 +1,5 @@
 -- The command `check`: what it accepts is valid and its claims are so, and it passes no limit on the bytes of a file.
-use Rattle.std.proofs.Common.{◌≡◌, ℕ, List, [], ◌∷◌, Option, Some, None, ap}
+use Rattle.std.proofs.Common.{ℕ, List, [], ◌∷◌, Option, Some, None, ap}
 use Rattle.std.specs.Prelude.{option_map}
 use Rattle.dp_spec.specs.Certificate.{Certificate}
 use Rattle.dp_spec.specs.Model.{Model}

@@ -1,5 +1,5 @@
 -- Lines of episodes that are appended one after the other.
-use Rattle.std.proofs.Common.{◌≡◌, ℕ, suc, ◌+◌, ◌-◌, ◌*◌, List, [], ◌∷◌, ◌++◌, drop, length, get_or, refl, sym, ap}
+use Rattle.std.proofs.Common.{◌≡◌, ℕ, suc, ◌+◌, ◌-◌, ◌*◌, List, ◌∷◌, ◌++◌, drop, length, get_or, sym, ap}
 use Rattle.std.proofs.Common.{◌∙◌, add-one, append_assoc, arith, ◌<◌}
 use Rattle.std.proofs.Math.Seq.{drop-cons}
 use Rattle.rand_core.specs.Stream.{Stream}

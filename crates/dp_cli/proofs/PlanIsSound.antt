@@ -1,6 +1,6 @@
 -- The command `plan`: its text certifies a plan for the model of its file, and it passes no limit on the bytes of a
 -- file.
-use Rattle.std.proofs.Common.{◌≡◌, ◌∙◌, ◌⊎◌, ℕ, List, [], ◌∷◌, Option, Some, None, refl, sym}
+use Rattle.std.proofs.Common.{◌∙◌, ℕ, List, [], ◌∷◌, Option, Some, None, refl}
 use Rattle.std.specs.Prelude.{option_map}
 use Rattle.dp_model.specs.declared.limit.Limit.TheVariants as limits
 use Rattle.dp_model.specs.declared.limit.TooLarge.{TooLarge}
@@ -8,9 +8,7 @@ use Rattle.dp_model.specs.Limits.{first_passed}
 use Rattle.dp_laws.proofs.CertificateTexts.{certificate_text_injective}
 use Rattle.dp_laws.proofs.ValidCertificates.{claims_hold, closed_is_optimal, ends_in_order}
 use Rattle.dp_laws.proofs.VersionOnePlans.{plan_ends}
-use Rattle.dp_spec.specs.Certificate.{Certificate}
 use Rattle.dp_spec.specs.Model.{Model}
-use Rattle.dp_spec.specs.Qualities.{IsClosed}
 use Rattle.dp_words.specs.declared.job.PlanJob.{PlanJob}
 use Rattle.dp_cli.specs.declared.refusal.JobFault.TheVariants as job_faults
 use Rattle.dp_cli.specs.Certified.{CertifiesPlan}

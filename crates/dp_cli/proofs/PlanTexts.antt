@@ -1,5 +1,5 @@
 -- The text of a plan that was made for a model.
-use Rattle.std.proofs.Common.{◌≡◌, ◌∙◌, ◌≤◌, ℕ, List, [], ◌∷◌, Option, Some, None, refl, sym, ap, subst, arith}
+use Rattle.std.proofs.Common.{◌≡◌, ◌∙◌, ℕ, List, [], ◌∷◌, Option, Some, None, refl, sym, ap, subst, arith}
 use Rattle.std.specs.Prelude.{option_map}
 use Rattle.dp_cert.specs.CertificateGrammar.{horizon_passed}
 use Rattle.dp_cert.proofs.CertificateReads.{text_is_computed}

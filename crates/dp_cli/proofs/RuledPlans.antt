@@ -1,6 +1,6 @@
 -- Plans by an order: what the rule of the code answers is what the order says, and a plan by one rule is a plan by
 -- every rule that allows as much.
-use Rattle.std.proofs.Common.{◌≡◌, ◌∙◌, ℕ, ◌<◌, ℤ, ◌≤ℤ◌, List, map, Option, Some, None, Result, Ok, Err, IfOk, refl}
+use Rattle.std.proofs.Common.{◌≡◌, ◌∙◌, ℕ, ℤ, ◌≤ℤ◌, List, map, Option, Some, None, Result, Ok, Err, IfOk, refl}
 use Rattle.std.proofs.Common.{sym, ap, subst}
 use Rattle.std.specs.Prelude.{◌<ℤ◌, option_map, slice_get}
 use Rattle.std.proofs.lemmas.Option.{slice_get-map}

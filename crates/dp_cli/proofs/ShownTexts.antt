@@ -1,10 +1,10 @@
 -- Numbers in a base, and texts that are appended one after the other.
 use Rattle.std.proofs.Common.{◌≡◌, ℕ, zero, suc, ◌+◌, ◌-◌, ◌*◌, ◌/◌, ◌%◌, ◌^◌, ◌<◌, List, [], ◌∷◌, ◌++◌, length}
-use Rattle.std.proofs.Common.{get_or, set, take, refl, sym, ap, ◌∙◌, add-one, append_assoc, subst, arith}
+use Rattle.std.proofs.Common.{get_or, set, take, refl, sym, ap, ◌∙◌, append_assoc, subst, arith}
 use Rattle.std.specs.List.{flat_map, range_with_len}
 use Rattle.std.specs.Prelude.{replicate}
 use Rattle.std.proofs.Math.Nat.{mul_comm, pow-suc, pow-zero}
-use Rattle.std.proofs.lemmas.Nat.{div-mul-add, mod_below}
+use Rattle.std.proofs.lemmas.Nat.{div-mul-add}
 use Rattle.std.proofs.lemmas.List.{append-nil, take_more_set}
 use Rattle.std.proofs.lemmas.List.Concat.{flat_map-cons}
 use Rattle.dp_spec.specs.JointNumbers.{parts_of, product}

@@ -1,5 +1,5 @@
 -- A second file that is a certificate: what is wrong with its bytes, and what follows for the certificate.
-use Rattle.std.specs.Prelude.{◌≡◌, ℕ, List, Option, Result, Ok, Err}
+use Rattle.std.specs.Prelude.{ℕ, List, Option, Result, Ok, Err}
 use Rattle.dp_spec.specs.Certificate.{Certificate}
 use Rattle.dp_spec.specs.Model.{Model}
 use Rattle.dp_cert.specs.CertificateGrammar.{certificate_grammar}

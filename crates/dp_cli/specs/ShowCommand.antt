@@ -1,5 +1,5 @@
 -- The command `show`.
-use Rattle.std.specs.Prelude.{◌≡◌, ℕ, List, [], ◌∷◌, Option, Some, None, option_map}
+use Rattle.std.specs.Prelude.{◌≡◌, ℕ, List, [], ◌∷◌, Option, None, option_map}
 use Rattle.dp_spec.specs.Certificate.{Certificate}
 use Rattle.dp_spec.specs.CertificateText.{IsCertificateText}
 use Rattle.dp_spec.specs.Model.{IsModel, Model}

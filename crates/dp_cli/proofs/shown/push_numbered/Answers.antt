@@ -1,9 +1,9 @@
-use Rattle.std.proofs.Common.{◌≡◌, ℕ, ◌<◌, ◌^◌, ◌++◌, List, [], length, get_or, sym, ap, ◌∙◌, subst, arith}
+use Rattle.std.proofs.Common.{◌≡◌, ℕ, ◌<◌, ◌^◌, List, [], length, get_or, sym, ap, ◌∙◌, subst, arith}
 use Rattle.dp_spec.specs.PolicyTree.{root_action}
 use Rattle.dp_spec.specs.SharedPolicy.{row_at, unfolded_tree}
 use Rattle.dp_policy.specs.SharedRows.{remaining_after}
 use Rattle.dp_policy.proofs.JoinedRows.{rows_alike}
-use Rattle.dp_cli.specs.ShownPolicies.{history_of, history_text, numbered_text}
+use Rattle.dp_cli.specs.ShownPolicies.{history_of, numbered_text}
 use Rattle.dp_cli.proofs.ActorsOfRows.{action_below, history_asked, history_counted, seen_below}
 use Rattle.dp_cli.proofs.shown.push_numbered.Goals as goal
 

@@ -1,4 +1,4 @@
-use Rattle.std.proofs.Common.{◌≡◌, ◌^◌, ◌++◌, [], length, get_or, sym, ap, ◌∙◌, arith}
+use Rattle.std.proofs.Common.{◌^◌, ◌++◌, [], length, get_or, sym, ap, ◌∙◌, arith}
 use Rattle.std.specs.Prelude.{slice_index}
 use Rattle.dp_spec.specs.SharedPolicy.{unfolded_tree}
 use Rattle.dp_cli.specs.ShownPolicies.{numbered_text}

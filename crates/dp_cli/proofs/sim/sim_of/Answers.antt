@@ -1,4 +1,4 @@
-use Rattle.std.proofs.Common.{◌≡◌, ℕ, None, sym, ap, ◌∙◌, subst}
+use Rattle.std.proofs.Common.{ℕ, None, sym, ap, ◌∙◌, subst}
 use Rattle.std.proofs.lemmas.Result.{err_from_is_err_and}
 use Rattle.dp_spec.specs.SharedPolicy.{IsSharedOf, unfolded}
 use Rattle.dp_laws.proofs.SharedTrees.{unfolded_is_policy}
