@@ -29,7 +29,7 @@ run() {
     which=$1
     shift
     rm -f count
-    COUNT=$folder/count REFUSE=$which LD_PRELOAD=$folder/refuse.so timeout "$seconds" "$program" "$@" >out 2>err
+    timeout "$seconds" env COUNT="$folder/count" REFUSE="$which" LD_PRELOAD="$folder/refuse.so" "$program" "$@" >out 2>err
     status=$?
 }
 
