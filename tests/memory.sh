@@ -29,7 +29,8 @@ run() {
     which=$1
     shift
     rm -f count
-    timeout "$seconds" env COUNT="$folder/count" REFUSE="$which" LD_PRELOAD="$folder/refuse.so" "$program" "$@" >out 2>err
+    timeout "$seconds" env COUNT="$folder/count" REFUSE="$which" LD_PRELOAD="$folder/refuse.so" \
+        "$program" "$@" >out 2>err
     status=$?
 }
 
@@ -73,6 +74,8 @@ tried plan "$models/tiger.dpomdp" --horizon 2
 tried plan "$models/tiger.dpomdp" --horizon 2 --cert 2 --look 2
 tried check "$models/tiger.dpomdp" "$root/certificates/tiger-2.cert"
 tried value "$models/tiger.dpomdp" "$root/policies/tiger-3.policy"
+tried show "$models/tiger.dpomdp" "$root/certificates/tiger-2.cert"
+tried sim "$models/tiger.dpomdp" "$root/certificates/tiger-2.cert" --seed 7
 
 echo "$passed passed, $failed failed"
 [ "$failed" = 0 ]
