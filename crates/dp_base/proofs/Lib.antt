@@ -4,6 +4,7 @@ pub mod Exponents
 pub mod Floors
 pub mod Grammar
 pub mod GreatestValues
+pub mod MadeLists
 pub mod Magnitudes
 pub mod Members
 pub mod NaturalSumLaws

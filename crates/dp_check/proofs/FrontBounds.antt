@@ -25,7 +25,8 @@ use Rattle.dp_cluster.specs.KeptFronts.{KeptFront, kept_weight}
 use Rattle.dp_value.specs.WeightUpdates.{weights_of}
 use Rattle.dp_check.specs.Bounding.{AreLookAheads, IsBounding, IsWithRoom, arithmetic_of, look_ahead_at}
 use Rattle.dp_check.specs.declared.bounds.Bounds.{Bounds}
-use Rattle.dp_check.proofs.LookRows.{action_look_ahead_in_ext, rows_at, rows_length}
+use Rattle.dp_check.proofs.LookRows.{rows_at, rows_length}
+use Rattle.dp_laws.proofs.EqualWeights.{action_look_ahead_in_ext}
 
 row_end : (C n width : ℕ) → C < n → C * width + width ≤ n * width
 row_end C n width p = let le = mul-le-mul_right width p in omega arith

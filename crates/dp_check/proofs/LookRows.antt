@@ -1,17 +1,10 @@
 -- Rows of look-aheads, joint class by joint class.
-use Rattle.std.proofs.Common.{◌≡◌, inl, inr, ℕ, zero, suc, ◌+◌, ◌-◌, ◌*◌, ◌<◌, ◌++◌, ℤ, ◌+ℤ◌, map, length, get_or}
+use Rattle.std.proofs.Common.{◌≡◌, inl, inr, ℕ, zero, suc, ◌+◌, ◌*◌, ◌<◌, ◌++◌, ℤ, map, length, get_or}
 use Rattle.std.proofs.Common.{refl, sym, ap, ◌∙◌, arith}
 use Rattle.std.specs.List.{range_with_len}
 use Rattle.std.proofs.lemmas.List.{get_or_append_left, get_or-append-add, length-append}
 use Rattle.std.proofs.lemmas.List.FromFn.{length-map-range_with_len}
-use Rattle.dp_base.specs.Sums.{int_sum}
 use Rattle.dp_base.proofs.Order.{last_or_before}
-use Rattle.dp_base.proofs.Sums.{int_sum_ext}
-use Rattle.dp_laws.proofs.EqualWeights.{look_ahead_in_ext, weighted_reward_in_ext, weights_after_in_ext}
-use Rattle.dp_spec.specs.declared.span.Span.{Span}
-use Rattle.dp_spec.specs.Arithmetic.{Arithmetic}
-use Rattle.dp_spec.specs.Model.{Model, joint_observations}
-use Rattle.dp_spec.specs.Quantities.{action_look_ahead_in, look_ahead_in, weighted_reward_in, weights_after_in}
 use Rattle.dp_spec.proofs.JointNumberLaws.{row_below}
 use Rattle.dp_cluster.proofs.OwnParts.{made_at}
 use Rattle.dp_check.specs.Bounding.{rows_of}
@@ -42,15 +35,3 @@ rows_at Q S (suc n) C a d hC hs =
           get_or_append_left (rows_of Q S n) (map (Q n) (range_with_len 0 S)) d (C * S + a) inside
           ∙ rows_at Q S n C a d lt hs
     ]
-
--- look-ahead after a joint action counts the weights of the states alone
-pub action_look_ahead_in_ext : (A : Arithmetic) (m : Model) (r k : ℕ) (ws vs : ℕ → Span) (a : ℕ)
-    → ((s : ℕ) → s < m.states → ws s ≡ vs s)
-    → action_look_ahead_in A m r ws a k ≡ action_look_ahead_in A m r vs a k
-unfolding action_look_ahead_in
-action_look_ahead_in_ext A m r k ws vs a h =
-    ap (λ (w : Span). w.high +ℤ int_sum (joint_observations m)
-    (λ o. look_ahead_in A m r (weights_after_in A m ws a o) (k - 1))) (weighted_reward_in_ext A m r ws vs a h)
-    ∙ ap (λ x. (weighted_reward_in A m r vs a).high +ℤ x) (int_sum_ext (joint_observations m) _ _
-    (λ o p. look_ahead_in_ext A m r (k - 1) (weights_after_in A m ws a o) (weights_after_in A m vs a o)
-    (λ t q. weights_after_in_ext A m ws vs a o t h)))

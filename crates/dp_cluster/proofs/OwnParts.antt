@@ -382,14 +382,6 @@ pub next_made : {X : Type 0} (f : ℕ → X) (all all' : List X) (i : ℕ) (new 
 next_made f all all' i new same pushed before =
     pushed ∙ (λ j. before j ++ same j ∷ []) ∙ sym (map-range_with_len_more f 0 i i (omega arith))
 
--- the same after a list
-pub next_after : {X : Type 0} (f : ℕ → X) (pre all all' : List X) (i : ℕ) (new : X) → new ≡ f i
-    → all' ≡ all ++ new ∷ []
-    → all ≡ pre ++ map f (range_with_len 0 i) → all' ≡ pre ++ map f (range_with_len 0 (i + 1))
-next_after f pre all all' i new same pushed before =
-    pushed ∙ (λ j. before j ++ same j ∷ []) ∙ append_assoc pre (map f (range_with_len 0 i)) (f i ∷ [])
-    ∙ ap (λ l. pre ++ l) (sym (map-range_with_len_more f 0 i i (omega arith)))
-
 -- made links are read
 pub links_made : (s : PastStage) (i : ℕ) (f : ℕ → ℕ) (p : ℕ) → p < i
     → s.links.items ≡ map f (range_with_len 0 i)

@@ -1,10 +1,9 @@
 -- The rows of look-ahead.
-use Rattle.std.proofs.Common.{◌≡◌, ℕ, suc, ◌-◌, ◌*◌, ◌^◌, ◌<◌, ◌≤◌, Bool, false, ℤ, pos, ◌+ℤ◌, List, map, length}
+use Rattle.std.proofs.Common.{◌≡◌, ℕ, suc, ◌-◌, ◌*◌, ◌^◌, ◌<◌, ◌≤◌, Bool, false, ℤ, pos, List, map, length}
 use Rattle.std.proofs.Common.{refl, sym, ap, ◌∙◌, subst, arith}
 use Rattle.std.specs.List.{range_with_len}
 use Rattle.std.proofs.lemmas.List.FromFn.{length-map-range_with_len}
 use Rattle.dp_spec.specs.declared.span.Span.{Span}
-use Rattle.dp_base.proofs.Sums.{int_sum_ext}
 use Rattle.dp_spec.specs.Arithmetic.{Arithmetic, arithmetic, point}
 use Rattle.dp_spec.specs.Calls.{Calls, calls_in}
 use Rattle.dp_spec.specs.Front.{class_counts}
@@ -12,10 +11,10 @@ use Rattle.dp_spec.specs.JointNumbers.{joint_number, parts_of, product}
 use Rattle.dp_spec.specs.Mode.{IsTrueFit, is_exact_mode}
 use Rattle.dp_spec.proofs.JointNumberLaws.{below_at, joint_number-parts_of, length-below, parts_below}
 use Rattle.dp_spec.specs.Model.{IsModel, Model, joint_actions, joint_observations}
-use Rattle.dp_spec.specs.Quantities.{action_look_ahead_in, class_weight_in, look_ahead_in, weights_after_in}
+use Rattle.dp_spec.specs.Quantities.{action_look_ahead_in, class_weight_in}
 use Rattle.dp_spec.specs.Sizes.{AreWeights}
 use Rattle.dp_spec.specs.Zeros.{nothing}
-use Rattle.dp_laws.proofs.EqualWeights.{look_ahead_in_ext, weighted_reward_in_ext, weights_after_in_ext, weights_same}
+use Rattle.dp_laws.proofs.EqualWeights.{action_look_ahead_in_ext, weights_same}
 use Rattle.dp_laws.proofs.SizeLaws.{arithmetic_is_exact, mode_can_refine}
 use Rattle.dp_model.specs.Parts.{AreParts}
 use Rattle.dp_cluster.specs.KeptFronts.{IsFrontOf, KeptFront, kept_weight}
@@ -27,16 +26,6 @@ use Rattle.dp_pomdp.proofs.Pushes.{no_weight}
 use Rattle.dp_game.specs.Bounders.{IsBounderOf, KeptBounder}
 use Rattle.dp_game.specs.Kept.{look_ahead_row}
 
-pub action_ext : (A : Arithmetic) (m : Model) (r k : ℕ) (ws vs : ℕ → Span) (a : ℕ) →
-    ((s : ℕ) → s < m.states → ws s ≡ vs s)
-    → action_look_ahead_in A m r ws a k ≡ action_look_ahead_in A m r vs a k
-unfolding action_look_ahead_in
-action_ext A m r k ws vs a same =
-    (λ j. (weighted_reward_in_ext A m r ws vs a same j).high +ℤ
-    int_sum_ext (joint_observations m) (λ o. look_ahead_in A m r (weights_after_in A m ws a o) (k - 1))
-    (λ o. look_ahead_in A m r (weights_after_in A m vs a o) (k - 1))
-    (λ o p. look_ahead_in_ext A m r (k - 1) _ _ (λ s q. weights_after_in_ext A m ws vs a o s same)) j)
-
 -- without weight nothing is earned
 zero_action : (A : Arithmetic) (C : Calls) (m : Model) (r : ℕ) (ws : List Span) → IsLooking A C m (suc r) ws →
     AreZero ws
@@ -44,7 +33,7 @@ zero_action : (A : Arithmetic) (C : Calls) (m : Model) (r : ℕ) (ws : List Span
 zero_action A C m r ws is zero_all a k =
     let each : (s : ℕ) → s < m.states → weights_of ws s ≡ nothing =
     λ s p. no_weight A C m (suc r) ws is s p (zero_all s (let len = is.one_each in omega arith)) in
-    sym (action_ext A m r k (weights_of ws) none a each ∙ none_action A m is.zero r k a)
+    sym (action_look_ahead_in_ext A m r k (weights_of ws) none a each ∙ none_action A m is.zero r k a)
 
 pub nothing_earned : (e : Bool) (m : Model) → IsModel m → (h t : ℕ) (u : ℤ) → IsTrueFit m h e u → t < h →
     (ws : List Span)
@@ -99,7 +88,7 @@ module _ (m : Model) (k : KeptFront) (b : KeptBounder) (is : IsFrontOf m k) (bo 
       ≡ look_ahead_row A m (b.horizon - k.front.stage - 1) k.front b.look C
   row_is =
       same_map (joint_actions m) (pos 0) _ _ (λ a p.
-      action_ext A m (b.horizon - k.front.stage - 1) b.look (weights_of ws) (class_weight_in A m k.front C) a
+      action_look_ahead_in_ext A m (b.horizon - k.front.stage - 1) b.look (weights_of ws) (class_weight_in A m k.front C) a
       weights_are)
 
 -- ---- the classes of a joint class

@@ -29,7 +29,7 @@ impl std::marker::Model for Bounder {
       is_exact = b.fit.exact;
       unit = b.fit.unit;
       look = b.look;
-      rows = b.table;
+      kept = b.table;
     } };
 }
 
@@ -78,7 +78,7 @@ impl Bounder {
     // The table.
     #[inline]
     pub(crate) fn table(&self) -> &MdpTable
-        ensures { result.now ≡ self.now.rows }
+        ensures { result.now ≡ self.now.kept }
     {
         &self.table
     }

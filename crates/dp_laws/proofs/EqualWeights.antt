@@ -1,5 +1,5 @@
 -- Only the weights of the states count, in any arithmetic.
-use Rattle.std.proofs.Common.{◌≡◌, ℕ, zero, suc, ◌<◌, ◌≤◌, Bool, pos, ◌+ℤ◌, ◌≤ℤ◌, List, refl, ap, ◌∙◌, subst}
+use Rattle.std.proofs.Common.{◌≡◌, ℕ, zero, suc, ◌<◌, ◌≤◌, ◌-◌, Bool, pos, ◌+ℤ◌, ◌≤ℤ◌, List, refl, ap, ◌∙◌, subst}
 use Rattle.std.specs.Int.{int_min}
 use Rattle.dp_spec.specs.declared.span.Span.{Span}
 use Rattle.dp_laws.proofs.SpanSums.{span_sum_ext}
@@ -8,8 +8,8 @@ use Rattle.dp_spec.specs.Arithmetic.{Arithmetic, span_add}
 use Rattle.dp_spec.specs.Calls.{IsPoint, size}
 use Rattle.dp_spec.specs.Model.{Model, joint_actions, joint_observations, obs_at, reward_at, trans_at}
 use Rattle.dp_spec.specs.PolicyTree.{PolicyTree}
-use Rattle.dp_spec.specs.Quantities.{look_ahead_in, mdp_table_in, recursive_worth_in, span_sum, weighted_reward_in}
-use Rattle.dp_spec.specs.Quantities.{weighted_table_in, weights_after_in}
+use Rattle.dp_spec.specs.Quantities.{action_look_ahead_in, look_ahead_in, mdp_table_in, recursive_worth_in}
+use Rattle.dp_spec.specs.Quantities.{span_sum, weighted_reward_in, weighted_table_in, weights_after_in}
 use Rattle.dp_spec.specs.Sizes.{AreWeights, weight_limit}
 use Rattle.dp_base.specs.Sums.{greatest, int_sum, numbers_below}
 use Rattle.dp_spec.specs.Value.{joint_root_action, trees_after}
@@ -57,6 +57,18 @@ module _ (A : Arithmetic) (m : Model) where
       (λ o p. look_ahead_in_ext r k (weights_after_in A m ws a o) (weights_after_in A m vs a o)
       (λ t q. weights_after_in_ext ws vs a o t h)))))
       ∙ ap (λ x. int_min (best vs) x) (weighted_table_in_ext (suc r) ws vs h)
+
+  -- look-ahead after a joint action
+  pub action_look_ahead_in_ext : (r k : ℕ) (ws vs : ℕ → Span) (a : ℕ) → ((s : ℕ) → s < m.states → ws s ≡ vs s)
+      → action_look_ahead_in A m r ws a k ≡ action_look_ahead_in A m r vs a k
+  unfolding action_look_ahead_in
+  action_look_ahead_in_ext r k ws vs a h =
+      let later = λ (us : ℕ → Span). int_sum (joint_observations m)
+      (λ o. look_ahead_in A m r (weights_after_in A m us a o) (k - 1)) in
+      ap (λ (w : Span). w.high +ℤ later ws) (weighted_reward_in_ext r ws vs a h)
+      ∙ ap (λ x. (weighted_reward_in A m r vs a).high +ℤ x) (int_sum_ext (joint_observations m) _ _
+      (λ o p. look_ahead_in_ext r (k - 1) (weights_after_in A m ws a o) (weights_after_in A m vs a o)
+      (λ t q. weights_after_in_ext ws vs a o t h)))
 
   -- the worth of a joint policy by the recursion
   pub recursive_worth_in_ext : (r : ℕ) (ws vs : ℕ → Span) (qs : List PolicyTree)

@@ -100,7 +100,7 @@ choice_counts zero c a (d ∷ ds) = rw (length-set d.chosen c (Some a)) refl
 choice_counts (suc i) c a (d ∷ ds) = rw (choice_counts i c a ds) refl
 
 -- so it keeps those after an advance
-choice_next_counts : (i c a : ℕ) (ns : List ℕ) (ds : List AgentFront)
+pub choice_next_counts : (i c a : ℕ) (ns : List ℕ) (ds : List AgentFront)
     → next_class_counts ns (with_choice i c a ds) ≡ next_class_counts ns ds
 choice_next_counts i c a [] ds = refl
 choice_next_counts i c a (n ∷ ns) [] = refl

@@ -5,7 +5,7 @@ use Rattle.dp_spec.specs.Steps.{advanced_front}
 use Rattle.dp_spec.specs.ClassSteps.{pair_number}
 use Rattle.dp_value.specs.WeightUpdates.{weights_of}
 use Rattle.dp_cluster.proofs.Advances.{pushable, pushed_is}
-use Rattle.dp_cluster.proofs.OwnParts.{next_after}
+use Rattle.dp_base.proofs.MadeLists.{next_after}
 use Rattle.dp_cluster.proofs.advance.push_weights.Goals as goal
 
 pub next_weight-requires-clause-sizes : goal.next_weight-requires-clause-sizes

@@ -2,7 +2,7 @@ use Rattle.std.proofs.Common.{rules}
 use Rattle.std.proofs.lemmas.Int.{to_z-of_z}
 use mir.Syntax.{w128}
 use Rattle.dp_cluster.specs.OwnWeights.{low_end}
-use Rattle.dp_cluster.proofs.OwnParts.{next_after}
+use Rattle.dp_base.proofs.MadeLists.{next_after}
 use Rattle.dp_cluster.proofs.runs.push_run.Goals as goal
 
 pub loop-weight-preserved : goal.loop-weight-preserved
