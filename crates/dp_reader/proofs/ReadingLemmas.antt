@@ -26,31 +26,36 @@ use Rattle.dp_reader.specs.declared.build.ReadModel.{ReadModel}
 use Rattle.dp_reader.specs.declared.fault.ModelFault.{ModelFault}
 use Rattle.dp_reader.specs.declared.fault.ModelFault.TheVariants as faults
 use Rattle.dp_meaning.specs.declared.why.Why.{Why}
-use Rattle.dp_reader.specs.Reading.{meant_model, ReadsModel, IsMeaning, fault_of_lexer, told}
-use Rattle.dp_reader.specs.Repaired.{ReadsRows, AreAllRows, ReadsAllRows, model_of_rows}
+use Rattle.dp_reader.specs.Reading.{meant_model, IsMeaning, fault_at, fault_of_lexer, told}
+use Rattle.dp_reader.specs.Repaired.{IsFaultOf, AreAllRows, model_of_rows}
+use Rattle.dp_meaning.specs.Faults.{◌>>=◌}
 
 -- ---- the first rows that cannot be repaired
 
-pub start_stops : (end : ℕ) (text : Text) (e : TextFault) → ReadsRows (repair_all end (start_row text ∷ [])) (Err e)
-    → ReadsAllRows end text (Err e)
-unfolding repaired_model
-start_stops end text (At f) h = rw h refl
-start_stops end text Memory h = tt
+module _ {A : Type 0} (bytes : List ℕ) (first : Result A Fault) where
+  -- the fault of a first step is that of all steps
+  first_stops : {B : Type 0} (others : A → Result B Fault) (answer : ModelFault) → IsFaultOf bytes first answer
+      → IsFaultOf bytes (first >>= others) answer
+  first_stops others (faults.At line column why) h = (h.0, rw h.1 refl, h.2)
+  first_stops others (faults.TooLarge passed) h = (h.0, rw h.1 refl, h.2)
+  first_stops others faults.Memory h = tt
 
-pub trans_stops : (end : ℕ) (text : Text) (x : rows.Repaired) (e : TextFault)
-    → repair_all end (start_row text ∷ []) ≡ Ok x
-    → ReadsRows (repair_all end (trans_rows text)) (Err e) → ReadsAllRows end text (Err e)
-unfolding repaired_model
-trans_stops end text x (At f) g h = rw g (rw h refl)
-trans_stops end text x Memory g h = tt
+module _ (bytes : List ℕ) (end : ℕ) (text : Text) (answer : ModelFault) where
+  pub start_stops : IsFaultOf bytes (repair_all end (start_row text ∷ [])) answer
+      → IsFaultOf bytes (repaired_model end text) answer
+  unfolding repaired_model
+  start_stops h = first_stops bytes (repair_all end (start_row text ∷ [])) _ answer h
 
-pub obs_stops : (end : ℕ) (text : Text) (x y : rows.Repaired) (e : TextFault)
-    → repair_all end (start_row text ∷ []) ≡ Ok x
-    → repair_all end (trans_rows text) ≡ Ok y → ReadsRows (repair_all end (obs_rows text)) (Err e)
-    → ReadsAllRows end text (Err e)
-unfolding repaired_model
-obs_stops end text x y (At f) g h k = rw g (rw h (rw k refl))
-obs_stops end text x y Memory g h k = tt
+  pub trans_stops : (x : rows.Repaired) → repair_all end (start_row text ∷ []) ≡ Ok x
+      → IsFaultOf bytes (repair_all end (trans_rows text)) answer → IsFaultOf bytes (repaired_model end text) answer
+  unfolding repaired_model
+  trans_stops x g h = rw g (first_stops bytes (repair_all end (trans_rows text)) _ answer h)
+
+  pub obs_stops : (x y : rows.Repaired) → repair_all end (start_row text ∷ []) ≡ Ok x
+      → repair_all end (trans_rows text) ≡ Ok y → IsFaultOf bytes (repair_all end (obs_rows text)) answer
+      → IsFaultOf bytes (repaired_model end text) answer
+  unfolding repaired_model
+  obs_stops x y g h k = rw g (rw h (first_stops bytes (repair_all end (obs_rows text)) _ answer k))
 
 -- ---- the model of all rows
 
@@ -81,20 +86,25 @@ pub record CanBuild (text : Text) (rows : Rows) : Type 0 where
   pub model : IsModel (model_of_rows text rows)
   pub named : AreNamesOf (model_of_rows text rows) (names_given text.header)
 
-pub can_build : (bytes : List ℕ) (text : Text) (rows : Rows) → text_of bytes ≡ Ok text → passed_limit text ≡ None
-    → AreAllRows (length bytes) text rows → CanBuild text rows
-can_build bytes text rows says within are =
-    let means = means_built bytes text (built text rows) says within (all_rows_are (length bytes) text rows are) in
+pub can_build : (bytes : List ℕ) (text : Text) (end : ℕ) (rows : Rows) → text_of bytes ≡ Ok text
+    → passed_limit text ≡ None
+    → end ≡ length bytes → AreAllRows end text rows → CanBuild text rows
+can_build bytes text end rows says within e are =
+    let is = subst (λ n. repaired_model n text ≡ Ok (built text rows)) e (all_rows_are end text rows are) in
+    let means = means_built bytes text (built text rows) says within is in
     let is = model_is bytes (built text rows) means in
     record { names = names_are bytes (built text rows) means; model = is.model; named = is.names }
 
-pub rows_built : (end : ℕ) (text : Text) (rows : Rows) (model : NamedModel) → AreAllRows end text rows
+pub rows_built : (bytes : List ℕ) (text : Text) (end : ℕ) (rows : Rows) (model : NamedModel)
+    → text_of bytes ≡ Ok text → passed_limit text ≡ None → end ≡ length bytes → AreAllRows end text rows
     → model ≡ (built text rows).model
-    → repaired_model end text ≡ Ok (record { model = model; repaired = (built text rows).repaired })
-rows_built end text rows model are e =
+    → meaning bytes ≡ Means (record { model = model; repaired = (built text rows).repaired })
+rows_built bytes text end rows model says within e are same =
     let with_model : NamedModel → Result meaning.ReadModel Fault =
     λ m. Ok (record { model = m; repaired = (built text rows).repaired }) in
-    all_rows_are end text rows are ∙ ap with_model (sym e)
+    means_built bytes text _ says within
+    (subst (λ n. repaired_model n text ≡ Ok (built text rows)) e (all_rows_are end text rows are)
+    ∙ ap with_model (sym same))
 
 -- ---- the answer
 
@@ -118,22 +128,23 @@ pub text_passes : (bytes : List ℕ) (text : Text) (passed : TooLarge) → text_
 unfolding meaning
 text_passes bytes text passed says is = rw says (rw is refl)
 
--- the model, or the fault of a row
-pub text_means : (bytes : List ℕ) (text : Text) (r : ReadModel) → text_of bytes ≡ Ok text → passed_limit text ≡ None
-    → ReadsModel (repaired_model (length bytes) text) (Ok r) → IsMeaning (meaning bytes) (Ok r)
-text_means bytes text r says within is = means_built bytes text _ says within is
+pub same_answer : (meant : Meaning) (answer other : ModelFault) → answer ≡ other → IsMeaning meant (Err other)
+    → IsMeaning meant (Err answer)
+same_answer meant answer other e is = subst (λ f. IsMeaning meant (Err f)) (sym e) is
 
-pub row_fault : (bytes : List ℕ) (text : Text) (fault : TextFault) → text_of bytes ≡ Ok text
-    → passed_limit text ≡ None
-    → ReadsModel (repaired_model (length bytes) text) (Err fault) → IsMeaning (meaning bytes) (Err (told bytes fault))
-unfolding meaning
-row_fault bytes text (At f) says within h = rw says (rw within (rw h refl))
-row_fault bytes text Memory says within h = tt
+-- the fault of a row
+module _ (bytes : List ℕ) (text : Text) (end : ℕ) (says : text_of bytes ≡ Ok text) (within : passed_limit text ≡ None)
+    (of_file : end ≡ length bytes) where
+  row_told : (fault : Fault) → repaired_model end text ≡ Err fault
+      → IsMeaning (meaning bytes) (Err (fault_at bytes fault))
+  unfolding meaning
+  row_told fault is = rw says (rw within (rw (← of_file) (rw is refl)))
 
-pub told_same : (bytes : List ℕ) (meant : Meaning) (fault : TextFault) (answer : ModelFault)
-    → answer ≡ told bytes fault
-    → IsMeaning meant (Err (told bytes fault)) → IsMeaning meant (Err answer)
-told_same bytes meant fault answer e is = subst (λ f. IsMeaning meant (Err f)) (sym e) is
+  pub row_fault : (answer : ModelFault) → IsFaultOf bytes (repaired_model end text) answer
+      → IsMeaning (meaning bytes) (Err answer)
+  row_fault (faults.At line column why) h = same_answer (meaning bytes) _ _ h.2 (row_told h.0 h.1)
+  row_fault (faults.TooLarge passed) h = same_answer (meaning bytes) _ _ h.2 (row_told h.0 h.1)
+  row_fault faults.Memory h = tt
 
 -- ---- each answer comes exactly where it is meant, unless memory ran out
 

@@ -1,2 +1,2 @@
-pub mod Repaired
 pub mod Reading
+pub mod Repaired

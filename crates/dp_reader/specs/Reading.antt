@@ -17,12 +17,6 @@ use Rattle.dp_reader.specs.declared.fault.ModelFault.TheVariants.{At, TooLarge, 
 abbrev pub meant_model : ReadModel → meaning.ReadModel
 meant_model r = record { model = r.model; repaired = r.repaired }
 
--- the model is what is meant, or the fault is, unless memory ran out
-abbrev pub ReadsModel : Result meaning.ReadModel Fault → Result ReadModel TextFault → Type 0
-ReadsModel meant (Ok r) = meant ≡ Ok (meant_model r)
-ReadsModel meant (Err (text.At fault)) = meant ≡ Err fault
-ReadsModel meant (Err text.Memory) = Unit {0}
-
 -- the answer is what the file means, unless memory ran out
 abbrev pub IsMeaning : Meaning → Result ReadModel ModelFault → Type 0
 IsMeaning meant (Ok r) = meant ≡ Means (meant_model r)
@@ -30,9 +24,13 @@ IsMeaning meant (Err (At line column why)) = meant ≡ FaultAt (record { line = 
 IsMeaning meant (Err (TooLarge passed)) = meant ≡ Passes passed
 IsMeaning meant (Err Memory) = Unit {0}
 
+-- a fault with its place
+abbrev pub fault_at : List ℕ → Fault → ModelFault
+fault_at bytes fault = At (line_at bytes fault.at) (column_at bytes fault.at) fault.why
+
 -- the fault of a text with its place
 abbrev pub told : List ℕ → TextFault → ModelFault
-told bytes (text.At fault) = At (line_at bytes fault.at) (column_at bytes fault.at) fault.why
+told bytes (text.At fault) = fault_at bytes fault
 told bytes text.Memory = Memory
 
 -- a fault of the lexer as one of the file

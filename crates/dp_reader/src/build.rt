@@ -1,25 +1,20 @@
 //! The model of a text, from its header and its tables.
-ghost use Rattle.std.specs.Prelude.{◌≡◌, ◌≤◌, ◌^◌, None, Ok, IfOk, length, map};
+ghost use Rattle.std.specs.Prelude.{◌≡◌, ◌≤◌, ◌^◌, Ok, IfOk, length, map};
 ghost use Rattle.dp_spec.specs.Model.{IsModel};
 ghost use Rattle.dp_model.specs.Names.{AreNames};
 ghost use Rattle.dp_model.specs.Tables.{AreNamesOf};
-ghost use Rattle.dp_meaning.specs.Limits.{passed_limit};
-ghost use Rattle.dp_meaning.specs.Meaning.{IsSaid, names_given, text_of};
-ghost use Rattle.dp_meaning.specs.Meaning as meaning;
+ghost use Rattle.dp_meaning.specs.Meaning.{meaning, names_given, text_of};
 ghost use Rattle.dp_meaning.specs.NameLists.{size_of};
-ghost use Rattle.dp_meaning.specs.Scales.{scales_of};
-ghost use Rattle.dp_meaning.specs.Text.{states_in};
 ghost use Rattle.dp_reader.specs.Repaired.{ReadsAllRows, model_of_rows};
-ghost use Rattle.dp_reader.specs.Reading.{ReadsModel};
+ghost use Rattle.dp_reader.specs.Reading.{IsMeaning};
 
+use crate::ModelFault;
 use crate::lists::{all_names, names_in, sizes};
-use crate::repaired::{Repaired, observations, start, transitions};
+use crate::repaired::{Repaired, repaired_rows};
 use dp_base::Memory;
-use dp_meaning::{Header, Text};
+use dp_meaning::Header;
 use dp_model::{Cells, Model, Names, Sequence, Sizes};
-use dp_spec::Scales;
-use dp_tables::{rewards, states};
-use dp_text::TextFault;
+use dp_tables::{BoundedText, ChancesOf, rewards};
 use std::alloc::Global;
 
 /// A model, and how many of the rows of its file were repaired to sum to 1.
@@ -38,32 +33,32 @@ pub(crate) struct Rows {
 }
 
 /// The rows of all chances that the text gives, repaired.
-fn all_rows(alloc: Global, text: &Text, scales: Scales, end: u32) -> Result<Rows, TextFault>
-    requires said { IsSaid text.now }
-    requires within { passed_limit text.now ≡ None }
-    requires scales { scales ≡ scales_of text.now }
-    ensures { ReadsAllRows end text.now result }
+fn all_rows(alloc: Global, bytes: &[u8], text: &BoundedText) -> Result<Rows, ModelFault>
+    requires { length bytes.now ≤ 2 ^ 26 }
+    ensures { ReadsAllRows bytes.now text.now result }
 {
+    let start = repaired_rows(alloc, bytes, text, ChancesOf::Start)?;
+    let transitions = repaired_rows(alloc, bytes, text, ChancesOf::Transitions)?;
+    let observations = repaired_rows(alloc, bytes, text, ChancesOf::Observations)?;
     Ok(Rows {
-        start: start(alloc, text, scales.start, end)?,
-        transitions: transitions(alloc, text, scales.trans, end)?,
-        observations: observations(alloc, text, scales.obs, end)?,
+        start,
+        transitions,
+        observations,
     })
 }
 
 /// How many states there are, and actions and observations of each agent.
-fn sizes_in(alloc: Global, text: &Text) -> Result<Sizes, Memory>
-    requires { passed_limit text.now ≡ None }
+fn sizes_in(alloc: Global, header: &Header) -> Result<Sizes, Memory>
     ensures { IfOk result (λ sizes. sizes ≡ record {
-      states = states_in text.now;
-      actions = map size_of text.now.header.actions;
-      observations = map size_of text.now.header.observations;
+      states = size_of header.now.states;
+      actions = map size_of header.now.actions;
+      observations = map size_of header.now.observations;
     }) }
 {
     Ok(Sizes {
-        states: states(text),
-        actions: sizes(alloc, text.header.actions.as_slice())?,
-        observations: sizes(alloc, text.header.observations.as_slice())?,
+        states: header.states.size(),
+        actions: sizes(alloc, header.actions.as_slice())?,
+        observations: sizes(alloc, header.observations.as_slice())?,
     })
 }
 
@@ -80,19 +75,17 @@ fn names_of(alloc: Global, header: Header) -> Result<Names, Memory>
 }
 
 /// The model of a text whose rows of chances these are.
-fn build(alloc: Global, text: Text, scales: Scales, rows: Rows) -> Result<Model, Memory>
-    requires said { IsSaid text }
-    requires within { passed_limit text ≡ None }
-    requires scales { scales ≡ scales_of text }
-    requires names { AreNames (names_given text.header) }
-    requires model { IsModel (model_of_rows text rows) }
-    requires named { AreNamesOf (model_of_rows text rows) (names_given text.header) }
+fn build(alloc: Global, text: BoundedText, rows: Rows) -> Result<Model, Memory>
+    requires names { AreNames (names_given text.text.header) }
+    requires model { IsModel (model_of_rows text.text rows) }
+    requires named { AreNamesOf (model_of_rows text.text rows) (names_given text.text.header) }
     ensures { IfOk result
-        (λ model. model ≡ record { model = model_of_rows text rows; names = names_given text.header }) }
+        (λ model. model ≡ record { model = model_of_rows text.text rows; names = names_given text.text.header }) }
 {
-    let reward = rewards(alloc, &text, scales.reward)?;
-    let sizes = sizes_in(alloc, &text)?;
-    let names = names_of(alloc, text.header)?;
+    let reward = rewards(alloc, &text)?;
+    let sizes = sizes_in(alloc, text.header())?;
+    let scales = text.scales();
+    let names = names_of(alloc, text.into_header())?;
     let cells = Cells {
         start: Sequence::of(rows.start.cells),
         trans: Sequence::of(rows.transitions.cells),
@@ -102,21 +95,20 @@ fn build(alloc: Global, text: Text, scales: Scales, rows: Rows) -> Result<Model,
     Ok(Model::build(sizes, names, scales, cells))
 }
 
-/// The model of a text that is within the limits, or the first fault of its rows.
+/// The model of the text that the file says, or the first fault of its rows.
 pub(crate) fn repaired_model(
     alloc: Global,
     bytes: &[u8],
-    text: Text,
-    scales: Scales,
-) -> Result<ReadModel, TextFault>
+    text: BoundedText,
+) -> Result<ReadModel, ModelFault>
     requires short { length bytes.now ≤ 2 ^ 26 }
-    requires says { text_of bytes.now ≡ Ok text }
-    requires within { passed_limit text ≡ None }
-    requires scales { scales ≡ scales_of text }
-    ensures { ReadsModel (meaning.repaired_model (length bytes.now) text) result }
+    requires says { text_of bytes.now ≡ Ok text.text }
+    requires end { text.end ≡ length bytes.now }
+    ensures { IsMeaning (meaning bytes.now) result }
 {
-    let rows = all_rows(alloc, &text, scales, bytes.len() as u32)?;
+    text.invariant();
+    let rows = all_rows(alloc, bytes, &text)?;
     let repaired = rows.start.count + rows.transitions.count + rows.observations.count;
-    let model = build(alloc, text, scales, rows)?;
+    let model = build(alloc, text, rows)?;
     Ok(ReadModel { model, repaired })
 }

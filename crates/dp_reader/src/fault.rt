@@ -1,6 +1,10 @@
 //! Why a file was not read as a model.
-use dp_lexer::LexFault;
-use dp_meaning::Why;
+ghost use Rattle.std.specs.Prelude.{◌≡◌, ◌≤◌, ◌^◌, length};
+ghost use Rattle.dp_reader.specs.Reading.{fault_at};
+
+use dp_base::Memory;
+use dp_lexer::{LexFault, column_at, line_at};
+use dp_meaning::{Fault, Why};
 use dp_model::TooLarge;
 use thiserror::Error;
 
@@ -16,6 +20,18 @@ pub enum ModelFault {
     /// Memory ran out.
     #[error("memory ran out")]
     Memory,
+}
+
+/// The fault with its place.
+pub(crate) fn fault_at(bytes: &[u8], fault: Fault) -> ModelFault
+    requires { length bytes.now ≤ 2 ^ 26 }
+    ensures { result ≡ fault_at bytes.now fault }
+{
+    ModelFault::At {
+        line: line_at(bytes, fault.at),
+        column: column_at(bytes, fault.at),
+        why: fault.why,
+    }
 }
 
 impl From<LexFault> for ModelFault {
@@ -44,5 +60,16 @@ impl From<TooLarge> for ModelFault {
 
     fn from(passed: TooLarge) -> ModelFault {
         ModelFault::TooLarge(passed)
+    }
+}
+
+impl From<Memory> for ModelFault {
+    ghost use Rattle.std.specs.Prelude.{◌≡◌};
+    ghost use Rattle.dp_reader.specs.declared.fault.ModelFault.TheVariants as faults;
+
+    ghost from_gives = { λ _ result. result ≡ faults.Memory };
+
+    fn from(_: Memory) -> ModelFault {
+        ModelFault::Memory
     }
 }

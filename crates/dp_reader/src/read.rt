@@ -7,24 +7,21 @@ ghost use Rattle.dp_reader.specs.declared.build.ReadModel.{ReadModel};
 ghost use Rattle.dp_reader.specs.Reading.{IsMeaning, meant_model, told};
 
 use crate::build::repaired_model;
+use crate::fault::fault_at;
 use crate::{ModelFault, ReadModel};
-use dp_lexer::{column_at, lex, line_at};
+use dp_lexer::lex;
 use dp_meaning::Text;
-use dp_tables::scales_within_limits;
+use dp_tables::BoundedText;
 use dp_text::{TextFault, read_text};
 use std::alloc::Global;
 
-/// The fault with its place.
+/// The fault of a text with its place.
 fn told(bytes: &[u8], fault: TextFault) -> ModelFault
     requires { length bytes.now ≤ 2 ^ 26 }
     ensures { result ≡ told bytes.now fault }
 {
     match fault {
-        TextFault::At(fault) => ModelFault::At {
-            line: line_at(bytes, fault.at),
-            column: column_at(bytes, fault.at),
-            why: fault.why,
-        },
+        TextFault::At(fault) => fault_at(bytes, fault),
         TextFault::Memory => ModelFault::Memory,
     }
 }
@@ -36,11 +33,8 @@ fn model_within_limits(alloc: Global, bytes: &[u8], text: Text) -> Result<ReadMo
     requires says { text_of bytes.now ≡ Ok text }
     ensures { IsMeaning (meaning bytes.now) result }
 {
-    let scales = scales_within_limits(&text)?;
-    match repaired_model(alloc, bytes, text, scales) {
-        Ok(model) => Ok(model),
-        Err(fault) => Err(told(bytes, fault)),
-    }
+    let text = BoundedText::of(text, bytes.len() as u32)?;
+    repaired_model(alloc, bytes, text)
 }
 
 /// What a model file means, by its tokens and its text.

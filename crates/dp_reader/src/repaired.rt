@@ -1,14 +1,12 @@
 //! The rows of chances of a text, repaired.
-ghost use Rattle.std.specs.Prelude.{◌≡◌, ◌≤◌, ◌∷◌, [], None, length};
-ghost use Rattle.dp_meaning.specs.Limits.{passed_limit};
-ghost use Rattle.dp_meaning.specs.Meaning.{IsSaid};
-ghost use Rattle.dp_meaning.specs.Rows.{obs_rows, repair_all, start_row, trans_rows};
-ghost use Rattle.dp_meaning.specs.Scales.{scales_of};
+ghost use Rattle.std.specs.Prelude.{◌≤◌, ◌^◌, length};
+ghost use Rattle.dp_meaning.specs.Rows.{repair_all};
+ghost use Rattle.dp_tables.specs.Tables.{rows_of};
 ghost use Rattle.dp_reader.specs.Repaired.{ReadsRows};
 
-use dp_meaning::{Table, Text};
-use dp_tables::{chances, repair_observations, repair_start, repair_transitions, start_chances};
-use dp_text::TextFault;
+use crate::ModelFault;
+use crate::fault::fault_at;
+use dp_tables::{BoundedText, ChancesOf, given_chances, repair_chances};
 use std::alloc::Global;
 
 /// The cells of rows that sum to their scales, and how many of the rows were repaired.
@@ -18,54 +16,19 @@ pub(crate) struct Repaired {
     pub count: u32,
 }
 
-/// The row of the start.
-pub(crate) fn start(alloc: Global, text: &Text, scale: u64, end: u32) -> Result<Repaired, TextFault>
-    requires said { IsSaid text.now }
-    requires within { passed_limit text.now ≡ None }
-    requires scale { scale ≡ (scales_of text.now).start }
-    ensures { ReadsRows (repair_all end (start_row text.now ∷ [])) result }
-{
-    let mut cells = start_chances(alloc, text, scale)?;
-    match repair_start(&mut cells, text, scale, end) {
-        Ok(count) => Ok(Repaired { cells, count }),
-        Err(fault) => Err(TextFault::At(fault)),
-    }
-}
-
-/// The rows of the transitions.
-pub(crate) fn transitions(
+/// The rows of these chances.
+pub(crate) fn repaired_rows(
     alloc: Global,
-    text: &Text,
-    scale: u64,
-    end: u32,
-) -> Result<Repaired, TextFault>
-    requires said { IsSaid text.now }
-    requires within { passed_limit text.now ≡ None }
-    requires scale { scale ≡ (scales_of text.now).trans }
-    ensures { ReadsRows (repair_all end (trans_rows text.now)) result }
+    bytes: &[u8],
+    text: &BoundedText,
+    of: ChancesOf,
+) -> Result<Repaired, ModelFault>
+    requires { length bytes.now ≤ 2 ^ 26 }
+    ensures { ReadsRows bytes.now (repair_all text.now.end (rows_of text.now.text of)) result }
 {
-    let mut cells = chances(alloc, text, Table::Trans, scale)?;
-    match repair_transitions(&mut cells, text, scale, end) {
+    let mut cells = given_chances(alloc, text, of)?;
+    match repair_chances(&mut cells, text, of) {
         Ok(count) => Ok(Repaired { cells, count }),
-        Err(fault) => Err(TextFault::At(fault)),
-    }
-}
-
-/// The rows of the observations.
-pub(crate) fn observations(
-    alloc: Global,
-    text: &Text,
-    scale: u64,
-    end: u32,
-) -> Result<Repaired, TextFault>
-    requires said { IsSaid text.now }
-    requires within { passed_limit text.now ≡ None }
-    requires scale { scale ≡ (scales_of text.now).obs }
-    ensures { ReadsRows (repair_all end (obs_rows text.now)) result }
-{
-    let mut cells = chances(alloc, text, Table::Obs, scale)?;
-    match repair_observations(&mut cells, text, scale, end) {
-        Ok(count) => Ok(Repaired { cells, count }),
-        Err(fault) => Err(TextFault::At(fault)),
+        Err(fault) => Err(fault_at(bytes, fault)),
     }
 }

@@ -1,6 +1,7 @@
 -- The sizes and the scales of a text, from the parts that are computed.
 use Rattle.std.proofs.Common.{◌≡◌, ℕ, ◌≤◌, ◌^◌, map, subst, ap, ◌∙◌}
-use Rattle.std.specs.Prelude.{List, unsigned_abs}
+use Rattle.std.specs.Prelude.{List, Result, Ok, Err, IfOk, unsigned_abs}
+use Rattle.dp_model.specs.declared.limit.TooLarge.{TooLarge}
 use Rattle.dp_spec.specs.declared.scales.Scales.{Scales}
 use Rattle.dp_meaning.specs.declared.given_list.GivenList.{GivenList}
 use Rattle.dp_meaning.specs.declared.statement.Table.TheVariants.{Trans, Obs, Reward}
@@ -15,9 +16,15 @@ use Rattle.dp_tables.specs.declared.sizes.JointSizes.{JointSizes}
 use Rattle.dp_tables.specs.Sizes.{AreSizesOf}
 
 -- a product that is counted up to the limit and kept is the size of the axis
-pub size_is : (n : ℕ) (lists : List GivenList) → n ≡ product_past 256 1 (map size_of lists) → n ≤ 256
+size_is : (n : ℕ) (lists : List GivenList) → n ≡ product_past 256 1 (map size_of lists) → n ≤ 256
     → n ≡ axis_size lists
 size_is n lists e h = e ∙ counted_product 256 (map size_of lists) (subst (λ k. k ≤ 256) e h)
+
+pub checked_product : (size : ℕ) (lists : List GivenList) (r : Result ℕ TooLarge)
+    → size ≡ product_past 256 1 (map size_of lists) → IfOk r (λ n. n ≡ size) → IfOk r (λ n. n ≤ 256)
+    → IfOk r (λ n. n ≡ axis_size lists)
+checked_product size lists (Ok n) e is most = size_is n lists (is ∙ e) most
+checked_product size lists (Err passed) e is most = tt
 
 -- the scales of a text, each from what it is computed from
 pub record AreScalesOf (text : Text) (sizes : JointSizes) (s : Scales) : Type 0 where

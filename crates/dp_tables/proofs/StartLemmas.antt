@@ -1,6 +1,6 @@
 -- The row of the start.
 use Rattle.std.proofs.Common.{◌≡◌, ℕ, zero, suc, ◌+◌, ◌*◌, ◌<◌, true, List, [], ◌∷◌, ◌++◌, length, get_or, map, take}
-use Rattle.std.proofs.Common.{drop, refl, sym, ap, subst, ◌∙◌, arith}
+use Rattle.std.proofs.Common.{drop, refl, sym, ap, ◌∙◌, arith}
 use Rattle.std.specs.Prelude.{sum, Option, Some, None, Result, Ok, Err}
 use Rattle.std.specs.List.{range_with_len}
 use Rattle.std.proofs.lemmas.List.{take_all}
@@ -10,16 +10,14 @@ use Rattle.dp_meaning.specs.declared.header.Start.TheVariants.{AnyState, OneStat
 use Rattle.dp_meaning.specs.declared.text.Text.{Text}
 use Rattle.dp_meaning.specs.declared.why.Fault.{Fault}
 use Rattle.dp_meaning.specs.declared.why.Why.TheVariants.{RowSum}
-use Rattle.dp_meaning.specs.Limits.{passed_limit}
 use Rattle.dp_meaning.specs.Meaning.{IsSaid}
 use Rattle.dp_meaning.specs.Numbers.{is_chance}
 use Rattle.dp_meaning.specs.Rows.{Row, Repaired, start_chance, offset_of_start, start_row, repair_all}
 use Rattle.dp_meaning.specs.Scales.{scales_of}
 use Rattle.dp_meaning.specs.Text.{states_in}
 use Rattle.dp_meaning.proofs.Each.{all_from_each}
-use Rattle.dp_meaning.proofs.ModelLaws.{text_is, scales_are}
+use Rattle.dp_meaning.proofs.ModelLaws.{text_is}
 use Rattle.dp_meaning.proofs.ReadHeader.{IsStart}
-use Rattle.dp_meaning.proofs.TextLimits.{small}
 use Rattle.dp_tables.specs.Repair.{AreRows, fault_of_row, RepairsRows}
 use Rattle.dp_tables.specs.Start.{IsChanceStart}
 
@@ -33,11 +31,6 @@ start_by_chances text said = chance_start text.header.start (text_is said.0 text
 
 pub some_states : (text : Text) (n : ℕ) → IsSaid text → n ≡ states_in text → 0 < n
 some_states text n said e = let some = (text_is said.0 text said.1).header.states.some in omega arith
-
-pub some_start : (text : Text) (scale : ℕ) → IsSaid text → passed_limit text ≡ None → scale ≡ (scales_of text).start
-    → 0 < scale
-some_start text scale said within e =
-    subst (λ n. 0 < n) (sym e) (scales_are text (text_is said.0 text said.1) (small text within)).start
 
 -- the cells of the row of the start, one for each state
 pub start_cells : (text : Text) (scale states : ℕ) → scale ≡ (scales_of text).start → states ≡ states_in text

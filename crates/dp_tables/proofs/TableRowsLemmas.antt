@@ -10,26 +10,19 @@ use Rattle.std.proofs.lemmas.List.FromFn.{length-map-range_with_len, get_or-map-
 use Rattle.dp_spec.specs.JointNumbers.{joint_number, parts_of}
 use Rattle.dp_meaning.specs.declared.why.Fault.{Fault}
 use Rattle.dp_meaning.specs.declared.statement.Table.{Table}
-use Rattle.dp_meaning.specs.declared.statement.Table.TheVariants.{Trans, Obs}
 use Rattle.dp_meaning.specs.declared.statement.Statement.{Statement}
 use Rattle.dp_meaning.specs.declared.text.Text.{Text}
 use Rattle.dp_meaning.specs.Fields.{Axis}
 use Rattle.dp_meaning.specs.Statements.{axes_of}
 use Rattle.dp_meaning.specs.Cells.{Cell, covers, statements_for, chance_by, chance_of_cell}
-use Rattle.dp_meaning.specs.Text.{states_in, joint_actions_in, joint_observations_in}
-use Rattle.dp_meaning.specs.Limits.{passed_limit}
-use Rattle.dp_meaning.specs.Meaning.{IsSaid}
-use Rattle.dp_meaning.specs.Scales.{scales_of}
-use Rattle.dp_meaning.proofs.ModelLaws.{text_is, scales_are}
-use Rattle.dp_meaning.proofs.TextLimits.{small}
-use Rattle.dp_spec.specs.Model.{AreScales}
+use Rattle.dp_meaning.specs.Text.{states_in, joint_actions_in}
 use Rattle.dp_meaning.specs.Rows.{Row, Repaired, row_cells, last_of_row, statement_at, table_row, table_rows}
-use Rattle.dp_meaning.specs.Rows.{trans_rows, obs_rows, repair_all}
+use Rattle.dp_meaning.specs.Rows.{repair_all}
 use Rattle.dp_meaning.proofs.TableRows.{length_of_table_row, cell_of_table_row, scale_of_table_row}
 use Rattle.dp_spec.proofs.JointNumberLaws.{parts_of-joint_number}
 use Rattle.dp_meaning.proofs.CellNumbers.{parts_of_row}
 use Rattle.dp_tables.specs.Repair.{AreRows, fault_of_row, RepairsRows}
-use Rattle.dp_tables.specs.Rows.{given_cells, Repairs}
+use Rattle.dp_tables.specs.Tables.{given_cells, row_length, scale_in}
 use Rattle.dp_tables.proofs.RowsLemmas.{row_within}
 
 -- ---- cells that no statement covers
@@ -245,33 +238,17 @@ pub both_sizes : (text : Text) (actions states : ℕ) → actions ≡ joint_acti
     → actions * states ≡ joint_actions_in text * states_in text
 both_sizes text actions states e f = ap (λ n. n * states) e ∙ ap (λ n. joint_actions_in text * n) f
 
--- ---- transitions and observations
+-- ---- over the scale and the length of the table's rows
 
-text_scales : (text : Text) → IsSaid text → passed_limit text ≡ None → AreScales (scales_of text)
-text_scales text said within = scales_are text (text_is said.0 text said.1) (small text within)
+pub given_over : (text : Text) (table : Table) (scale len : ℕ) (given : List ℕ) → scale ≡ scale_in text table
+    → len ≡ row_length text table → given ≡ given_cells text table (scale_in text table) (row_length text table)
+    → given ≡ given_cells text table scale len
+given_over text table scale len given e f g =
+    g ∙ ap (λ n. given_cells text table n (row_length text table)) (sym e)
+    ∙ ap (given_cells text table scale) (sym f)
 
-pub some_trans : (text : Text) (scale : ℕ) → IsSaid text → passed_limit text ≡ None → scale ≡ (scales_of text).trans
-    → 0 < scale
-some_trans text scale said within e = subst (λ n. 0 < n) (sym e) (text_scales text said within).trans
-
-pub some_obs : (text : Text) (scale : ℕ) → IsSaid text → passed_limit text ≡ None → scale ≡ (scales_of text).obs
-    → 0 < scale
-some_obs text scale said within e = subst (λ n. 0 < n) (sym e) (text_scales text said within).obs
-
-pub trans_repaired : (text : Text) (scale len end : ℕ) (cells : List ℕ) (r : Result ℕ Fault)
-    → scale ≡ (scales_of text).trans
-    → len ≡ states_in text → Repairs (repair_all end (table_rows text Trans scale len)) cells r
-    → Repairs (repair_all end (trans_rows text)) cells r
-unfolding trans_rows
-trans_repaired text scale len end cells r e f is =
-    subst (λ n. Repairs (repair_all end (table_rows text Trans n (states_in text))) cells r) e
-    (subst (λ n. Repairs (repair_all end (table_rows text Trans scale n)) cells r) f is)
-
-pub obs_repaired : (text : Text) (scale len end : ℕ) (cells : List ℕ) (r : Result ℕ Fault)
-    → scale ≡ (scales_of text).obs
-    → len ≡ joint_observations_in text → Repairs (repair_all end (table_rows text Obs scale len)) cells r
-    → Repairs (repair_all end (obs_rows text)) cells r
-unfolding obs_rows
-obs_repaired text scale len end cells r e f is =
-    subst (λ n. Repairs (repair_all end (table_rows text Obs n (joint_observations_in text))) cells r) e
-    (subst (λ n. Repairs (repair_all end (table_rows text Obs scale n)) cells r) f is)
+pub rows_over : (text : Text) (table : Table) (scale len : ℕ) → scale ≡ scale_in text table
+    → len ≡ row_length text table
+    → table_rows text table (scale_in text table) (row_length text table) ≡ table_rows text table scale len
+rows_over text table scale len e f =
+    ap (λ n. table_rows text table n (row_length text table)) (sym e) ∙ ap (table_rows text table scale) (sym f)

@@ -2,8 +2,8 @@ pub mod Covering
 pub mod Repair
 pub mod Limits
 pub mod Sizes
-pub mod Rows
 pub mod Blocks
 pub mod Tables
 pub mod Writing
 pub mod Start
+pub mod Bounded

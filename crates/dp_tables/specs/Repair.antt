@@ -4,7 +4,7 @@ use Rattle.std.specs.Prelude.{Err}
 use Rattle.dp_meaning.specs.declared.why.Fault.{Fault}
 use Rattle.dp_meaning.specs.declared.why.Why.TheVariants.{RowSum, MissingRow}
 use Rattle.dp_meaning.specs.Faults.{fault}
-use Rattle.dp_meaning.specs.Rows.{Row, repair_at, repair_all}
+use Rattle.dp_meaning.specs.Rows.{Row, Repaired, repair_at, repair_all}
 
 -- ---- one row
 
@@ -36,3 +36,10 @@ RepairsRows scale count len given cells (Ok repaired) =
 RepairsRows scale count len given cells (Err i) =
     (end : ℕ) (rows : List Row) (d : Row) → AreRows scale count len given rows
     → repair_all end rows ≡ Err (fault_of_row end (get_or rows i d).at)
+
+-- ---- rows whose faults are told
+
+-- the cells are what is meant by the repair of their rows, of which so many were repaired, or the fault is
+abbrev pub Repairs : Result Repaired Fault → List ℕ → Result ℕ Fault → Type 0
+Repairs meant cells (Ok repaired) = meant ≡ Ok (record { cells = cells; repaired = repaired })
+Repairs meant cells (Err fault) = meant ≡ Err fault

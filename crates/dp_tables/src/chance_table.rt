@@ -1,45 +1,40 @@
 //! The chances of a table, as the statements of a text give them.
-ghost use Rattle.std.specs.Prelude.{◌≡◌, ℕ, ◌*◌, ◌⊎◌, ◌<◌, ◌≤◌, false};
-ghost use Rattle.std.specs.Prelude.{[], ◌∷◌, length, drop, map, None, IfOk, OnOk};
-ghost use Rattle.std.specs.List.{range_with_len};
-ghost use Rattle.dp_spec.specs.JointNumbers.{parts_of, product};
-ghost use Rattle.dp_meaning.specs.Statements.{axes_of, is_reward_table};
-ghost use Rattle.dp_meaning.specs.Cells.{statements_for, chance_of_cell};
-ghost use Rattle.dp_meaning.specs.Limits.{passed_limit};
-ghost use Rattle.dp_meaning.specs.Meaning.{IsSaid};
+ghost use Rattle.std.specs.Prelude.{◌≡◌, ◌*◌, ◌⊎◌, ◌<◌, ◌≤◌, false, length, drop, IfOk, OnOk};
+ghost use Rattle.dp_spec.specs.JointNumbers.{product};
+ghost use Rattle.dp_meaning.specs.Statements.{is_reward_table};
 ghost use Rattle.dp_meaning.specs.Text.{states_in, joint_actions_in};
 ghost use Rattle.dp_tables.specs.Blocks as blocks;
 ghost use Rattle.dp_tables.specs.Blocks.{IsChanceValue};
-ghost use Rattle.dp_tables.specs.Tables.{row_length};
+ghost use Rattle.dp_tables.specs.Tables.{given_cells, row_length, scale_in};
 ghost use Rattle.dp_tables.specs.Writing as spec;
 ghost use Rattle.dp_tables.specs.Writing.{ArePartsWithin, AreWritten};
 
+use crate::BoundedText;
 use crate::blocks::chance_block;
 use crate::lists::{list_parts, list_sizes};
-use crate::sizes::{joint_actions, joint_observations, states};
 use crate::writing::write_block;
 use dp_base::Memory;
-use dp_meaning::{Statement, Table, Text};
+use dp_meaning::{Statement, Table};
 use std::alloc::Global;
 
-/// The chances of a table over this scale, as the statements of the text give them: by joint
-/// action, by state, and by next state or joint observation.
-pub fn chances(alloc: Global, text: &Text, table: Table, scale: u64) -> Result<Vec<u64>, Memory>
-    requires said { IsSaid text.now }
-    requires within { passed_limit text.now ≡ None }
-    requires table { is_reward_table table ≡ false }
-    ensures { let len = row_length text.now table in
-        let statements = statements_for table text.now.statements in
-        let sizes = joint_actions_in text.now ∷ states_in text.now ∷ len ∷ [] in
-        let count = joint_actions_in text.now * states_in text.now * len in
-        IfOk result (λ cells. cells.items
-        ≡ map (λ k. chance_of_cell scale (axes_of text.now.header table) statements (parts_of sizes k))
-        (range_with_len 0 count)) }
+/// The chances of a table over its scale, as the statements of the text give them: by joint action,
+/// by state, and by next state or joint observation.
+pub(crate) fn table_chances(
+    alloc: Global,
+    text: &BoundedText,
+    table: Table,
+) -> Result<Vec<u64>, Memory>
+    requires { is_reward_table table ≡ false }
+    ensures { let scale = scale_in text.now.text table in
+        let len = row_length text.now.text table in
+        IfOk result (λ cells. cells.items ≡ given_cells text.now.text table scale len) }
 {
-    let len = row_len(text, table);
-    let sizes = list_sizes(alloc, &text.header, table)?;
+    text.invariant();
+    let len = text.row_len(table);
+    let scale = text.scale(table);
+    let sizes = list_sizes(alloc, text.header(), table)?;
     let mut cells = vec![in alloc; 0; cells_in(text, len)]?;
-    for statement in text.statements.as_slice() {
+    for statement in text.statements() {
         if table.is_same(statement.table) {
             write_chances(alloc, &mut cells, &sizes, scale, len, statement)?;
         }
@@ -74,23 +69,10 @@ fn write_chances(
     Ok(())
 }
 
-/// How many cells a row of a table of chances has.
-fn row_len(text: &Text, table: Table) -> u32
-    requires { passed_limit text.now ≡ None }
-    ensures is { result ≡ row_length text.now table }
-    ensures limit { result ≤ 256 }
-{
-    match table {
-        Table::Trans => states(text),
-        Table::Obs | Table::Reward => joint_observations(text),
-    }
-}
-
 /// How many cells a table of chances has, whose rows have so many.
-fn cells_in(text: &Text, len: u32) -> usize
-    requires within { passed_limit text.now ≡ None }
-    requires limit { len ≤ 256 }
-    ensures { result ≡ joint_actions_in text.now * states_in text.now * len }
+fn cells_in(text: &BoundedText, len: u32) -> usize
+    requires { len ≤ 256 }
+    ensures { result ≡ joint_actions_in text.now.text * states_in text.now.text * len }
 {
-    joint_actions(text) as usize * states(text) as usize * len as usize
+    text.joint_actions() as usize * text.states() as usize * len as usize
 }

@@ -1,17 +1,16 @@
 //! Which statements cover a row of a table of chances.
-ghost use Rattle.std.specs.Prelude.{◌≡◌, ◌<◌, ◌≤◌, [], ◌∷◌, None, get_or, map};
+ghost use Rattle.std.specs.Prelude.{◌≡◌, ◌<◌, ◌≤◌, [], ◌∷◌, get_or, map};
 ghost use Rattle.std.specs.List.{list_any, range_with_len};
 ghost use Rattle.dp_meaning.specs.Cells as cells;
 ghost use Rattle.dp_meaning.specs.Cells.{covers, statements_for};
-ghost use Rattle.dp_meaning.specs.Limits.{passed_limit};
-ghost use Rattle.dp_meaning.specs.Meaning.{IsSaid};
 ghost use Rattle.dp_meaning.specs.NameLists.{size_of};
 ghost use Rattle.dp_meaning.specs.Rows.{last_of_row, row_cells, statement_at};
 ghost use Rattle.dp_meaning.specs.Statements.{axes_of};
 ghost use Rattle.dp_tables.specs.Covering.{is_row_allowed};
 ghost use Rattle.dp_spec.specs.JointNumbers.{parts_of, product};
 
-use dp_meaning::{GivenList, Header, Part, Table, Text};
+use crate::BoundedText;
+use dp_meaning::{GivenList, Header, Part, Table};
 use dp_model::Sequence;
 use std::slice::from_ref;
 
@@ -97,12 +96,11 @@ pub(crate) struct RowNumber {
 
 /// Whether the fields of a statement allow the row, along its own two axes.
 #[tactic(auto, using(crate::proofs::CoveringLemmas::small_axes))]
-fn allow_row(text: &Text, fields: &[Sequence<Part>], row: RowNumber) -> bool
-    requires said { IsSaid text.now }
-    requires within { passed_limit text.now ≡ None }
-    ensures { result ≡ is_row_allowed text.now.header fields.now row.action row.state }
+fn allow_row(text: &BoundedText, fields: &[Sequence<Part>], row: RowNumber) -> bool
+    ensures { result ≡ is_row_allowed text.now.text.header fields.now row.action row.state }
 {
-    let header = &text.header;
+    text.invariant();
+    let header = text.header();
     allow(header.actions.as_slice(), field(fields, 0), row.action)
         && allow(from_ref(&header.states), field(fields, 1), row.state)
 }
@@ -110,33 +108,30 @@ fn allow_row(text: &Text, fields: &[Sequence<Part>], row: RowNumber) -> bool
 /// Whether the fields of a statement allow one of the first `len` cells of the row.
 #[tactic(auto, using(crate::proofs::CoveringLemmas::small_axes))]
 fn covers_row(
-    text: &Text,
+    text: &BoundedText,
     table: Table,
     fields: &[Sequence<Part>],
     row: RowNumber,
     len: u32,
 ) -> bool
-    requires said { IsSaid text.now }
-    requires within { passed_limit text.now ≡ None }
     ensures { let cells_of_row = row_cells (row.action ∷ row.state ∷ []) len in
-        result ≡ list_any (covers (axes_of text.now.header table) fields.now) cells_of_row }
+        result ≡ list_any (covers (axes_of text.now.text.header table) fields.now) cells_of_row }
 {
     if !allow_row(text, fields, row) {
         return false;
     }
-    allow_some(last_axis(&text.header, table), field(fields, 2), len)
+    text.invariant();
+    allow_some(last_axis(text.header(), table), field(fields, 2), len)
 }
 
 /// Where the last statement of a table begins that covers one of the first `len` cells of the row.
-pub(crate) fn last_of_row(text: &Text, table: Table, row: RowNumber, len: u32) -> Option<u32>
-    requires said { IsSaid text.now }
-    requires within { passed_limit text.now ≡ None }
-    ensures { let statements = statements_for table text.now.statements in
+pub(crate) fn last_of_row(text: &BoundedText, table: Table, row: RowNumber, len: u32) -> Option<u32>
+    ensures { let statements = statements_for table text.now.text.statements in
         let cells_of_row = row_cells (row.action ∷ row.state ∷ []) len in
-        result ≡ statement_at (last_of_row (axes_of text.now.header table) statements cells_of_row) }
+        result ≡ statement_at (last_of_row (axes_of text.now.text.header table) statements cells_of_row) }
 {
     let mut last = None;
-    for statement in text.statements.as_slice() {
+    for statement in text.statements() {
         if table.is_same(statement.table)
             && covers_row(text, table, statement.fields.as_slice(), row, len)
         {

@@ -3,7 +3,9 @@
 #![tactic(auto)]
 
 mod blocks;
+mod bounded;
 mod chance_table;
+mod chances;
 mod covering;
 mod limits;
 mod lists;
@@ -16,9 +18,6 @@ mod start;
 mod statements;
 mod writing;
 
-pub use chance_table::chances;
-pub use limits::scales_within_limits;
+pub use bounded::BoundedText;
+pub use chances::{ChancesOf, given_chances, repair_chances};
 pub use reward_table::rewards;
-pub use rows::{repair_observations, repair_transitions};
-pub use sizes::{joint_actions, joint_observations, states};
-pub use start::{repair_start, start_chances};

@@ -2,7 +2,7 @@
 ghost use Rattle.std.specs.Prelude.{◌≡◌, ◌≤◌, ◌^◌, IfOk, [], ◌∷◌, length};
 ghost use Rattle.std.specs.Result.{result_err};
 ghost use Rattle.dp_meaning.specs.Cells.{statements_for};
-ghost use Rattle.dp_model.specs.Limits.{first_passed, greatest_allowed, passed_by};
+ghost use Rattle.dp_model.specs.Limits.{first_passed, passed_by};
 ghost use Rattle.dp_meaning.specs.Limits.{passed_limit};
 ghost use Rattle.dp_meaning.specs.Meaning.{IsSaid};
 ghost use Rattle.dp_meaning.specs.Scales as spec;
@@ -11,58 +11,44 @@ ghost use Rattle.dp_tables.specs.Limits.{cell_limits, scale_limits, size_limits}
 ghost use Rattle.dp_tables.specs.Sizes.{AreSizesOf};
 
 use crate::scales::{discount_scale, gain, reward_scale, start_scale, table_scale};
-use crate::sizes::{JointSizes, first_product_past_most};
+use crate::sizes::{JointSizes, check_product, check_size};
 use crate::statements::count_of;
 use dp_meaning::{Table, Text};
 use dp_model::{Limit, TooLarge};
 use dp_spec::Scales;
 
-/// The scales of a text, or the first limit that it passes, with the count that passes it. The
-/// limits on sizes come first, then those on cells, on reward statements and on scales. It takes no
-/// memory.
-pub fn scales_within_limits(text: &Text) -> Result<Scales, TooLarge>
+/// The sizes and the scales of a text, or the first limit that it passes, with the count that
+/// passes it.
+pub(crate) fn bounds_of(text: &Text) -> Result<(JointSizes, Scales), TooLarge>
     requires { IsSaid text.now }
     ensures passed { passed_limit text.now ≡ result_err result }
-    ensures scales { IfOk result (λ scales. scales ≡ scales_of text.now) }
+    ensures sizes { IfOk result (λ bounds. AreSizesOf text.now bounds.0) }
+    ensures scales { IfOk result (λ bounds. bounds.1 ≡ scales_of text.now) }
 {
-    let sizes = sizes_within_limits(text)?;
+    let sizes = check_sizes(text)?;
     check_cells(sizes)?;
     check_reward_lines(text)?;
-    check_scales(text, sizes)
+    let scales = check_scales(text, sizes)?;
+    Ok((sizes, scales))
 }
 
 /// The sizes that a text gives, or the first limit on sizes that it passes.
-fn sizes_within_limits(text: &Text) -> Result<JointSizes, TooLarge>
+fn check_sizes(text: &Text) -> Result<JointSizes, TooLarge>
     ensures passed { first_passed (size_limits text.now) ≡ result_err result }
     ensures sizes { IfOk result (AreSizesOf text.now) }
 {
-    let agents = text.header.agents.size();
-    Limit::Agents.check(u128::from(agents))?;
-    let states = check_size(Limit::States, u64::from(text.header.states.size()))?;
-    let joint_actions = check_size(
-        Limit::JointActions,
-        first_product_past_most(text.header.actions.as_slice()),
-    )?;
-    let joint_observations = check_size(
+    Limit::Agents.check(u128::from(text.header.agents.size()))?;
+    let states = check_size(Limit::States, u128::from(text.header.states.size()))?;
+    let joint_actions = check_product(Limit::JointActions, text.header.actions.as_slice())?;
+    let joint_observations = check_product(
         Limit::JointObservations,
-        first_product_past_most(text.header.observations.as_slice()),
+        text.header.observations.as_slice(),
     )?;
     Ok(JointSizes {
         states,
         joint_actions,
         joint_observations,
     })
-}
-
-/// The size, where it is at most 256.
-fn check_size(what: Limit, size: u64) -> Result<u32, TooLarge>
-    requires { greatest_allowed what ≡ 256 }
-    ensures passed { result_err result ≡ passed_by what size }
-    ensures size { IfOk result (λ n. n ≡ size) }
-    ensures limit { IfOk result (λ n. n ≤ 256) }
-{
-    what.check(u128::from(size))?;
-    Ok(size as u32)
 }
 
 /// Tries the limits on the cells of the tables.

@@ -1,43 +1,34 @@
 //! The rewards, as the statements of a text give them.
-ghost use Rattle.std.specs.Prelude.{◌≡◌, ◌*◌, ◌^◌, ◌<◌, ◌≤◌, None, IfOk, OnOk, length, drop};
+ghost use Rattle.std.specs.Prelude.{◌≡◌, ◌*◌, ◌^◌, ◌<◌, ◌≤◌, IfOk, OnOk, length, drop};
 ghost use Rattle.dp_spec.specs.JointNumbers.{product};
-ghost use Rattle.dp_meaning.specs.Limits.{passed_limit};
-ghost use Rattle.dp_meaning.specs.Meaning.{IsSaid, rewards_of};
-ghost use Rattle.dp_meaning.specs.Scales.{scales_of};
+ghost use Rattle.dp_meaning.specs.Meaning.{rewards_of};
 ghost use Rattle.dp_meaning.specs.Text.{states_in, joint_actions_in, joint_observations_in};
 ghost use Rattle.dp_tables.specs.Blocks as blocks;
 ghost use Rattle.dp_tables.specs.Blocks.{IsRewardValue};
 ghost use Rattle.dp_tables.specs.Writing as spec;
 ghost use Rattle.dp_tables.specs.Writing.{ArePartsWithin, AreWritten};
 
+use crate::BoundedText;
 use crate::blocks::reward_block;
 use crate::lists::{list_parts, list_sizes};
-use crate::sizes::{joint_actions, joint_observations, states};
 use crate::writing::write_block;
 use dp_base::Memory;
-use dp_meaning::{Statement, Table, Text};
+use dp_meaning::{Statement, Table};
 use std::alloc::Global;
 
 /// The rewards over their scale, as the statements of the text give them: by joint action, state,
 /// next state and joint observation. Costs are negated.
-pub fn rewards(alloc: Global, text: &Text, scale: u64) -> Result<Vec<i64>, Memory>
-    requires said { IsSaid text.now }
-    requires within { passed_limit text.now ≡ None }
-    requires scale { scale ≡ (scales_of text.now).reward }
-    ensures { IfOk result (λ cells. cells.items ≡ rewards_of text.now) }
+pub fn rewards(alloc: Global, text: &BoundedText) -> Result<Vec<i64>, Memory>
+    ensures { IfOk result (λ cells. cells.items ≡ rewards_of text.now.text) }
 {
-    let sizes = list_sizes(alloc, &text.header, Table::Reward)?;
+    text.invariant();
+    let scale = text.scale(Table::Reward);
+    let header = text.header();
+    let sizes = list_sizes(alloc, header, Table::Reward)?;
     let mut cells = vec![in alloc; 0; reward_cells(text)]?;
-    for statement in text.statements.as_slice() {
+    for statement in text.statements() {
         if Table::Reward.is_same(statement.table) {
-            write_rewards(
-                alloc,
-                &mut cells,
-                &sizes,
-                text.header.cost,
-                scale,
-                statement,
-            )?;
+            write_rewards(alloc, &mut cells, &sizes, header.cost, scale, statement)?;
         }
     }
     Ok(cells)
@@ -69,11 +60,10 @@ fn write_rewards(
 }
 
 /// How many rewards a model has.
-fn reward_cells(text: &Text) -> usize
-    requires { passed_limit text.now ≡ None }
-    ensures { result
-        ≡ joint_actions_in text.now * states_in text.now * states_in text.now * joint_observations_in text.now }
+fn reward_cells(text: &BoundedText) -> usize
+    ensures { let states = states_in text.now.text in
+        result ≡ joint_actions_in text.now.text * states * states * joint_observations_in text.now.text }
 {
-    let states = states(text) as usize;
-    joint_actions(text) as usize * states * states * joint_observations(text) as usize
+    let states = text.states() as usize;
+    text.joint_actions() as usize * states * states * text.joint_observations() as usize
 }

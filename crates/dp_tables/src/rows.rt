@@ -1,33 +1,29 @@
 //! The rows of a table of chances, and what is wrong with them.
-ghost use Rattle.std.specs.Prelude.{◌≡◌, ◌*◌, ◌<◌, ◌≤◌, ◌∷◌, [], None, length, IfOk, ◌^◌};
+ghost use Rattle.std.specs.Prelude.{◌≡◌, ◌*◌, ◌<◌, ◌≤◌, ◌∷◌, [], IfOk, ◌^◌};
 ghost use Rattle.dp_spec.specs.JointNumbers.{parts_of};
 ghost use Rattle.dp_meaning.specs.Cells.{statements_for};
-ghost use Rattle.dp_meaning.specs.Limits.{passed_limit};
-ghost use Rattle.dp_meaning.specs.Meaning.{IsSaid};
-ghost use Rattle.dp_meaning.specs.Rows.{last_of_row, obs_rows, repair_all, row_cells, statement_at};
-ghost use Rattle.dp_meaning.specs.Rows.{table_rows, trans_rows};
-ghost use Rattle.dp_meaning.specs.Scales.{scales_of};
+ghost use Rattle.dp_meaning.specs.Rows.{last_of_row, repair_all, row_cells, statement_at, table_rows};
 ghost use Rattle.dp_meaning.specs.Statements.{axes_of};
-ghost use Rattle.dp_meaning.specs.Text.{joint_actions_in, joint_observations_in, states_in};
-ghost use Rattle.dp_tables.specs.Repair.{fault_of_row};
-ghost use Rattle.dp_tables.specs.Rows.{Repairs, given_cells};
+ghost use Rattle.dp_meaning.specs.Text.{joint_actions_in, states_in};
+ghost use Rattle.dp_tables.specs.Repair.{Repairs, fault_of_row};
+ghost use Rattle.dp_tables.specs.Tables.{given_cells, row_length, scale_in};
 
+use crate::BoundedText;
 use crate::covering::{RowNumber, last_of_row};
 use crate::repair::repair_rows;
-use crate::sizes::{joint_actions, joint_observations, states};
-use dp_meaning::{Fault, Table, Text, Why};
+use dp_meaning::{Fault, Table, Why};
 
 /// What is wrong with a row of this number that cannot be repaired: its sum, at the last statement
 /// that covers a cell of it, or else that it is missing, at the end of the text.
-fn fault_of_row(text: &Text, table: Table, row: u32, len: u32, end: u32) -> Fault
-    requires said { IsSaid text.now }
-    requires within { passed_limit text.now ≡ None }
-    requires row { row < joint_actions_in text.now * states_in text.now }
-    ensures { let cells = row_cells (parts_of (joint_actions_in text.now ∷ states_in text.now ∷ []) row) len in
-        let last = last_of_row (axes_of text.now.header table) (statements_for table text.now.statements) cells in
-        result ≡ fault_of_row end (statement_at last) }
+fn fault_of_row(text: &BoundedText, table: Table, row: u32, len: u32) -> Fault
+    requires { row < joint_actions_in text.now.text * states_in text.now.text }
+    ensures { let sizes = joint_actions_in text.now.text ∷ states_in text.now.text ∷ [] in
+        let statements = statements_for table text.now.text.statements in
+        let cells = row_cells (parts_of sizes row) len in
+        let last = last_of_row (axes_of text.now.text.header table) statements cells in
+        result ≡ fault_of_row text.now.end (statement_at last) }
 {
-    let states = states(text);
+    let states = text.states();
     let number = RowNumber {
         action: row / states,
         state: row % states,
@@ -38,75 +34,30 @@ fn fault_of_row(text: &Text, table: Table, row: u32, len: u32, end: u32) -> Faul
             why: Why::RowSum,
         },
         None => Fault {
-            at: end,
+            at: text.end(),
             why: Why::MissingRow,
         },
     }
 }
 
-/// Repairs the rows of `len` cells of a table.
-fn repair_table(
+/// Repairs the rows of a table in place, and answers how many were not right before; or else the
+/// fault of the first row that cannot be repaired.
+pub(crate) fn repair_table(
     cells: &mut [u64],
-    text: &Text,
+    text: &BoundedText,
     table: Table,
-    len: u32,
-    scale: u64,
-    end: u32,
 ) -> Result<u32, Fault>
-    requires said { IsSaid text.now }
-    requires within { passed_limit text.now ≡ None }
-    requires len { len ≤ 256 }
-    requires scale { 0 < scale }
-    requires given { cells.old ≡ given_cells text.now table scale len }
+    requires { let scale = scale_in text.now.text table in
+        cells.old ≡ given_cells text.now.text table scale (row_length text.now.text table) }
     ensures few { IfOk result (λ repaired. repaired ≤ 2 ^ 16) }
-    ensures is { Repairs (repair_all end (table_rows text.now table scale len)) cells.new result }
+    ensures is { let scale = scale_in text.now.text table in
+        let rows = table_rows text.now.text table scale (row_length text.now.text table) in
+        Repairs (repair_all text.now.end rows) cells.new result }
 {
-    let rows = joint_actions(text) * states(text);
-    match repair_rows(cells, rows, len, scale) {
+    let len = text.row_len(table);
+    let rows = text.joint_actions() * text.states();
+    match repair_rows(cells, rows, len, text.scale(table)) {
         Ok(repaired) => Ok(repaired),
-        Err(row) => Err(fault_of_row(text, table, row, len, end)),
+        Err(row) => Err(fault_of_row(text, table, row, len)),
     }
-}
-
-/// Repairs the rows of the transitions that the text gives, in place, and answers how many were not
-/// right before; or else the fault of the first row that cannot be repaired, with which the cells
-/// are of no use. `end` is the length of the file. It takes no memory.
-pub fn repair_transitions(
-    cells: &mut [u64],
-    text: &Text,
-    scale: u64,
-    end: u32,
-) -> Result<u32, Fault>
-    requires said { IsSaid text.now }
-    requires within { passed_limit text.now ≡ None }
-    requires scale { scale ≡ (scales_of text.now).trans }
-    requires given { cells.old ≡ given_cells text.now Table.Trans scale (states_in text.now) }
-    ensures few { IfOk result (λ repaired. repaired ≤ 2 ^ 16) }
-    ensures is { Repairs (repair_all end (trans_rows text.now)) cells.new result }
-{
-    repair_table(cells, text, Table::Trans, states(text), scale, end)
-}
-
-/// Repairs the rows of the observations, as `repair_transitions` does.
-pub fn repair_observations(
-    cells: &mut [u64],
-    text: &Text,
-    scale: u64,
-    end: u32,
-) -> Result<u32, Fault>
-    requires said { IsSaid text.now }
-    requires within { passed_limit text.now ≡ None }
-    requires scale { scale ≡ (scales_of text.now).obs }
-    requires given { cells.old ≡ given_cells text.now Table.Obs scale (joint_observations_in text.now) }
-    ensures few { IfOk result (λ repaired. repaired ≤ 2 ^ 16) }
-    ensures is { Repairs (repair_all end (obs_rows text.now)) cells.new result }
-{
-    repair_table(
-        cells,
-        text,
-        Table::Obs,
-        joint_observations(text),
-        scale,
-        end,
-    )
 }

@@ -1,37 +1,13 @@
-//! The sizes that the text of a model file gives.
-ghost use Rattle.std.specs.Prelude.{◌≡◌, ◌≤◌, None, map};
-ghost use Rattle.dp_meaning.specs.Limits.{passed_limit, product_past};
+//! The sizes that the text of a model file gives, within the limits on them.
+ghost use Rattle.std.specs.Prelude.{◌≡◌, ◌≤◌, ◌^◌, IfOk, map};
+ghost use Rattle.std.specs.Result.{result_err};
+ghost use Rattle.dp_model.specs.Limits.{first_passed, greatest_allowed, passed_by};
+ghost use Rattle.dp_meaning.specs.Limits.{product_past};
 ghost use Rattle.dp_meaning.specs.NameLists.{size_of};
-ghost use Rattle.dp_meaning.specs.Text.{joint_actions_in, joint_observations_in, states_in};
+ghost use Rattle.dp_meaning.specs.Statements.{axis_size};
 
-use dp_meaning::{GivenList, Text};
-
-/// How many states the text of a model within its limits gives.
-pub fn states(text: &Text) -> u32
-    requires within { passed_limit text.now ≡ None }
-    ensures is { result ≡ states_in text.now }
-    ensures limit { result ≤ 256 }
-{
-    text.header.states.size()
-}
-
-/// How many joint actions the text of a model within its limits gives.
-pub fn joint_actions(text: &Text) -> u32
-    requires within { passed_limit text.now ≡ None }
-    ensures is { result ≡ joint_actions_in text.now }
-    ensures limit { result ≤ 256 }
-{
-    first_product_past_most(text.header.actions.as_slice()) as u32
-}
-
-/// How many joint observations the text of a model within its limits gives.
-pub fn joint_observations(text: &Text) -> u32
-    requires within { passed_limit text.now ≡ None }
-    ensures is { result ≡ joint_observations_in text.now }
-    ensures limit { result ≤ 256 }
-{
-    first_product_past_most(text.header.observations.as_slice()) as u32
-}
+use dp_meaning::GivenList;
+use dp_model::{Limit, TooLarge};
 
 /// How many states, joint actions and joint observations a model has.
 #[derive(Clone, Copy)]
@@ -41,20 +17,40 @@ pub(crate) struct JointSizes {
     pub joint_observations: u32,
 }
 
-/// The greatest allowed number of joint actions, and of joint observations.
-const MOST: u64 = 256;
+/// The size, where it is within its limit.
+pub(crate) fn check_size(what: Limit, size: u128) -> Result<u32, TooLarge>
+    requires { greatest_allowed what ≡ 256 }
+    ensures passed { result_err result ≡ passed_by what size }
+    ensures size { IfOk result (λ n. n ≡ size) }
+    ensures limit { IfOk result (λ n. n ≤ 256) }
+{
+    what.check(size)?;
+    Ok(size as u32)
+}
 
-/// The first product of the sizes of agents 0, 1 and so on that is more than 256, or the product of
-/// all.
-pub(crate) fn first_product_past_most(lists: &[GivenList]) -> u64
-    ensures { result ≡ product_past 256 1 (map size_of lists.now) }
+/// The product of the sizes of all lists, where it is within its limit. The first product of the
+/// sizes of lists 0, 1 and so on that passes the limit is the count that passes it.
+pub(crate) fn check_product(what: Limit, lists: &[GivenList]) -> Result<u32, TooLarge>
+    requires { greatest_allowed what ≡ 256 }
+    ensures passed { result_err result ≡ passed_by what (product_past 256 1 (map size_of lists.now)) }
+    ensures size { IfOk result (λ n. n ≡ axis_size lists.now) }
+    ensures limit { IfOk result (λ n. n ≤ 256) }
+{
+    check_size(what, first_product_past(what.greatest_allowed(), lists))
+}
+
+/// The first product of the sizes of lists 0, 1 and so on that is more than `most`, or the product
+/// of all.
+fn first_product_past(most: u128, lists: &[GivenList]) -> u128
+    requires { most ≤ 2 ^ 32 }
+    ensures { result ≡ product_past most 1 (map size_of lists.now) }
 {
     let mut product = 1;
     for list in lists {
-        if product > MOST {
+        if product > most {
             return product;
         }
-        product *= u64::from(list.size());
+        product *= u128::from(list.size());
     }
     product
 }

@@ -1,31 +1,28 @@
 //! The row of the start.
-ghost use Rattle.std.specs.Prelude.{◌≡◌, ◌<◌, ◌≤◌, ◌∷◌, [], None, IfOk};
-ghost use Rattle.dp_meaning.specs.Limits.{passed_limit};
-ghost use Rattle.dp_meaning.specs.Meaning.{IsSaid};
+ghost use Rattle.std.specs.Prelude.{◌≡◌, ◌<◌, ◌≤◌, ◌∷◌, [], IfOk};
 ghost use Rattle.dp_meaning.specs.Rows as spec;
 ghost use Rattle.dp_meaning.specs.Rows.{repair_all, start_row};
-ghost use Rattle.dp_meaning.specs.Scales.{scales_of};
-ghost use Rattle.dp_tables.specs.Rows.{Repairs};
+ghost use Rattle.dp_tables.specs.Repair.{Repairs};
 ghost use Rattle.dp_tables.specs.Start.{IsChanceStart};
 
+use crate::BoundedText;
 use crate::blocks::chance_over;
 use crate::repair::repair_rows;
-use crate::sizes::states;
 use dp_base::Memory;
-use dp_meaning::{Fault, Start, Text, Why};
+use dp_meaning::{Fault, Start, Why};
 use std::alloc::Global;
 
-/// The chances to start in each state, as the text gives them over this scale.
-pub fn start_chances(alloc: Global, text: &Text, scale: u64) -> Result<Vec<u64>, Memory>
-    requires said { IsSaid text.now }
-    requires within { passed_limit text.now ≡ None }
-    requires scale { scale ≡ (scales_of text.now).start }
-    ensures { IfOk result (λ cells. cells.items ≡ (start_row text.now).cells) }
+/// The chances to start in each state, as the text gives them over their scale.
+pub(crate) fn start_chances(alloc: Global, text: &BoundedText) -> Result<Vec<u64>, Memory>
+    ensures { IfOk result (λ cells. cells.items ≡ (start_row text.now.text).cells) }
 {
-    let states = states(text);
+    text.invariant();
+    let scale = text.scales().start;
+    let states = text.states();
+    let start = &text.header().start;
     let mut cells = Vec::new(alloc);
     for state in 0..states {
-        cells.push(start_chance(scale, states, &text.header.start, state))?;
+        cells.push(start_chance(scale, states, start, state))?;
     }
     Ok(cells)
 }
@@ -57,19 +54,16 @@ fn offset_of_start(start: &Start) -> u32
 }
 
 /// Repairs the row of the start in place, and answers how often that was, 0 or 1; or else its
-/// fault, with which the cells are of no use. It takes no memory.
-pub fn repair_start(cells: &mut [u64], text: &Text, scale: u64, end: u32) -> Result<u32, Fault>
-    requires said { IsSaid text.now }
-    requires within { passed_limit text.now ≡ None }
-    requires scale { scale ≡ (scales_of text.now).start }
-    requires given { cells.old ≡ (start_row text.now).cells }
+/// fault.
+pub(crate) fn repair_start(cells: &mut [u64], text: &BoundedText) -> Result<u32, Fault>
+    requires { cells.old ≡ (start_row text.now.text).cells }
     ensures few { IfOk result (λ repaired. repaired ≤ 1) }
-    ensures is { Repairs (repair_all end (start_row text.now ∷ [])) cells.new result }
+    ensures is { Repairs (repair_all text.now.end (start_row text.now.text ∷ [])) cells.new result }
 {
-    match repair_rows(cells, 1, states(text), scale) {
+    match repair_rows(cells, 1, text.states(), text.scales().start) {
         Ok(repaired) => Ok(repaired),
         Err(_) => Err(Fault {
-            at: offset_of_start(&text.header.start),
+            at: offset_of_start(&text.header().start),
             why: Why::RowSum,
         }),
     }

@@ -1,6 +1,6 @@
 use Rattle.std.proofs.lemmas.Result.{err_from_is_err_and}
 use Rattle.dp_meaning.specs.Meaning.{meaning}
-use Rattle.dp_reader.proofs.ReadingLemmas.{lexer_fault, text_fault, told_same}
+use Rattle.dp_reader.proofs.ReadingLemmas.{lexer_fault, text_fault, same_answer}
 use Rattle.dp_reader.proofs.read.read.Goals as goal
 
 pub returns-in_err-tokens : goal.returns-in_err-tokens
@@ -11,5 +11,5 @@ returns-in_err-tokens c =
 
 pub returns : goal.returns
 returns c =
-    told_same c.args.bytes.now (meaning c.args.bytes.now) c.in-Err.fault c.told.result c.told.ensures
+    same_answer (meaning c.args.bytes.now) c.told.result _ c.told.ensures
     (text_fault c.args.bytes.now c.in-Err.fault c.in-Err.ensures)

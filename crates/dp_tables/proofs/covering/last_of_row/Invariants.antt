@@ -6,6 +6,6 @@ use Rattle.dp_tables.proofs.covering.last_of_row.Given as goal
 
 abbrev pub invariant-loop-statement : goal.invariant-loop-statement
 invariant-loop-statement l =
-    l.last ≡ statement_at (last_of_row (axes_of l.text.header l.table)
-    (statements_for l.table (take l.statement-index l.text.statements))
+    l.last ≡ statement_at (last_of_row (axes_of l.text.text.header l.table)
+    (statements_for l.table (take l.statement-index l.text.text.statements))
     (row_cells (l.row.action ∷ l.row.state ∷ []) l.len))

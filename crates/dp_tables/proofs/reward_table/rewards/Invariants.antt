@@ -5,5 +5,5 @@ use Rattle.dp_tables.proofs.RewardTables.{AreRewardsBy}
 use Rattle.dp_tables.proofs.reward_table.rewards.Given as goal
 
 abbrev pub invariant-loop-statement : goal.invariant-loop-statement
-invariant-loop-statement l = AreRewardsBy l.text l.scale
+invariant-loop-statement l = AreRewardsBy l.text.text l.scale
     (statements_for Reward (take l.statement-index l.statement-items)) l.cells.items
