@@ -1,4 +1,5 @@
 pub mod Growth
+pub mod LinkSums
 pub mod Modes
 pub mod RunningSums
 pub mod StepParts

@@ -103,7 +103,7 @@ module _ (A : Arithmetic) (C : Calls) (m : Model) (r : ℕ) (power : ℤ) (h : A
   -- its reward from that of the last step
   pub now_is : (x : ℤ) → x ≡ (state_reward A m 0 A.one a s).high
       → x *ℤ power ≡ (state_reward A m r A.one a s).high
-  now_is x e = rw e (sym (h.reward a s pa ps))
+  now_is x e = rw e (sym (h.reward.grows A.one a s))
 
   pub now_small : unsigned_abs (state_reward A m r A.one a s).high < 2 ^ 127
   unfolding state_reward table_reward_size

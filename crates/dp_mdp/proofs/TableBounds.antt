@@ -12,7 +12,7 @@ use Rattle.dp_base.proofs.Ring.{zle_trans}
 use Rattle.dp_laws.proofs.Modes.{model_arithmetic_sound}
 use Rattle.dp_laws.proofs.OneStep.{value_le_table}
 use Rattle.dp_laws.proofs.QuantityLaws.{mode_quantities}
-use Rattle.dp_mdp.specs.TableRows.{BoundsEachValue, IsTable, state_scale}
+use Rattle.dp_mdp.specs.TableRows.{BoundsEachValue, IsTable, KeptTable, state_scale}
 
 -- the computed table is at least each value
 value_le_computed : (e : Bool) (m : Model) → IsModel m → (r s : ℕ) (qs : List PolicyTree) → s < m.states
@@ -26,9 +26,9 @@ value_le_computed e m is r s qs state policy =
     zle_trans _ _ _ true_table ((model_arithmetic_sound m is e).reads (state_scale m r) (mdp_table m r s)
     _ above)
 
-pub table_bounds : (e : Bool) (m : Model) → IsModel m → (h : ℕ) (rows : List (List ℤ))
-    → IsTable (arithmetic e m.scales) m h rows → BoundsEachValue e m h rows
-table_bounds e m is h rows table r s qs steps state policy =
+pub table_bounds : (e : Bool) (m : Model) → IsModel m → (h : ℕ) (t : KeptTable)
+    → IsTable (arithmetic e m.scales) m h t → BoundsEachValue e m h t.rows
+table_bounds e m is h t table r s qs steps state policy =
     subst
     (λ (v : ℤ). (backward_value m r s qs *ℤ pos ((enclosure e).unit (state_scale m r)))
     ≤ℤ (v *ℤ pos (state_scale m r)))

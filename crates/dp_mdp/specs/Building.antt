@@ -1,5 +1,5 @@
 -- What building the table in an arithmetic needs of it.
-use Rattle.std.specs.Prelude.{ℕ, ◌+◌, ◌^◌, ◌<◌, ◌≡◌, ℤ, pos, ◌+ℤ◌, ◌*ℤ◌, List, [], length, get_or}
+use Rattle.std.specs.Prelude.{ℕ, ◌+◌, ◌^◌, ◌<◌, ◌≡◌, ℤ, pos, ◌+ℤ◌, ◌*ℤ◌, ◌≤ℤ◌, List, [], length, get_or}
 use Rattle.dp_spec.specs.declared.span.Span.{Span}
 use Rattle.dp_base.specs.Sums.{int_sum}
 use Rattle.dp_spec.specs.Model.{Model, joint_actions, trans_at}
@@ -37,6 +37,11 @@ pub record AreLastRewards (A : Arithmetic) (m : Model) (rows : List (List ℤ)) 
   pub one_each : length rows ≡ joint_actions m
   pub values : (a : ℕ) → a < joint_actions m → IsLastReward A m a (get_or rows a [])
 
+-- each reward where r steps are left after the step is p times that of the last step
+pub record IsPower (A : Arithmetic) (m : Model) (r : ℕ) (p : ℤ) : Type 0 where
+  pub some : pos 1 ≤ℤ p
+  pub grows : (w : Span) (a s : ℕ) → (state_reward A m r w a s).high ≡ (state_reward A m 0 w a s).high *ℤ p
+
 -- it can be computed
 pub record AllowsLastRewards (A : Arithmetic) (C : Calls) (m : Model) : Type 0 where
   pub zero : KeepsZero A
@@ -45,8 +50,7 @@ pub record AllowsLastRewards (A : Arithmetic) (C : Calls) (m : Model) : Type 0 w
 -- The row of r + 1 steps can be computed from that of r steps: a reward is so many times that of the last step.
 pub record AllowsRow (A : Arithmetic) (C : Calls) (m : Model) (r : ℕ) (power : ℤ) : Type 0 where
   pub zero : KeepsZero A
-  pub reward : (a s : ℕ) → a < joint_actions m → s < m.states
-      → (state_reward A m r A.one a s).high ≡ (state_reward A m 0 A.one a s).high *ℤ power
+  pub reward : IsPower A m r power
   pub carry : (a s t : ℕ) → a < joint_actions m → s < m.states → t < m.states
       → C.Carry (mdp_table_in A m r t) (trans_at m a s t)
   pub add : (a s : ℕ) → a < joint_actions m → s < m.states

@@ -1,3 +1,4 @@
 pub mod Building
+pub mod Links
 pub mod StepRewards
 pub mod TableRows

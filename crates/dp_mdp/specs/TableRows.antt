@@ -7,6 +7,8 @@ use Rattle.dp_spec.specs.Value.{backward_value}
 use Rattle.dp_spec.specs.Arithmetic.{Arithmetic}
 use Rattle.dp_spec.specs.Enclosure.{enclosure}
 use Rattle.dp_spec.specs.Quantities.{mdp_table_in}
+use Rattle.dp_mdp.specs.Building.{AreLastRewards, IsPower}
+use Rattle.dp_mdp.specs.Links.{AreLinksOf, LinkLists}
 
 -- the value over r steps from state s
 abbrev pub value_at : List (List ℤ) → ℕ → ℕ → ℤ
@@ -17,10 +19,23 @@ pub record IsRow (A : Arithmetic) (m : Model) (r : ℕ) (row : List ℤ) : Type 
   pub one_each : length row ≡ m.states
   pub values : (s : ℕ) → s < m.states → get_or row s (pos 0) ≡ mdp_table_in A m r s
 
+-- The rows of values; for each joint action the reward of the last step from each state; for each number of steps
+-- that are left after a step what its rewards are, as a multiple of those of the last step; and which states follow
+-- which.
+pub record KeptTable : Type 0 where
+  pub rows : List (List ℤ)
+  pub rewards : List (List ℤ)
+  pub powers : List ℤ
+  pub links : LinkLists
+
 -- the table up to a horizon of h steps
-pub record IsTable (A : Arithmetic) (m : Model) (h : ℕ) (rows : List (List ℤ)) : Type 0 where
-  pub long : h < length rows
-  pub each : (r : ℕ) → r ≤ h → IsRow A m r (get_or rows r [])
+pub record IsTable (A : Arithmetic) (m : Model) (h : ℕ) (t : KeptTable) : Type 0 where
+  pub long : h < length t.rows
+  pub each : (r : ℕ) → r ≤ h → IsRow A m r (get_or t.rows r [])
+  pub rewards : AreLastRewards A m t.rewards
+  pub as_many : h ≤ length t.powers
+  pub powers : (r : ℕ) → r < h → IsPower A m r (get_or t.powers r (pos 0))
+  pub links : AreLinksOf m t.links
 
 -- what values over r steps from one state are counted in
 abbrev pub state_scale : Model → ℕ → ℕ

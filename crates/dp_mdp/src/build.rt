@@ -1,11 +1,11 @@
 // The rows of the table, from the last step on.
-ghost use Rattle.std.specs.Prelude.{◌≡◌, ◌<◌, [], pos, suc, length, get_or, IfOk};
+ghost use Rattle.std.specs.Prelude.{◌≡◌, ◌<◌, ◌≤◌, ◌^◌, ℕ, [], pos, suc, length, get_or, IfOk};
 ghost use Rattle.dp_spec.specs.Model.{joint_actions, trans_at};
 ghost use Rattle.dp_spec.specs.Quantities.{mdp_table_in};
-ghost use Rattle.dp_mdp.specs.Building.{AllowsLastRewards, AllowsRow, AreLastRewards, IsLastReward, IsTabulating};
+ghost use Rattle.dp_mdp.specs.Building.{AllowsLastRewards, AllowsRow, AreLastRewards, IsLastReward};
 ghost use Rattle.dp_mdp.specs.Building.{action_value, later_value};
 ghost use Rattle.dp_mdp.specs.StepRewards.{state_reward};
-ghost use Rattle.dp_mdp.specs.TableRows.{IsRow, IsTable};
+ghost use Rattle.dp_mdp.specs.TableRows.{IsRow};
 
 use crate::state_reward;
 use dp_base::Memory;
@@ -13,34 +13,63 @@ use dp_model::{Model, Sequence};
 use dp_num::Arith;
 use std::alloc::Global;
 
-/// The rows of the table up to a horizon. Of each joint action and state the reward is summed once,
-/// and multiplied by `step` for each step that is left after this one.
+/// The rows of the table up to a horizon, from the rewards of the last step, and what they are
+/// multiplied by where more steps are left.
 pub fn rows_in<A: Arith>(
     alloc: Global,
     arith: &A,
     model: &Model,
+    rewards: &[Sequence<i128>],
+    powers: &[i128],
     horizon: u32,
-    step: u128,
 ) -> Result<Vec<Sequence<i128>>, Memory>
-    requires some { 0 < horizon }
-    requires sizes { IsTabulating (A.operations arith.now) (A.calls arith.now) model.now.model horizon step }
-    ensures { IfOk result (λ rows. IsTable (A.operations arith.now) model.now.model horizon rows.items) }
+    requires rewards { AreLastRewards (A.operations arith.now) model.now.model rewards.now }
+    requires as_many { length powers.now ≡ horizon }
+    requires sizes { (r : ℕ) → r < horizon → AllowsRow (A.operations arith.now) (A.calls arith.now)
+        model.now.model r (get_or powers.now r (pos 0)) }
+    ensures long { IfOk result (λ rows. length rows.items ≡ suc horizon) }
+    ensures each { IfOk result (λ rows. (r : ℕ) → r ≤ horizon →
+        IsRow (A.operations arith.now) model.now.model r (get_or rows.items r [])) }
 {
-    let rewards = last_rewards(alloc, arith, model)?;
     let mut rows = Vec::new(alloc);
     rows.push(Sequence::of(vec![in alloc; 0; model.states() as usize]?))?;
-    let mut power: u128 = 1;
     for rest in 0..horizon {
         let row = rows[rest as usize].as_slice();
-        let next = next_row(alloc, arith, model, &rewards, row, rest, power as i128)?;
+        let power = power_at(powers, rest);
+        let next = next_row(alloc, arith, model, rewards, row, rest, power)?;
         rows.push(next)?;
-        power *= step;
     }
     Ok(rows)
 }
 
-// The reward of the last step, for each joint action and state.
-fn last_rewards<A: Arith>(
+// What the rewards of the last step are multiplied by where `rest` steps are left.
+#[inline]
+fn power_at(powers: &[i128], rest: u32) -> i128
+    requires { rest < length powers.now }
+    ensures { result ≡ get_or powers.now rest (pos 0) }
+{
+    powers[rest as usize]
+}
+
+/// The powers of `step`, from that of 0 up to that before `horizon`.
+pub fn powers_of(alloc: Global, step: u128, horizon: u32) -> Result<Vec<i128>, Memory>
+    requires some { 0 < step }
+    requires small { step ^ horizon < 2 ^ 127 }
+    ensures as_many { IfOk result (λ powers. length powers.items ≡ horizon) }
+    ensures powers { IfOk result (λ powers. (r : ℕ) → r < horizon →
+        get_or powers.items r (pos 0) ≡ pos (step ^ r)) }
+{
+    let mut powers = Vec::new(alloc);
+    let mut power: u128 = 1;
+    for _steps in 0..horizon {
+        powers.push(power as i128)?;
+        power *= step;
+    }
+    Ok(powers)
+}
+
+/// The reward of the last step, for each joint action and state.
+pub fn last_rewards<A: Arith>(
     alloc: Global,
     arith: &A,
     model: &Model,

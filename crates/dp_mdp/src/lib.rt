@@ -2,6 +2,7 @@
 #![tactic(auto)]
 
 mod build;
+mod links;
 mod step_reward;
 mod table;
 

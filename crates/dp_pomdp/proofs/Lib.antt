@@ -1,4 +1,7 @@
 pub mod Cuts
+pub mod KeyPlaces
+pub mod KeyRows
+pub mod KeyTables
 pub mod Modes
 pub mod Multiples
 pub mod PushedRows
@@ -8,3 +11,4 @@ pub mod Scaled
 pub mod Sound
 pub mod Steps
 pub mod TimesRows
+pub mod WeighedRewards

@@ -13,8 +13,9 @@ use Rattle.dp_laws.proofs.SizeLaws.{arithmetic_is_exact, mode_can_look_ahead, mo
 use Rattle.dp_laws.proofs.SizeLaws.{mode_can_reward}
 use Rattle.dp_laws.proofs.ScaledWeights.{scaled_spans_action_look_ahead, scaled_spans_look_ahead}
 use Rattle.dp_laws.proofs.Zeros.{mode_keeps_zero}
-use Rattle.dp_mdp.specs.TableRows.{IsTable}
-use Rattle.dp_pomdp.specs.Looking.{IsLooking, ScalesActions, ScalesLook, weights_of}
+use Rattle.dp_mdp.specs.TableRows.{IsTable, KeptTable}
+use Rattle.dp_pomdp.specs.Looking.{IsLooking, ScalesActions, ScalesLook, WeighsRewards, weights_of}
+use Rattle.dp_pomdp.proofs.WeighedRewards.{exact_weighs}
 use Rattle.dp_pomdp.specs.Memos.{AreKept, KeptLook, look_of}
 
 -- the look-ahead of the exact arithmetic scales with the weights
@@ -26,6 +27,12 @@ mode_scales true m is c same exact =
       λ r look k a w ws vs here scaled. scaled_spans_action_look_ahead m is r look k a w ws vs here scaled,
     )
 mode_scales false m is c same exact = absurd (true≢false (sym exact ∙ arithmetic_is_exact false c))
+
+-- in the exact arithmetic a weight earns so many times what the weight 1 earns
+mode_weighs : (e : Bool) (m : Model) (c : Scales) → (arithmetic e c).is_exact ≡ true
+    → WeighsRewards (arithmetic e c) m
+mode_weighs true m c exact = exact_weighs m c
+mode_weighs false m c exact = absurd (true≢false (sym exact ∙ arithmetic_is_exact false c))
 
 -- The arithmetic of the mode of a true fit, made of the scales c, in the branch of a test of x where it is e:
 -- weights of time t can be looked ahead from over the r steps that are left.
@@ -40,6 +47,7 @@ mode_looking e x c m is same branch h t r u fit early left ws one_each are =
     record {
       zero = mode_keeps_zero e c;
       scales = λ exact. mode_scales e m is c same exact;
+      weighs = λ exact. mode_weighs e m c exact;
       horizon = h;
       push = subst (λ (c : Scales). CanUpdateWeights (arithmetic e c) (calls_in e c) m h) (sym same)
           (mode_can_update_weights m is h some most e mode);
@@ -56,13 +64,17 @@ mode_looking e x c m is same branch h t r u fit early left ws one_each are =
 
 -- the table of at most the horizon's steps
 pub mode_table : (e x : Bool) (c : Scales) (m : Model) → c ≡ m.scales → x ≡ e → (h r : ℕ) → r ≤ h
-    → (rows : List (List ℤ)) → IsTable (arithmetic x m.scales) m h rows → IsTable (arithmetic e c) m r rows
+    → (rows : KeptTable) → IsTable (arithmetic x m.scales) m h rows → IsTable (arithmetic e c) m r rows
 mode_table e x c m same branch h r le rows table =
     let here = subst (λ (b : Bool). IsTable (arithmetic b m.scales) m h rows) branch table in
     let is = subst (λ (c : Scales). IsTable (arithmetic e c) m h rows) (sym same) here in
     record {
       long = let long = is.long in omega arith;
       each = λ q below. is.each q (omega arith);
+      rewards = is.rewards;
+      as_many = let many = is.as_many in omega arith;
+      powers = λ q lt. is.powers q (omega arith);
+      links = is.links;
     }
 
 -- what is kept in the arithmetic of a branch is kept in that of the mode

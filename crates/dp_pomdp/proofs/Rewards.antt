@@ -33,12 +33,12 @@ none_earned A keeps m r w a s none =
     none_gained A keeps w (trans_at m a s t) (obs_at m a t o) (reward_at m a s t o) r none))
 
 -- the magnitudes of its parts
-abbrev parts_from : Arithmetic → Model → ℕ → List Span → ℕ → ℕ → ℕ
+abbrev pub parts_from : Arithmetic → Model → ℕ → List Span → ℕ → ℕ → ℕ
 parts_from A m r ws a s =
     nat_sum m.states (λ t. nat_sum (joint_observations m) (λ o. size
     (reward_part A m r (weights_of ws s) a s t o)))
 
-from_state : (A : Arithmetic) (m : Model) (r : ℕ) (ws : List Span) (a s : ℕ)
+pub from_state : (A : Arithmetic) (m : Model) (r : ℕ) (ws : List Span) (a s : ℕ)
     → size (reward_from A m r ws a s) ≤ parts_from A m r ws a s
 unfolding state_reward
 from_state A m r ws a s =
@@ -66,7 +66,8 @@ module _ (A : Arithmetic) (C : Calls) (m : Model) (r : ℕ) (ws : List Span) (is
       so_far ∙ sym (ap (span_add (span_sum k (reward_from A m r ws a))) none ∙ span_add_none _)
 
   -- all parts together
-  parts_fit : reward_size A m r (weights_of ws) a < 2 ^ 127
+  pub parts_fit : nat_sum m.states (parts_from A m r ws a) < 2 ^ 127
+  unfolding reward_size
   parts_fit = is.reward.add is.time r (weights_of ws) a is.left is.weights pa
 
   -- the reward from a state can be computed

@@ -76,6 +76,7 @@ module _ (k : ℕ) (us ws : List Span) (times : AreTimes k us ws) where
   looking_times A C m r is = record {
     zero = is.zero;
     scales = is.scales;
+    weighs = is.weighs;
     horizon = is.horizon;
     push = is.push;
     reward = is.reward;

@@ -17,7 +17,7 @@ use Rattle.dp_spec.specs.SizesOfLookAhead.{next_look_size, weighted_table_size}
 use Rattle.dp_laws.proofs.SizeSums.{abs_add, int_sum_part, reward_size_le}
 use Rattle.dp_pomdp.specs.Looking.{AreZero, IsLooking, weights_of}
 use Rattle.dp_laws.proofs.EqualWeights.{look_ahead_in_ext, weights_same}
-use Rattle.dp_mdp.specs.TableRows.{IsTable}
+use Rattle.dp_mdp.specs.TableRows.{IsTable, KeptTable}
 use Rattle.dp_spec.specs.Zeros.{nothing}
 use Rattle.dp_pomdp.proofs.Cuts.{no_look, none}
 use Rattle.dp_pomdp.proofs.Pushes.{no_weight}
@@ -54,16 +54,20 @@ pub looking_now : (A : Arithmetic) (C : Calls) (m : Model) (r rest : ℕ) (ws : 
     → IsLooking A C m rest ws → IsLooking A C m (suc r) ws
 looking_now A C m r rest ws e is = subst (λ (n : ℕ). IsLooking A C m n ws) e is
 
-pub table_now : (A : Arithmetic) (m : Model) (r rest : ℕ) (rows : List (List ℤ)) → rest ≡ suc r
+pub table_now : (A : Arithmetic) (m : Model) (r rest : ℕ) (rows : KeptTable) → rest ≡ suc r
     → IsTable A m rest rows → IsTable A m (suc r) rows
 table_now A m r rest rows e is = subst (λ (n : ℕ). IsTable A m n rows) e is
 
 -- the table of fewer steps
-pub table_before : (A : Arithmetic) (m : Model) (r : ℕ) (rows : List (List ℤ)) → IsTable A m (suc r) rows
+pub table_before : (A : Arithmetic) (m : Model) (r : ℕ) (rows : KeptTable) → IsTable A m (suc r) rows
     → IsTable A m r rows
 table_before A m r rows table = record {
   long = let long = table.long in omega arith;
   each = λ q le. table.each q (omega arith);
+  rewards = table.rewards;
+  as_many = let many = table.as_many in omega arith;
+  powers = λ q lt. table.powers q (omega arith);
+  links = table.links;
 }
 
 -- the room of the deeper steps
@@ -83,6 +87,7 @@ pub looking_next : (A : Arithmetic) (C : Calls) (m : Model) (r : ℕ) (ws next :
 looking_next A C m r ws next a o is pa po len same = record {
   zero = is.zero;
   scales = is.scales;
+  weighs = is.weighs;
   horizon = is.horizon;
   push = is.push;
   reward = is.reward;

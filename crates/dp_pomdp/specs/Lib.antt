@@ -1,4 +1,5 @@
 pub mod Bounding
+pub mod Keys
 pub mod Looking
 pub mod Memos
 pub mod Multiples

@@ -1,13 +1,15 @@
 -- Weights held in a list, and that an arithmetic can go on from them.
-use Rattle.std.specs.Prelude.{ℕ, ◌+◌, ◌*◌, ◌≡◌, ◌<◌, true, List, length, pos, ◌*ℤ◌, slice_index_or, suc}
+use Rattle.std.specs.Prelude.{ℕ, ◌+◌, ◌*◌, ◌≡◌, ◌<◌, true, List, length, ℤ, pos, ◌*ℤ◌, get_or}
+use Rattle.std.specs.Prelude.{slice_index_or, suc}
 use Rattle.dp_spec.specs.declared.span.Span.{Span}
 use Rattle.dp_spec.specs.Model.{Model, obs_at, trans_at}
 use Rattle.dp_spec.specs.Arithmetic.{Arithmetic, point}
 use Rattle.dp_spec.specs.Calls.{Calls}
-use Rattle.dp_spec.specs.Quantities.{action_look_ahead_in, look_ahead_in, span_sum}
+use Rattle.dp_spec.specs.Quantities.{action_look_ahead_in, look_ahead_in}
 use Rattle.dp_spec.specs.Sizes.{AreWeights, CanUpdateWeights, CanReward}
 use Rattle.dp_spec.specs.SizesOfLookAhead.{CanLookAhead}
 use Rattle.dp_spec.specs.Zeros.{KeepsZero}
+use Rattle.dp_mdp.specs.StepRewards.{state_reward}
 
 -- the weight of each state
 abbrev pub weights_of : List Span → ℕ → Span
@@ -27,10 +29,16 @@ ScalesActions A m =
     → ((s : ℕ) → s < m.states → vs s ≡ point (pos (k * w s)))
     → action_look_ahead_in A m r vs a look ≡ pos k *ℤ action_look_ahead_in A m r ws a look
 
+-- and w earns w times what the weight 1 earns in the last step
+abbrev pub WeighsRewards : Arithmetic → Model → Type 0
+WeighsRewards A m =
+    (w : Span) (a s : ℕ) → (state_reward A m 0 w a s).high ≡ w.high *ℤ (state_reward A m 0 A.one a s).high
+
 -- they are weights of the time at which r steps are left, for which the arithmetic can look ahead
 pub record IsLooking (A : Arithmetic) (C : Calls) (m : Model) (r : ℕ) (ws : List Span) : Type 0 where
   pub zero : KeepsZero A
   pub scales : A.is_exact ≡ true → ScalesLook A m × ScalesActions A m
+  pub weighs : A.is_exact ≡ true → WeighsRewards A m
   pub horizon : ℕ
   pub push : CanUpdateWeights A C m horizon
   pub reward : CanReward A C m horizon
@@ -52,7 +60,6 @@ AreZero ws = (s : ℕ) → s < length ws → (slice_index_or ws s (point (pos 0)
 abbrev pub updated_part : Arithmetic → Model → List Span → ℕ → ℕ → ℕ → ℕ → Span
 updated_part A m ws a o t s = A.later (A.chance (weights_of ws s) (trans_at m a s t) (obs_at m a t o))
 
--- next weights as far as they come from the first k states
-pub record IsPushed (A : Arithmetic) (m : Model) (ws : List Span) (a o k : ℕ) (next : List Span) : Type 0 where
-  pub one_each : length next ≡ m.states
-  pub sums : (t : ℕ) → t < m.states → weights_of next t ≡ span_sum k (updated_part A m ws a o t)
+-- the weight of state s times its reward
+abbrev pub weighed_part : List ℤ → List Span → ℕ → ℤ
+weighed_part rewards ws s = (weights_of ws s).high *ℤ get_or rewards s (pos 0)

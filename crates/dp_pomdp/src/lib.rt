@@ -2,6 +2,8 @@
 #![tactic(auto)]
 
 mod bounds;
+mod key_rows;
+mod keys;
 mod memo;
 mod recursion;
 mod reduce;
@@ -9,4 +11,5 @@ mod rows;
 mod step;
 
 pub use bounds::{LookRoom, action_bound, tail_bound};
+pub use keys::PomdpTable;
 pub use step::all_zero;

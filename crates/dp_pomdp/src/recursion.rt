@@ -147,10 +147,10 @@ pub fn action_look_ahead<A: Arith>(
     ensures room { length room.new ≡ length room.old }
     ensures memo { AreKept (look_of (A.operations arith.now) model.now.model) memo.new }
 {
-    let mut total = reward_now(arith, model, rest, weights, action);
+    let mut total = reward_now(arith, model, table, exact, rest, weights, action);
     let (next, deeper) = room.split_at_mut(model.states() as usize);
     for seen in 0..model.joint_observations() {
-        push_weights(arith, model, weights, action, seen, next);
+        push_weights(arith, model, table, weights, action, seen, next);
         let factor = reduced(exact, look, next);
         let value = look_ahead(
             arith,

@@ -23,7 +23,7 @@ look_ahead-returns-then-rest-eq0-clause-is g t c =
     elim c.then-rest-eq0.branch [
       | look_ahead-then-rest-eq0-via-then-rest-eq0 w ↦ no_step _ _ _ _ _ w.if-rest-eq0.true
       | look_ahead-then-rest-eq0-via-else-rest-eq0+then-all_zero w ↦ zero_look _ _ _ _ _ c.requires.sizes
-          (w.all_zero.ensures w.if-all_zero.true) c.args.look
+          (w.all_zero.ensures.yes w.if-all_zero.true) c.args.look
     ]
 
 pub look_ahead-returns-clause-memo : goal.look_ahead-returns-clause-memo

@@ -4,7 +4,7 @@ use Rattle.std.proofs.lemmas.Int.{to_z-of_z}
 use mir.Val.{SFits}
 use Rattle.dp_spec.specs.Quantities.{action_look_ahead_in}
 use Rattle.dp_pomdp.specs.Looking.{weights_of}
-use Rattle.dp_pomdp.proofs.PushedRows.{next_after}
+use Rattle.dp_base.proofs.MadeLists.{next_after}
 use Rattle.dp_pomdp.proofs.recursion.push_looks.Goals as goal
 
 pub loop-action-preserved : goal.loop-action-preserved

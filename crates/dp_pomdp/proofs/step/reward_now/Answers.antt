@@ -1,44 +1,41 @@
-use Rattle.std.proofs.Common.{◌≡◌, ◌<◌, add-one, ◌∙◌, arith, rules}
+use Rattle.std.proofs.Common.{ℕ, ℤ, ◌<◌, ◌≤◌, ◌^◌, List, length, unsigned_abs, sym, subst, ◌∙◌, arith, rules}
 use Rattle.std.specs.Int.{w128}
-use Rattle.std.proofs.lemmas.Int.{ints, to_z-of_z}
+use Rattle.std.proofs.lemmas.Int.{to_z-of_z}
 use mir.Val.{SFits}
-use Rattle.dp_pomdp.proofs.Rewards.{one_more_reward, reward_allowed, reward_room, rewards_are_all, skip_reward}
+use Rattle.dp_base.specs.Sums.{int_sum}
+use Rattle.dp_pomdp.specs.Looking.{weighed_part}
+use Rattle.dp_pomdp.proofs.WeighedRewards.{part_fits, read_fits, read_is, sum_fits, weighed_is, whole_fits}
 use Rattle.dp_pomdp.proofs.step.reward_now.Goals as goal
-use Rattle.dp_pomdp.proofs.step.reward_now.Goals.{then-weight-ne0, else-weight-ne0}
 
-pub state_reward-requires-clause-sizes : goal.state_reward-requires-clause-sizes
-state_reward-requires-clause-sizes g c =
-    let inside : c.loop-state.state < c.args.model.now.model.states = omega arith in
-    reward_allowed _ _ _ _ _ c.requires.sizes _ c.requires.action c.loop-state.state inside
+pub weighed-requires-clause-parts : goal.weighed-requires-clause-parts
+weighed-requires-clause-parts g c =
+    subst (λ (l : List ℤ). (s : ℕ) → s < length l → unsigned_abs (weighed_part l c.args.weights.now s) < 2 ^ 127)
+    (sym c.rewards.ensures)
+    (part_fits _ _ _ _ _ c.requires.sizes _ c.requires.action (sym c.requires.mode ∙ c.if-exact.true) _
+    c.requires.table)
 
-pub add_spans-total-requires : goal.add_spans-total-requires
-add_spans-total-requires g c =
-    let inside : c.loop-state.state < c.args.model.now.model.states = omega arith in
-    record {
-      room =
-          reward_room _ _ _ _ _ c.requires.sizes _ c.requires.action c.loop-state.state _ _ inside
-          c.loop-state.invariant c.state_reward.ensures;
-    }
+pub weighed-requires-clause-sums : goal.weighed-requires-clause-sums
+weighed-requires-clause-sums g c =
+    subst (λ (l : List ℤ). (k : ℕ) → k ≤ length l
+    → unsigned_abs (int_sum k (weighed_part l c.args.weights.now)) < 2 ^ 127) (sym c.rewards.ensures)
+    (sum_fits _ _ _ _ _ c.requires.sizes _ c.requires.action (sym c.requires.mode ∙ c.if-exact.true) _
+    c.requires.table)
 
-pub loop-state-preserved : goal.loop-state-preserved
-loop-state-preserved g c =
-    let inside : c.loop-state.state < c.args.model.now.model.states = omega arith in
-    elim c.if-weight-ne0.branch [
-      | then-weight-ne0 w ↦
-          rw add-one
-          (w.total-is ∙ w.add_spans-total.ensures
-          ∙ one_more_reward _ _ _ _ _ c.loop-state.state _ _ c.loop-state.invariant w.state_reward.ensures)
-      | else-weight-ne0 w ↦
-          rw add-one
-          (w.total-is
-          ∙ skip_reward _ _ _ _ _ c.requires.sizes _ c.requires.action c.loop-state.state _ inside
-          (search (arith, ints, w.if-weight-ne0.false)) c.loop-state.invariant)
-    ]
+pub weighed-requires-clause-whole : goal.weighed-requires-clause-whole
+weighed-requires-clause-whole g c =
+    let fits : SFits w128 c.power.result = search rules in
+    read_fits c.args.weights.now _ _ _ _ c.rewards.ensures (to_z-of_z w128 _ fits ∙ c.power.ensures)
+    (whole_fits _ _ _ _ _ c.requires.sizes _ c.requires.action (sym c.requires.mode ∙ c.if-exact.true) _
+    c.requires.table _ (le_refl _))
+  where
+    le_refl : (n : ℕ) → n ≤ n
+    le_refl n = omega arith
 
-pub returns : goal.returns
-returns g c =
-    let all : c.loop-state.state ≡ c.args.model.now.model.states = omega arith in
-    let fits : SFits w128 c.loop-state.total.high = search rules in
-    to_z-of_z w128 _ fits
-    ∙ rewards_are_all _ _ _ _ _ c.requires.sizes _ c.requires.action c.loop-state.state _ all
-    c.loop-state.invariant
+pub returns-then-exact : goal.returns-then-exact
+returns-then-exact g c =
+    let fits : SFits w128 c.power.result = search rules in
+    let fits-result : SFits w128 c.weighed.result = search rules in
+    weighed_is _ _ _ _ _ c.requires.sizes _ c.requires.action (sym c.requires.mode ∙ c.if-exact.true) _
+    c.requires.table _
+    (read_is c.args.weights.now _ _ _ _ _ c.rewards.ensures (to_z-of_z w128 _ fits ∙ c.power.ensures)
+    (to_z-of_z w128 _ fits-result ∙ c.weighed.ensures))

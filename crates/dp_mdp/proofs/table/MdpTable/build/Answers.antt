@@ -24,8 +24,8 @@ of-requires c = record {
       (scales_in_range c.args.model.now.model.scales c.invariant.ensures.model.scales);
 }
 
-pub rows_in-requires-clause-sizes : goal.rows_in-requires-clause-sizes
-rows_in-requires-clause-sizes c =
+pub table_in-requires-clause-sizes : goal.table_in-requires-clause-sizes
+table_in-requires-clause-sizes c =
     let is = step_is c.args.model.now.model _ _ _ _ c.scales-scales.ensures c.from.ensures
     c.from-then-fit.ensures
     c.from-then-fit-2.ensures in
@@ -39,8 +39,8 @@ of-requires-else-fit c = record {
       (scales_in_range c.args.model.now.model.scales c.invariant.ensures.model.scales);
 }
 
-pub rows_in-requires-else-fit-clause-sizes : goal.rows_in-requires-else-fit-clause-sizes
-rows_in-requires-else-fit-clause-sizes c =
+pub table_in-requires-else-fit-clause-sizes : goal.table_in-requires-else-fit-clause-sizes
+table_in-requires-else-fit-clause-sizes c =
     let whole = outward_tabulating c.args.model.now.model c.invariant.ensures.model c.args.fit.horizon
     c.requires.fit.horizon.0 c.requires.fit.horizon.1 (sym c.if-fit.false ∙ c.requires.fit.mode) in
     rw (c.of-else-fit.ensures, c.scales-scales.ensures) whole
@@ -48,6 +48,6 @@ rows_in-requires-else-fit-clause-sizes c =
 pub returns-clause-sound : goal.returns-clause-sound
 returns-clause-sound c =
     let m = c.args.model.now.model in
-    let table : IsTable (arithmetic c.args.fit.exact m.scales) m c.args.fit.horizon c.of-2.result =
+    let table : IsTable (arithmetic c.args.fit.exact m.scales) m c.args.fit.horizon c.if-fit.table =
     search rules in
-    table_bounds c.args.fit.exact m c.invariant.ensures.model c.args.fit.horizon c.of-2.result table
+    table_bounds c.args.fit.exact m c.invariant.ensures.model c.args.fit.horizon c.if-fit.table table

@@ -1,7 +1,7 @@
 use Rattle.std.proofs.Common.{◌≡◌}
 use Rattle.dp_spec.specs.Quantities.{span_sum}
 use Rattle.dp_pomdp.proofs.Rewards.{reward_from}
-use Rattle.dp_pomdp.proofs.step.reward_now.Given as goal
+use Rattle.dp_pomdp.proofs.step.summed_reward.Given as goal
 
 abbrev pub invariant-loop-state : goal.invariant-loop-state
 invariant-loop-state g l =
