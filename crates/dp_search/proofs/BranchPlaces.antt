@@ -1,5 +1,5 @@
 -- The places of a front are its unassigned classes.
-use Rattle.std.proofs.Common.{◌≡◌, inl, inr, ℕ, zero, suc, ◌<◌, ◌≤◌, false, List, [], ◌∷◌, map, All, length, get_or}
+use Rattle.std.proofs.Common.{◌≡◌, inl, inr, ℕ, zero, suc, ◌<◌, ◌≤◌, Bool, true, false, List, [], ◌∷◌, map, All, length, get_or}
 use Rattle.std.proofs.Common.{Option, None, Some, length-append, refl, sym, ap, subst, ◌∙◌, arith}
 use Rattle.std.specs.Prelude.{slice_get, option_map}
 use Rattle.std.specs.Fn.{FnReturnsAt, Shared}
@@ -18,7 +18,7 @@ use Rattle.dp_spec.specs.Steps.{IsUnassigned, is_complete}
 use Rattle.dp_cluster.proofs.FrontParts.{unassigned_in}
 use Rattle.dp_cluster.proofs.MergeFaults.{unassigned_none}
 use Rattle.dp_search.specs.declared.place.Place as told
-use Rattle.dp_search.specs.Rules.{MayAnswer, place_of}
+use Rattle.dp_search.specs.Rules.{KeptChooser, MayAnswer, place_of, told_places, without_spread}
 use Rattle.dp_search.specs.FrontPlaces.{agent_places_of, place_at, places_below}
 use Rattle.dp_search.proofs.PlaceLists.{agent_more, choice_of, count_of, place_more, place_skipped, unassigned}
 use Rattle.dp_search.proofs.UnfinishedFronts.{incomplete_has_one}
@@ -119,29 +119,56 @@ module _ (A : Arithmetic) (m : Model) (h look : ℕ) (F : Front) where
 
 -- ---- the places as they are told to a rule
 
-module _ (A : Arithmetic) (m : Model) (h look : ℕ) (F : Front) (all : List told.Place)
-    (are : map place_of all ≡ places_of A m h look F) where
+-- there are as many
+told_length : (s : Bool) (ps : List Place) → length (told_places s ps) ≡ length ps
+told_length true ps = refl
+told_length false ps = length-map ps without_spread
+
+-- what is told at a number is of the place there
+told_at : (s : Bool) (ps : List Place) (x : ℕ) (q : Place) → slice_get (told_places s ps) x ≡ Some q
+    → (p : Place) × (slice_get ps x ≡ Some p) × (p.agent ≡ q.agent) × (p.class ≡ q.class)
+told_at true ps x q e = (q, e, refl, refl)
+told_at false ps x q e = by (slice_get ps x) refl (sym (slice_get-map without_spread ps x) ∙ e)
+  where
+    by : (o : Option Place) → slice_get ps x ≡ o → option_map without_spread o ≡ Some q
+        → (p : Place) × (slice_get ps x ≡ Some p) × (p.agent ≡ q.agent) × (p.class ≡ q.class)
+    by (Some p) is e =
+        let there : without_spread p ≡ q = cc in
+        (p, is, ap (λ (r : Place). r.agent) there, ap (λ (r : Place). r.class) there)
+    by None is e = cc
+
+module _ (A : Arithmetic) (m : Model) (h look : ℕ) (F : Front) (s : Bool) (all : List told.Place)
+    (are : map place_of all ≡ told_places s (places_of A m h look F)) where
   as_many : length all ≡ length (places_of A m h look F)
-  as_many = sym (length-map all place_of) ∙ ap (λ l. length l) are
+  as_many = sym (length-map all place_of) ∙ ap (λ l. length l) are ∙ told_length s (places_of A m h look F)
 
   pub some_told : is_complete F.agents ≡ false → 0 < length all
   some_told e = omega (arith, some_place A m h look F e, as_many)
 
   module _ (x : ℕ) (p d : told.Place) (lt : x < length all) (at : p ≡ get_or all x d) where
-    answered : slice_get (places_of A m h look F) x ≡ Some (place_of p)
+    answered : slice_get (told_places s (places_of A m h look F)) x ≡ Some (place_of p)
     answered =
         ap (λ l. slice_get l x) (sym are) ∙ slice_get-map place_of all x
         ∙ ap (option_map place_of) (slice_get-get_or all x d lt ∙ ap (λ q. Some q) (sym at))
 
+    -- the place that is answered
+    own : (q : Place) × (slice_get (places_of A m h look F) x ≡ Some q) × (q.agent ≡ p.agent)
+        × (q.class ≡ p.class)
+    own = told_at s (places_of A m h look F) x (place_of p) answered
+
     pub place_free : IsUnassigned p.agent p.class F.agents
     place_free =
-        let here = get_or_from_slice_get (places_of A m h look F) x (place_of p) (place_of p) answered in
+        let q = own.0 in
+        let here = get_or_from_slice_get (places_of A m h look F) x q q own.1 in
         let within : x < length (places_of A m h look F) = omega (arith, lt, as_many) in
-        subst (IsFree A m h look F) here
-        (All-get_or (IsFree A m h look F) (places_of A m h look F) x (place_of p) within
-        (places_free A m h look F))
+        let free = subst (IsFree A m h look F) here
+        (All-get_or (IsFree A m h look F) (places_of A m h look F) x q within (places_free A m h look F)) in
+        subst (λ c. IsUnassigned p.agent c F.agents) own.3
+        (subst (λ i. IsUnassigned i q.class F.agents) own.2 free)
 
-    pub place_picked : {C : Type 0} (g : Shared C (Bor (List told.Place) × Unit {0}) ℕ) (rule : C)
-        → FnReturnsAt g rule all x
-        → IsPicked (MayAnswer g rule) (places_of A m h look F) p.agent p.class
-    place_picked g rule answer = (x, (all, are, answer), (place_of p, answered, refl, refl))
+    pub place_picked : {C : Type 0} (g : Shared C (Bor (List told.Place) × Unit {0}) ℕ) (chooser : KeptChooser C)
+        → chooser.spreads ≡ s → FnReturnsAt g chooser.rule all x
+        → IsPicked (MayAnswer g chooser) (places_of A m h look F) p.agent p.class
+    place_picked g chooser same answer =
+        let told = subst (λ t. map place_of all ≡ told_places t (places_of A m h look F)) (sym same) are in
+        (x, (all, told, answer), own)

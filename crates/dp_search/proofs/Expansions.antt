@@ -32,7 +32,9 @@ use Rattle.dp_cluster.specs.KeptFronts.{IsFrontOf, KeptFront}
 use Rattle.dp_search.specs.declared.options.PlanOpts.{PlanOpts}
 use Rattle.dp_search.specs.declared.planner.Child.{Child}
 use Rattle.dp_search.specs.declared.planner.Expanded.{Expanded}
-use Rattle.dp_search.specs.Expansions.{IsChild, IsExpansion, mode_bound}
+use Rattle.dp_search.specs.declared.held_front.HeldFront.{HeldFront}
+use Rattle.dp_search.specs.Expansions.{IsChild, mode_bound}
+use Rattle.dp_search.specs.HeldFronts.{IsExpansion, IsHeldChild, front_meant}
 use Rattle.dp_search.specs.FrontPlanners.{IsPlannerFront, planner_space, widest}
 use Rattle.dp_search.proofs.PlaceLists.{below_more}
 use Rattle.dp_search.proofs.UnfinishedFronts.{after_choice_unfinished, merged_unfinished, same_stage_chosen}
@@ -145,21 +147,21 @@ module _ (m : Model) (h : ℕ) (opts : PlanOpts) (k : KeptFront) (is : IsPlanner
       ap (λ (n : ℕ). places_of (arithmetic k.is_exact m.scales) m n look k.front) is.horizon
       ∙ ap (λ e. places_of (arithmetic e m.scales) m h look k.front) same_mode
 
-  module _ (May : List Place → ℕ → Type 0) (x : Expanded KeptFront) (s : Step) (step : x.step ≡ s)
-      (fronts : map (λ (c : Child KeptFront). c.front.front) x.children.items ≡ fronts_after m k.front s)
-      (children : All (IsChild m h opts.look) x.children.items) where
+  module _ (May : List Place → ℕ → Type 0) (x : Expanded HeldFront) (s : Step) (step : x.step ≡ s)
+      (fronts : map (λ (c : Child HeldFront). front_meant m c.front) x.children.items ≡ fronts_after m k.front s)
+      (children : All (IsHeldChild m h opts.look opts.merge) x.children.items) where
     abbrev S : Space
     S = planner_space m (fit_of m h) opts May
 
     as_many : length x.children.items ≡ length (fronts_after m k.front s)
-    as_many = sym (length-map x.children.items (λ (c : Child KeptFront). c.front.front))
+    as_many = sym (length-map x.children.items (λ (c : Child HeldFront). front_meant m c.front))
         ∙ ap (λ l. length l) fronts
 
     expands : IsAllowed A m h opts.look opts.merge May k.front s → HasChildren s (length x.children.items)
-        → length x.children.items ≤ widest m.actions → IsExpansion S m h (widest m.actions) k.front x
+        → length x.children.items ≤ widest m.actions
+        → IsExpansion S m h opts.look (widest m.actions) opts.merge k.front x
     expands allowed some few = record {
-      of_planner = λ j d lt. (children j d lt).of_planner;
-      unfinished = λ j d lt. (children j d lt).unfinished;
+      of_planner = λ j d lt. (children j d lt).held;
       allowed = subst (S.May k.front) (sym step) allowed;
       fronts = fronts ∙ ap (S.next k.front) (sym step);
       bounds = λ j d lt. (children j d lt).bound;
@@ -167,13 +169,13 @@ module _ (m : Model) (h : ℕ) (opts : PlanOpts) (k : KeptFront) (is : IsPlanner
       few = few;
     }
 
-  pub branch_expands : (May : List Place → ℕ → Type 0) (x : Expanded KeptFront) (i c : ℕ)
+  pub branch_expands : (May : List Place → ℕ → Type 0) (x : Expanded HeldFront) (i c : ℕ)
       → x.step ≡ Branch i c
-      → map (λ (c : Child KeptFront). c.front.front) x.children.items ≡ fronts_after m k.front (Branch i c)
-      → All (IsChild m h opts.look) x.children.items → IsUnassigned i c k.front.agents
+      → map (λ (c : Child HeldFront). front_meant m c.front) x.children.items ≡ fronts_after m k.front (Branch i c)
+      → All (IsHeldChild m h opts.look opts.merge) x.children.items → IsUnassigned i c k.front.agents
       → IsPicked May (places_of A m h opts.look k.front) i c
-      → (opts.merge ≡ true → k.is_exact ≡ true → HasNoEquivalent m k.front)
-      → IsExpansion (planner_space m (fit_of m h) opts May) m h (widest m.actions) k.front x
+      → (opts.merge ≡ true → is_exact_mode m h ≡ true → HasNoEquivalent m k.front)
+      → IsExpansion (planner_space m (fit_of m h) opts May) m h opts.look (widest m.actions) opts.merge k.front x
   branch_expands May x i c step fronts children free picked no_pair =
       let many = as_many May x (Branch i c) step fronts children in
       let own = length-map-range_with_len (front_after_choice m k.front i c) 0 (get_or m.actions i 0) in
@@ -182,17 +184,17 @@ module _ (m : Model) (h : ℕ) (opts : PlanOpts) (k : KeptFront) (is : IsPlanner
       expands May x (Branch i c) step fronts children (
         lt,
         free,
-        (λ merging exact. no_pair merging (same_mode ∙ mode_of (is_exact_mode m h) m.scales exact)),
+        (λ merging exact. no_pair merging (mode_of (is_exact_mode m h) m.scales exact)),
         picked,
       )
       (omega (arith, many, own, some)) (omega (arith, many, own, few))
 
-  pub merge_expands : (May : List Place → ℕ → Type 0) (x : Expanded KeptFront) (i a b : ℕ)
+  pub merge_expands : (May : List Place → ℕ → Type 0) (x : Expanded HeldFront) (i a b : ℕ)
       → x.step ≡ Merge i a b
-      → map (λ (c : Child KeptFront). c.front.front) x.children.items ≡ merged_front k.front i a b ∷ []
-      → All (IsChild m h opts.look) x.children.items → IsPair m k.front i a b → k.is_exact ≡ true
+      → map (λ (c : Child HeldFront). front_meant m c.front) x.children.items ≡ merged_front k.front i a b ∷ []
+      → All (IsHeldChild m h opts.look opts.merge) x.children.items → IsPair m k.front i a b → k.is_exact ≡ true
       → opts.merge ≡ true
-      → IsExpansion (planner_space m (fit_of m h) opts May) m h (widest m.actions) k.front x
+      → IsExpansion (planner_space m (fit_of m h) opts May) m h opts.look (widest m.actions) opts.merge k.front x
   merge_expands May x i a b step fronts children pair exact merging =
       let one = as_many May x (Merge i a b) step fronts children in
       let some = some_action m k.horizon k.front i a is.of_model.model is.of_model.front pair.first in

@@ -12,6 +12,8 @@ pub mod VersionPolicies
 pub mod UnfinishedFronts
 pub mod BranchPlaces
 pub mod Expansions
+pub mod MergedBounds
+pub mod HeldFronts
 pub mod PlannerFronts
 pub mod PlannedCertificates
 pub mod UnderwayFronts

@@ -1,7 +1,7 @@
 -- The places of a front in their list, class after class and agent after agent.
 use Rattle.std.proofs.Common.{◌≡◌, ℕ, zero, suc, ◌+◌, ◌^◌, ◌<◌, ◌≤◌, Bool, true, false, List, [], ◌∷◌, ◌++◌, map}
 use Rattle.std.proofs.Common.{length, get_or, add-one, append_assoc, length-append, true≢false, Option, None, Some}
-use Rattle.std.proofs.Common.{refl, sym, ap, ◌∙◌, arith}
+use Rattle.std.proofs.Common.{ℤ, refl, sym, ap, ◌∙◌, arith}
 use Rattle.std.specs.Prelude.{filter, is_none, is_some}
 use Rattle.std.specs.List.{flat_map, range_with_len}
 use Rattle.std.proofs.lemmas.Grind.{flat_map-append}
@@ -22,8 +22,8 @@ use Rattle.dp_game.specs.Games.{IsGameOf, KeptGame, own_choice}
 use Rattle.dp_game.proofs.OwnChoices.{as_many_choices, choices_of}
 use Rattle.dp_spec.specs.Qualities as qualities
 use Rattle.dp_search.specs.declared.place.Place.{Place}
-use Rattle.dp_search.specs.Rules.{place_of}
-use Rattle.dp_search.specs.FrontPlaces.{agent_places_of, place_at, places_below}
+use Rattle.dp_search.specs.Rules.{place_of, told_place, told_places, without_spread}
+use Rattle.dp_search.specs.FrontPlaces.{agent_places_of, place_at, places_below, spread_told}
 
 -- ---- lists of numbers
 
@@ -138,27 +138,55 @@ count_small m k is stored early i lt =
     let n = as_many_counts k.front.agents in
     let le = factor_le counts i some (omega arith) in omega arith
 
+-- ---- places as they are told
+
+pub told_none : (s : Bool) → told_places s [] ≡ []
+told_none true = refl
+told_none false = refl
+
+pub told_append : (s : Bool) (ps qs : List qualities.Place)
+    → told_places s (ps ++ qs) ≡ told_places s ps ++ told_places s qs
+told_append true ps qs = refl
+told_append false ps qs = map-append without_spread ps qs
+
+told_more : (s : Bool) (ps : List qualities.Place) (p : qualities.Place)
+    → told_places s (ps ++ p ∷ []) ≡ told_places s ps ++ told_place s p ∷ []
+told_more true ps p = refl
+told_more false ps p = map-append without_spread ps (p ∷ [])
+
+-- the place of a class, with its spread as it is told
+abbrev pub place_with : ℕ → ℕ → ℤ → ℤ → qualities.Place
+place_with i c w x = record { agent = i; class = c; weight = w; spread = x }
+
+pub told_is : (s : Bool) (i c : ℕ) (w x y : ℤ) → x ≡ spread_told s y
+    → place_with i c w x ≡ told_place s (place_with i c w y)
+told_is true i c w x y e = ap (place_with i c w) e
+told_is false i c w x y e = ap (place_with i c w) e
+
 -- ---- one class further
 
-module _ (A : Arithmetic) (m : Model) (h look : ℕ) (F : Front) (i c : ℕ) (lt : i < length F.agents)
+module _ (A : Arithmetic) (m : Model) (h look : ℕ) (F : Front) (s : Bool) (i c : ℕ) (lt : i < length F.agents)
     (pre : List qualities.Place) (all : List Place)
-    (before : map place_of all ≡ pre ++ places_below A m h look F i c) where
+    (before : map place_of all ≡ pre ++ told_places s (places_below A m h look F i c)) where
   pub class_pushed : (new : Place) (all' : List Place) → choice_at F.agents i c ≡ None
-      → place_of new ≡ place_at A m h look F i c → all' ≡ all ++ new ∷ []
-      → map place_of all' ≡ pre ++ places_below A m h look F i (c + 1)
+      → place_of new ≡ told_place s (place_at A m h look F i c) → all' ≡ all ++ new ∷ []
+      → map place_of all' ≡ pre ++ told_places s (places_below A m h look F i (c + 1))
   class_pushed new all' none same pushed =
       ap (map place_of) pushed ∙ map-append place_of all (new ∷ [])
       ∙ (λ j. before j ++ same j ∷ [])
-      ∙ append_assoc pre (places_below A m h look F i c) (place_at A m h look F i c ∷ [])
-      ∙ ap (λ l. pre ++ l) (sym (place_more A m h look F i c (sym (choice_of F.agents i c lt) ∙ none)))
-      ∙ ap (λ n. pre ++ places_below A m h look F i n) (sym (add-one c))
+      ∙ append_assoc pre (told_places s (places_below A m h look F i c))
+      (told_place s (place_at A m h look F i c) ∷ [])
+      ∙ ap (λ l. pre ++ l) (sym (told_more s (places_below A m h look F i c) (place_at A m h look F i c)))
+      ∙ ap (λ l. pre ++ told_places s l)
+      (sym (place_more A m h look F i c (sym (choice_of F.agents i c lt) ∙ none)))
+      ∙ ap (λ n. pre ++ told_places s (places_below A m h look F i n)) (sym (add-one c))
 
   pub class_skipped : (a : ℕ) → choice_at F.agents i c ≡ Some a
-      → map place_of all ≡ pre ++ places_below A m h look F i (c + 1)
+      → map place_of all ≡ pre ++ told_places s (places_below A m h look F i (c + 1))
   class_skipped a some =
-      before ∙ ap (λ l. pre ++ l) (sym (place_skipped A m h look F i c a
+      before ∙ ap (λ l. pre ++ told_places s l) (sym (place_skipped A m h look F i c a
       (sym (choice_of F.agents i c lt) ∙ some)))
-      ∙ ap (λ n. pre ++ places_below A m h look F i n) (sym (add-one c))
+      ∙ ap (λ n. pre ++ told_places s (places_below A m h look F i n)) (sym (add-one c))
 
 pub one_longer : (all all' : List Place) (new : Place) → all' ≡ all ++ new ∷ [] → length all' ≡ length all + 1
 one_longer all all' new e = ap (λ l. length l) e ∙ length-append all (new ∷ [])

@@ -3,17 +3,16 @@ use Rattle.std.proofs.Common.{◌≡◌, ◌⊎◌, inl, inr, ℕ, zero, suc, �
 use Rattle.std.proofs.Common.{List, [], ◌∷◌, length, get_or, Option, Some, refl, sym, ap, subst, ◌∙◌, arith}
 use Rattle.std.specs.Prelude.{nat_lt}
 use Rattle.std.proofs.lemmas.Bool.Decides.{nat_tests}
-use Rattle.std.proofs.Math.ListN.{length-set}
-use Rattle.dp_spec.specs.Front.{AgentFront, Front, class_counts}
+use Rattle.dp_spec.specs.Front.{Front, class_counts}
 use Rattle.dp_spec.specs.JointNumbers.{product}
 use Rattle.dp_spec.specs.Merge.{merged_front}
 use Rattle.dp_spec.specs.Model.{Model}
 use Rattle.dp_spec.specs.Pairs.{IsPair}
-use Rattle.dp_spec.specs.Steps.{IsUnassigned, chosen_front, front_after_choice, is_complete, with_choice}
+use Rattle.dp_spec.specs.Steps.{IsUnassigned, chosen_front, front_after_choice, is_complete}
 use Rattle.dp_spec.specs.WellFormed.{IsFront}
-use Rattle.dp_spec.specs.Wide.{has_room, is_room, is_wide, next_class_counts, unassigned_count, widens}
+use Rattle.dp_spec.specs.Wide.{has_room, is_room, is_wide, unassigned_count, widens}
 use Rattle.dp_laws.proofs.ChosenFronts.{counts_chosen}
-use Rattle.dp_laws.proofs.FrontRoom.{merging_keeps_room}
+use Rattle.dp_laws.proofs.FrontRoom.{choice_next_counts, merging_keeps_room}
 use Rattle.dp_laws.proofs.TreeDepth.{choice_assigns_one, merge_joins_one}
 use Rattle.dp_cluster.specs.KeptFronts.{IsFrontOf, KeptFront}
 use Rattle.dp_cluster.proofs.FrontParts.{as_many_counts}
@@ -38,13 +37,6 @@ unfolding is_wide
 narrow_is m h F none = rw none (nothing_wide (nat_lt F.stage h) (eqb (unassigned_count F.agents) 1))
 
 -- a choice keeps how many classes come after an advance
-choice_next_counts : (i c a : ℕ) (ns : List ℕ) (ds : List AgentFront)
-    → next_class_counts ns (with_choice i c a ds) ≡ next_class_counts ns ds
-choice_next_counts i c a [] ds = refl
-choice_next_counts i c a (n ∷ ns) [] = refl
-choice_next_counts zero c a (n ∷ ns) (d ∷ ds) = rw (length-set d.chosen c (Some a)) refl
-choice_next_counts (suc i) c a (n ∷ ns) (d ∷ ds) = rw (choice_next_counts i c a ns ds) refl
-
 pub choice_widens : (m : Model) (h : ℕ) (F : Front) (i c a : ℕ)
     → widens m h (chosen_front F i c a) ≡ widens m h F
 unfolding widens

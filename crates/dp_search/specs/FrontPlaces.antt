@@ -1,5 +1,5 @@
 -- The places of a front, agent by agent, and their weights as the front keeps them. (Own.)
-use Rattle.std.specs.Prelude.{ℕ, ◌==◌, cond, ℤ, pos, unsigned_abs, List, map, filter, length, get_or, None, is_none}
+use Rattle.std.specs.Prelude.{ℕ, ◌==◌, Bool, cond, ℤ, pos, unsigned_abs, List, map, filter, length, get_or, None, is_none}
 use Rattle.std.specs.List.{range_with_len}
 use Rattle.dp_base.specs.Sums.{int_sum, nat_sum}
 use Rattle.dp_spec.specs.Arithmetic.{Arithmetic}
@@ -20,6 +20,10 @@ upper_size k C = nat_sum k.states (λ s. unsigned_abs (kept_weight k C s).high)
 abbrev pub kept_upper_weight : KeptFront → ℕ → ℕ → ℕ → ℤ
 kept_upper_weight k i c n =
     int_sum n (λ C. cond (get_or (parts_of (class_counts k.front.agents) C) i 0 == c) (kept_upper k C) (pos 0))
+
+-- a spread as it is told, if spreads are
+abbrev pub spread_told : Bool → ℤ → ℤ
+spread_told spreads x = cond spreads x (pos 0)
 
 -- the place of class c of agent i
 abbrev pub place_at : Arithmetic → Model → ℕ → ℕ → Front → ℕ → ℕ → Place

@@ -9,4 +9,5 @@ pub mod Toy
 pub mod GreatestLeaves
 pub mod FrontPlaces
 pub mod Expansions
+pub mod HeldFronts
 pub mod Completions

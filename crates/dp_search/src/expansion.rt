@@ -1,9 +1,10 @@
 //! The step that is made at a front, with the fronts after it and their bounds.
-ghost use Rattle.std.specs.Prelude.{◌≡◌, ◌<◌, ◌∷◌, [], ℕ, true, false, All, None, length, map, get_or, slice_index};
-ghost use Rattle.std.specs.Prelude.{IfOk, IfSome, OnOk};
+ghost use Rattle.std.specs.Prelude.{◌≡◌, ◌<◌, ◌∷◌, [], ℕ, Bool, true, false, All, None, length, map, get_or};
+ghost use Rattle.std.specs.Prelude.{IfOk, IfSome, OnOk, slice_index};
 ghost use Rattle.std.specs.List.{range_with_len};
 ghost use Rattle.dp_spec.specs.Front.{Front as PlainFront};
 ghost use Rattle.dp_spec.specs.Merge.{merged_front};
+ghost use Rattle.dp_spec.specs.Mode.{is_exact_mode};
 ghost use Rattle.dp_spec.specs.Model.{Model as PlainModel};
 ghost use Rattle.dp_spec.specs.Pairs.{IsPair};
 ghost use Rattle.dp_spec.specs.Qualities.{HasNoEquivalent};
@@ -11,19 +12,24 @@ ghost use Rattle.dp_spec.specs.Steps.{IsUnassigned, chosen_front, front_after_ch
 ghost use Rattle.dp_spec.specs.Wide.{is_wide};
 ghost use Rattle.dp_spec.specs.declared.step.Step.TheVariants.{Merge};
 ghost use Rattle.dp_model.specs.Horizons.{fit_of};
-ghost use Rattle.dp_cluster.specs.KeptFronts.{IsFrontOf, KeptFront};
+ghost use Rattle.dp_cluster.specs.KeptFronts.{IsFrontOf};
 ghost use Rattle.dp_pomdp.specs.Rooms.{IsRoomFor};
 ghost use Rattle.dp_game.specs.Bounders.{IsBounderOf};
 ghost use Rattle.dp_game.specs.Games.{IsGameOf, own_choice};
 ghost use Rattle.dp_search.specs.declared.planner.Child.{Child as SpecChild};
 ghost use Rattle.dp_search.specs.Completions.{bound_after};
-ghost use Rattle.dp_search.specs.Expansions.{IsChild, IsExpansion, mode_bound};
+ghost use Rattle.dp_search.specs.Expansions.{IsChild, mode_bound};
 ghost use Rattle.dp_search.specs.FrontPlanners.{IsPlannerFront, planner_space, widest};
+ghost use Rattle.dp_search.specs.FrontPlanning.{IsSearchFront};
+ghost use Rattle.dp_search.specs.HeldFronts.{IsExpansion, IsHeldChild, IsHeldFront, front_meant};
+ghost use Rattle.dp_search.specs.declared.held_front.HeldFront.{HeldFront as SpecHeld};
 ghost use Rattle.dp_search.specs.Rules.{IsBranchingRule, MayAnswer};
 
 use crate::bounding::{after_choice, own_bound};
 use crate::chooser::Chooser;
-use crate::front_places::places;
+use crate::front_places::told_places;
+use crate::held_front::{Choice, HeldFront};
+use crate::look::copied;
 use crate::options::PlanOpts;
 use crate::place::Place;
 use crate::planner::{Child, Expanded};
@@ -34,6 +40,7 @@ use dp_model::Model;
 use dp_pomdp::LookRoom;
 use dp_spec::Step;
 use std::alloc::Global;
+use std::rc::Rc;
 
 /// Two classes of an agent that can be merged.
 #[derive(Clone, Copy)]
@@ -43,8 +50,8 @@ pub(crate) struct Pair {
     pub second: u32,
 }
 
-/// The step that is made at a front before the horizon that is not wide, with the fronts after it and
-/// their bounds. Where classes are merged and two of an agent can be, it merges the least pair of the
+/// The step that is made at a held front before the horizon that is not wide, with the fronts after it
+/// and their bounds. Where classes are merged and two of an agent can be, it merges the least pair of the
 /// first such agent; else it branches on the place that the rule answers. The only error is want of
 /// memory.
 pub(crate) fn expanded<F: Fn(&[Place]) -> usize>(
@@ -53,27 +60,93 @@ pub(crate) fn expanded<F: Fn(&[Place]) -> usize>(
     bounder: &Bounder,
     options: PlanOpts,
     rule: &Chooser<F>,
-    front: &Front,
+    held: &HeldFront,
     room: &mut LookRoom,
-) -> Result<Expanded<Front>, Memory>
+) -> Result<Expanded<HeldFront>, Memory>
     requires bounder { IsBounderOf model.now.model bounder.now }
     requires look { bounder.now.look ≡ options.look }
-    requires front { IsPlannerFront model.now.model bounder.now.horizon front.now }
-    requires stage { front.now.front.stage < bounder.now.horizon }
-    requires unfinished { is_complete front.now.front.agents ≡ false }
+    requires held { IsHeldFront model.now.model bounder.now.horizon options.look options.merge held.now }
+    requires stage { (front_meant model.now.model held.now).stage < bounder.now.horizon }
     requires narrow { (above : ℕ) ×
-        (is_wide model.now.model bounder.now.horizon above front.now.front ≡ false) }
-    requires rule { IsBranchingRule F.Fn rule.now }
+        (is_wide model.now.model bounder.now.horizon above (front_meant model.now.model held.now) ≡ false) }
+    requires rule { IsBranchingRule F.Fn rule.now.rule }
     requires look_room { IsRoomFor bounder.now.is_exact model.now.model bounder.now.look room.old }
     ensures is { IfOk result (IsExpansion
         (planner_space model.now.model (fit_of model.now.model bounder.now.horizon) options
         (MayAnswer F.Fn rule.now))
-        model.now.model bounder.now.horizon (widest model.now.model.actions) front.now.front) }
+        model.now.model bounder.now.horizon options.look (widest model.now.model.actions) options.merge
+        (front_meant model.now.model held.now)) }
     ensures look_room { IsRoomFor bounder.now.is_exact model.now.model bounder.now.look room.new }
 {
-    match pair_to_merge(alloc, front, options.merge)? {
-        Some(pair) => merged(alloc, model, bounder, front, pair, room),
-        None => branched(alloc, model, bounder, options, rule, front, room),
+    let made = held.front(alloc, model)?;
+    let front = made.as_ref();
+    let settled = held.is_settled(front);
+    let bound = copied(&held.bound);
+    expanded_at(
+        alloc, model, bounder, options, rule, &made, settled, bound, room,
+    )
+}
+
+// The same at a front that was made, with its bound. `settled` says that no two of its classes can be merged.
+fn expanded_at<F: Fn(&[Place]) -> usize>(
+    alloc: Global,
+    model: &Model,
+    bounder: &Bounder,
+    options: PlanOpts,
+    rule: &Chooser<F>,
+    made: &Rc<Front>,
+    settled: bool,
+    bound: i128,
+    room: &mut LookRoom,
+) -> Result<Expanded<HeldFront>, Memory>
+    requires bounder { IsBounderOf model.now.model bounder.now }
+    requires look { bounder.now.look ≡ options.look }
+    requires front { IsSearchFront model.now.model bounder.now.horizon made.now.value }
+    requires stage { made.now.value.front.stage < bounder.now.horizon }
+    requires narrow { (above : ℕ) ×
+        (is_wide model.now.model bounder.now.horizon above made.now.value.front ≡ false) }
+    requires settled { settled ≡ true → options.merge ≡ true →
+        is_exact_mode model.now.model bounder.now.horizon ≡ true →
+        HasNoEquivalent model.now.model made.now.value.front }
+    requires bound { bound ≡ mode_bound model.now.model bounder.now.horizon options.look
+        made.now.value.front }
+    requires rule { IsBranchingRule F.Fn rule.now.rule }
+    requires look_room { IsRoomFor bounder.now.is_exact model.now.model bounder.now.look room.old }
+    ensures is { IfOk result (IsExpansion
+        (planner_space model.now.model (fit_of model.now.model bounder.now.horizon) options
+        (MayAnswer F.Fn rule.now))
+        model.now.model bounder.now.horizon options.look (widest model.now.model.actions) options.merge
+        made.now.value.front) }
+    ensures look_room { IsRoomFor bounder.now.is_exact model.now.model bounder.now.look room.new }
+{
+    let front = made.as_ref();
+    match pair_at(alloc, front, options.merge, settled)? {
+        Some(pair) => merged(alloc, model, front, pair, bound),
+        None => branched(alloc, model, bounder, options, rule, made, room),
+    }
+}
+
+// The pair that is merged, if it is not known that there is none.
+fn pair_at(
+    alloc: Global,
+    front: &Front,
+    merging: bool,
+    settled: bool,
+) -> Result<Option<Pair>, Memory>
+    requires of_model { (m : PlainModel) × (IsFrontOf m front.now) }
+    requires stage { front.now.front.stage < front.now.horizon }
+    ensures merging { IfOk result (λ o. IfSome o (λ _. merging ≡ true)) }
+    ensures pair { IfOk result (λ o. IfSome o (λ p. (m : PlainModel) → IsFrontOf m front.now →
+        IsPair m front.now.front p.agent p.first p.second)) }
+    ensures exact { IfOk result (λ o. IfSome o (λ _. front.now.is_exact ≡ true)) }
+    ensures none { IfOk result (λ o. o ≡ None → settled ≡ false → merging ≡ true →
+        front.now.is_exact ≡ true → (m : PlainModel) → IsFrontOf m front.now →
+        HasNoEquivalent m front.now.front) }
+{
+    if settled {
+        Ok(None)
+    } else {
+        pair_to_merge(alloc, front, merging)
     }
 }
 
@@ -141,32 +214,30 @@ pub(crate) fn joined(alloc: Global, front: &Front, pair: Pair) -> Result<Front, 
     }
 }
 
-// The merge of two classes, with the front after it.
+// The merge of two classes of a front, with the front after it, which has the same bound.
 fn merged(
     alloc: Global,
     model: &Model,
-    bounder: &Bounder,
     front: &Front,
     pair: Pair,
-    room: &mut LookRoom,
-) -> Result<Expanded<Front>, Memory>
-    requires bounder { IsBounderOf model.now.model bounder.now }
-    requires front { IsPlannerFront model.now.model bounder.now.horizon front.now }
-    requires stage { front.now.front.stage < bounder.now.horizon }
+    bound: i128,
+) -> Result<Expanded<HeldFront>, Memory>
+    requires of_model { IsFrontOf model.now.model front.now }
+    requires stage { front.now.front.stage < front.now.horizon }
     requires pair { IsPair model.now.model front.now.front pair.agent pair.first pair.second }
     requires exact { front.now.is_exact ≡ true }
-    requires look_room { IsRoomFor bounder.now.is_exact model.now.model bounder.now.look room.old }
     ensures step { IfOk result (λ x. x.step ≡ Merge pair.agent pair.first pair.second) }
-    ensures fronts { IfOk result (λ x. map (λ (c : SpecChild KeptFront). c.front.front) x.children.items
-        ≡ merged_front front.now.front pair.agent pair.first pair.second ∷ []) }
-    ensures children { IfOk result (λ x. All (IsChild model.now.model bounder.now.horizon bounder.now.look)
-        x.children.items) }
-    ensures look_room { IsRoomFor bounder.now.is_exact model.now.model bounder.now.look room.new }
+    ensures fronts { IfOk result (λ x. map (λ (c : SpecChild SpecHeld). front_meant model.now.model c.front)
+        x.children.items ≡ merged_front front.now.front pair.agent pair.first pair.second ∷ []) }
+    ensures children { IfOk result (λ x. (h look : ℕ) (merging : Bool) →
+        IsPlannerFront model.now.model h front.now →
+        bound ≡ mode_bound model.now.model h look front.now.front →
+        All (IsHeldChild model.now.model h look merging) x.children.items) }
 {
     let next = joined(alloc, front, pair)?;
-    let bound = own_bound(alloc, model, bounder, &next, room)?;
+    let held = HeldFront::of(alloc, model, next, bound)?;
     let mut children = Vec::new(alloc);
-    children.push(Child { front: next, bound })?;
+    children.push(Child { front: held, bound })?;
     Ok(Expanded {
         step: Step::Merge {
             agent: pair.agent,
@@ -184,34 +255,36 @@ fn branched<F: Fn(&[Place]) -> usize>(
     bounder: &Bounder,
     options: PlanOpts,
     rule: &Chooser<F>,
-    front: &Front,
+    made: &Rc<Front>,
     room: &mut LookRoom,
-) -> Result<Expanded<Front>, Memory>
+) -> Result<Expanded<HeldFront>, Memory>
     requires bounder { IsBounderOf model.now.model bounder.now }
     requires look { bounder.now.look ≡ options.look }
-    requires front { IsPlannerFront model.now.model bounder.now.horizon front.now }
-    requires stage { front.now.front.stage < bounder.now.horizon }
-    requires unfinished { is_complete front.now.front.agents ≡ false }
+    requires front { IsPlannerFront model.now.model bounder.now.horizon made.now.value }
+    requires stage { made.now.value.front.stage < bounder.now.horizon }
+    requires unfinished { is_complete made.now.value.front.agents ≡ false }
     requires narrow { (above : ℕ) ×
-        (is_wide model.now.model bounder.now.horizon above front.now.front ≡ false) }
-    requires rule { IsBranchingRule F.Fn rule.now }
-    requires no_pair { options.merge ≡ true → front.now.is_exact ≡ true →
-        HasNoEquivalent model.now.model front.now.front }
+        (is_wide model.now.model bounder.now.horizon above made.now.value.front ≡ false) }
+    requires rule { IsBranchingRule F.Fn rule.now.rule }
+    requires no_pair { options.merge ≡ true → is_exact_mode model.now.model bounder.now.horizon ≡ true →
+        HasNoEquivalent model.now.model made.now.value.front }
     requires look_room { IsRoomFor bounder.now.is_exact model.now.model bounder.now.look room.old }
     ensures is { IfOk result (IsExpansion
         (planner_space model.now.model (fit_of model.now.model bounder.now.horizon) options
         (MayAnswer F.Fn rule.now))
-        model.now.model bounder.now.horizon (widest model.now.model.actions) front.now.front) }
+        model.now.model bounder.now.horizon options.look (widest model.now.model.actions) options.merge
+        made.now.value.front) }
     ensures look_room { IsRoomFor bounder.now.is_exact model.now.model bounder.now.look room.new }
 {
+    let front = made.as_ref();
     let mut game = Game::with_room(alloc, model, front, bounder, room)?;
-    let all = places(alloc, model, front, &mut game, options.look)?;
+    let all = told_places(alloc, model, front, &mut game, options.look, rule.spreads())?;
     let place = all[rule.pick(&all)];
     let children = children_of(
         alloc,
         model,
         bounder,
-        front,
+        made,
         &mut game,
         place.agent,
         place.class,
@@ -232,35 +305,85 @@ fn children_of(
     alloc: Global,
     model: &Model,
     bounder: &Bounder,
-    front: &Front,
+    made: &Rc<Front>,
     game: &mut Game,
     agent: u32,
     class: u32,
     room: &mut LookRoom,
-) -> Result<Vec<Child<Front>>, Memory>
+) -> Result<Vec<Child<HeldFront>>, Memory>
     requires bounder { IsBounderOf model.now.model bounder.now }
-    requires front { IsPlannerFront model.now.model bounder.now.horizon front.now }
-    requires stage { front.now.front.stage < bounder.now.horizon }
+    requires front { IsPlannerFront model.now.model bounder.now.horizon made.now.value }
+    requires stage { made.now.value.front.stage < bounder.now.horizon }
     requires narrow { (above : ℕ) ×
-        (is_wide model.now.model bounder.now.horizon above front.now.front ≡ false) }
-    requires game { IsGameOf model.now.model bounder.now.horizon bounder.now.look front.now.front game.old }
-    requires unassigned { IsUnassigned agent class front.now.front.agents }
+        (is_wide model.now.model bounder.now.horizon above made.now.value.front ≡ false) }
+    requires game { IsGameOf model.now.model bounder.now.horizon bounder.now.look made.now.value.front game.old }
+    requires unassigned { IsUnassigned agent class made.now.value.front.agents }
     requires look_room { IsRoomFor bounder.now.is_exact model.now.model bounder.now.look room.old }
-    ensures fronts { IfOk result (λ v. map (λ (c : SpecChild KeptFront). c.front.front) v.items
-        ≡ map (front_after_choice model.now.model front.now.front agent class)
+    ensures fronts { IfOk result (λ v. map (λ (c : SpecChild SpecHeld). front_meant model.now.model c.front) v.items
+        ≡ map (front_after_choice model.now.model made.now.value.front agent class)
         (range_with_len 0 (get_or model.now.model.actions agent 0))) }
-    ensures children { IfOk result (λ v. All (IsChild model.now.model bounder.now.horizon bounder.now.look)
-        v.items) }
+    ensures children { IfOk result (λ v. (merging : Bool) → (merging ≡ true →
+        is_exact_mode model.now.model bounder.now.horizon ≡ true →
+        HasNoEquivalent model.now.model made.now.value.front) →
+        All (IsHeldChild model.now.model bounder.now.horizon bounder.now.look merging) v.items) }
     ensures look_room { IsRoomFor bounder.now.is_exact model.now.model bounder.now.look room.new }
 {
     let mut children = Vec::new(alloc);
     for action in 0..model.actions(agent) {
-        let child = child_of(
-            alloc, model, bounder, front, game, agent, class, action, room,
-        )?;
+        let choice = Choice {
+            agent,
+            class,
+            action,
+        };
+        let child = held_child_of(alloc, model, bounder, made, game, choice, room)?;
         children.push(child)?;
     }
     Ok(children)
+}
+
+// The front after a choice, held, with its bound. `game` is the game of the front before, and is left as it
+// was.
+fn held_child_of(
+    alloc: Global,
+    model: &Model,
+    bounder: &Bounder,
+    made: &Rc<Front>,
+    game: &mut Game,
+    choice: Choice,
+    room: &mut LookRoom,
+) -> Result<Child<HeldFront>, Memory>
+    requires bounder { IsBounderOf model.now.model bounder.now }
+    requires front { IsPlannerFront model.now.model bounder.now.horizon made.now.value }
+    requires stage { made.now.value.front.stage < bounder.now.horizon }
+    requires narrow { (above : ℕ) ×
+        (is_wide model.now.model bounder.now.horizon above made.now.value.front ≡ false) }
+    requires game { IsGameOf model.now.model bounder.now.horizon bounder.now.look made.now.value.front game.old }
+    requires unassigned { IsUnassigned choice.agent choice.class made.now.value.front.agents }
+    requires action { choice.action < get_or model.now.model.actions choice.agent 0 }
+    requires look_room { IsRoomFor bounder.now.is_exact model.now.model bounder.now.look room.old }
+    ensures front { IfOk result (λ c. front_meant model.now.model c.front ≡
+        front_after_choice model.now.model made.now.value.front choice.agent choice.class choice.action) }
+    ensures child { IfOk result (λ c. (merging : Bool) → (merging ≡ true →
+        is_exact_mode model.now.model bounder.now.horizon ≡ true →
+        HasNoEquivalent model.now.model made.now.value.front) →
+        IsHeldChild model.now.model bounder.now.horizon bounder.now.look merging c) }
+    ensures game { OnOk result (game.new ≡ game.old) }
+    ensures look_room { IsRoomFor bounder.now.is_exact model.now.model bounder.now.look room.new }
+{
+    let child = child_of(
+        alloc,
+        model,
+        bounder,
+        made.as_ref(),
+        game,
+        choice.agent,
+        choice.class,
+        choice.action,
+        room,
+    )?;
+    let bound = copied(&child.bound);
+    let held = HeldFront::after(alloc, model, made, choice, child.front, bound)?;
+    Ok(Child { front: held, bound })
 }
 
 // The front after an action for a class, with its bound. `game` is the game of the front before, and is

@@ -12,8 +12,8 @@ ghost use Rattle.dp_value.specs.WeightUpdates.{weights_of};
 ghost use Rattle.dp_cluster.specs.Joins.{behind, own_count};
 ghost use Rattle.dp_cluster.specs.KeptFronts.{IsFrontOf, choice_at};
 ghost use Rattle.dp_game.specs.Games.{IsGameOf};
-ghost use Rattle.dp_search.specs.FrontPlaces.{agent_places_of, kept_upper_weight, upper_size};
-ghost use Rattle.dp_search.specs.Rules.{place_of};
+ghost use Rattle.dp_search.specs.FrontPlaces.{agent_places_of, kept_upper_weight, spread_told, upper_size};
+ghost use Rattle.dp_search.specs.Rules.{place_of, told_places};
 
 use crate::place::Place;
 use dp_base::Memory;
@@ -43,10 +43,31 @@ pub fn places(
     ensures game { OnOk result (game.new ≡ game.old) }
     ensures few { IfOk result (λ v. length v.items ≤ 2 ^ 26) }
 {
+    told_places(alloc, model, front, game, look, true)
+}
+
+// The same, with 0 for each spread where spreads are not told.
+pub(crate) fn told_places(
+    alloc: Global,
+    model: &Model,
+    front: &Front,
+    game: &mut Game,
+    look: u32,
+    spreads: bool,
+) -> Result<Vec<Place>, Memory>
+    requires of_model { IsFrontOf model.now.model front.now }
+    requires stage { front.now.front.stage < front.now.horizon }
+    requires game { IsGameOf model.now.model front.now.horizon look front.now.front game.old }
+    ensures places { IfOk result (λ v. map place_of v.items
+        ≡ told_places spreads (places_of (arithmetic front.now.is_exact model.now.model.scales) model.now.model
+        front.now.horizon look front.now.front)) }
+    ensures game { OnOk result (game.new ≡ game.old) }
+    ensures few { IfOk result (λ v. length v.items ≤ 2 ^ 26) }
+{
     front.invariant();
     let mut places = Vec::new(alloc);
     for agent in 0..front.agents() {
-        push_places(alloc, model, front, game, look, agent, &mut places)?;
+        push_places(alloc, model, front, game, look, spreads, agent, &mut places)?;
     }
     Ok(places)
 }
@@ -58,6 +79,7 @@ fn push_places(
     front: &Front,
     game: &mut Game,
     look: u32,
+    spreads: bool,
     agent: u32,
     places: &mut Vec<Place>,
 ) -> Result<(), Memory>
@@ -66,8 +88,8 @@ fn push_places(
     requires game { IsGameOf model.now.model front.now.horizon look front.now.front game.old }
     requires agent { agent < length front.now.front.agents }
     ensures places { IfOk result (λ _. map place_of places.new.items ≡ map place_of places.old.items
-        ++ agent_places_of (arithmetic front.now.is_exact model.now.model.scales) model.now.model front.now.horizon
-        look front.now.front agent) }
+        ++ told_places spreads (agent_places_of (arithmetic front.now.is_exact model.now.model.scales)
+        model.now.model front.now.horizon look front.now.front agent)) }
     ensures game { OnOk result (game.new ≡ game.old) }
     ensures few { IfOk result (λ _. length places.new.items ≤ length places.old.items + own_count front.now agent) }
 {
@@ -77,7 +99,7 @@ fn push_places(
     for class in 0..front.classes(agent) {
         if front.action(agent, class).is_none() {
             let weight = weights[class as usize];
-            let spread = spread_of_class(model, front, game, look, agent, class);
+            let spread = told_spread(model, front, game, look, spreads, agent, class);
             places.push(Place {
                 agent,
                 class,
@@ -136,6 +158,34 @@ fn upper_sum(weights: &[Span]) -> i128
         total += weight.high;
     }
     total
+}
+
+// How far a choice for an unassigned class may lower the bound, where spreads are told, else 0. The game is
+// left as it was.
+fn told_spread(
+    model: &Model,
+    front: &Front,
+    game: &mut Game,
+    look: u32,
+    spreads: bool,
+    agent: u32,
+    class: u32,
+) -> u128
+    requires of_model { IsFrontOf model.now.model front.now }
+    requires stage { front.now.front.stage < front.now.horizon }
+    requires game { IsGameOf model.now.model front.now.horizon look front.now.front game.old }
+    requires agent { agent < length front.now.front.agents }
+    requires class { class < own_count front.now agent }
+    requires unassigned { choice_at front.now.front.agents agent class ≡ None }
+    ensures is { pos result ≡ spread_told spreads (spread_of (arithmetic front.now.is_exact model.now.model.scales)
+        model.now.model front.now.horizon look front.now.front agent class) }
+    ensures game { game.new ≡ game.old }
+{
+    if spreads {
+        spread_of_class(model, front, game, look, agent, class)
+    } else {
+        0
+    }
 }
 
 // How far a choice for an unassigned class may lower the bound. The game is left as it was.

@@ -7,6 +7,7 @@ use crate::bounding::own_bound;
 use crate::chooser::Chooser;
 use crate::completion::completed;
 use crate::expansion::expanded;
+use crate::held_front::HeldFront;
 use crate::options::PlanOpts;
 use crate::place::Place;
 use crate::planner::{Child, Expanded, Planner};
@@ -44,7 +45,7 @@ pub fn widest(model: &Model) -> u32
 }
 
 impl<'a, F: Fn(&[Place]) -> usize> Planner for FrontPlanner<'a, F> {
-    type Front = Front;
+    type Front = HeldFront;
 
     type Policy = Shared;
 
@@ -55,16 +56,18 @@ impl<'a, F: Fn(&[Place]) -> usize> Planner for FrontPlanner<'a, F> {
     ghost use Rattle.dp_pomdp.specs.Rooms.{IsRoomFor};
     ghost use Rattle.dp_search.specs.Constants.{constant_low_worth};
     ghost use Rattle.dp_search.specs.FrontPlanners.{IsPlannerPolicy, planner_space, planner_worth, widest};
-    ghost use Rattle.dp_search.specs.FrontPlanning.{IsReadyPlanner, IsSearchFront, planner_deep};
+    ghost use Rattle.dp_search.specs.FrontPlanning.{IsReadyPlanner, planner_deep};
+    ghost use Rattle.dp_search.specs.HeldFronts.{IsHeldFront, front_meant};
     ghost use Rattle.dp_search.specs.Rules.{MayAnswer};
 
-    ghost IsReady = { λ p. IsReadyPlanner F.Fn p.model.now.model p.fit p.options p.bounder.now p.best p.rule.now };
+    ghost IsReady = { λ p. IsReadyPlanner F.Fn p.model.now.model p.fit p.options p.bounder.now p.best
+        p.rule.now.rule };
 
     ghost space = { λ p. planner_space p.model.now.model p.fit p.options (MayAnswer F.Fn p.rule.now) };
 
-    ghost meaning = { λ p k. k.front };
+    ghost meaning = { λ p s. front_meant p.model.now.model s };
 
-    ghost IsFront = { λ p k. IsSearchFront p.model.now.model p.fit.horizon k };
+    ghost IsFront = { λ p s. IsHeldFront p.model.now.model p.fit.horizon p.options.look p.options.merge s };
 
     ghost IsPolicy = { λ p q. IsPlannerPolicy p.model.now.model p.fit.horizon p.options.version q };
 
@@ -100,24 +103,26 @@ impl<'a, F: Fn(&[Place]) -> usize> Planner for FrontPlanner<'a, F> {
         Ok(worth)
     }
 
-    fn root(&self, alloc: Global, room: &mut LookRoom) -> Result<Child<Front>, Memory> {
+    fn root(&self, alloc: Global, room: &mut LookRoom) -> Result<Child<HeldFront>, Memory> {
         self.model.invariant();
         let front = Front::root(alloc, self.model, self.fit)?;
         let bound = own_bound(alloc, self.model, self.bounder, &front, room)?;
-        Ok(Child { front, bound })
+        let held = HeldFront::of(alloc, self.model, front, bound)?;
+        Ok(Child { front: held, bound })
     }
 
-    fn is_full(&self, front: &Front) -> bool {
-        front.stage() >= front.horizon()
+    fn is_full(&self, front: &HeldFront) -> bool {
+        front.full
     }
 
-    fn is_wide(&self, above: u32, front: &Front) -> bool {
-        front.is_wide(self.model, above)
+    fn is_wide(&self, above: u32, front: &HeldFront) -> bool {
+        front.is_wide(above)
     }
 
-    fn policy(&self, alloc: Global, front: &Front) -> Result<Shared, Memory> {
+    fn policy(&self, alloc: Global, front: &HeldFront) -> Result<Shared, Memory> {
+        let full = front.front(alloc, self.model)?;
         let version = self.options.version;
-        let policy = full_of_version(alloc, self.model, self.fit, version, front)?;
+        let policy = full_of_version(alloc, self.model, self.fit, version, full.as_ref())?;
         Ok(policy)
     }
 
@@ -125,14 +130,15 @@ impl<'a, F: Fn(&[Place]) -> usize> Planner for FrontPlanner<'a, F> {
         &self,
         alloc: Global,
         room: &mut LookRoom,
-        front: &Front,
+        front: &HeldFront,
     ) -> Result<Option<Shared>, Memory> {
+        let made = front.front(alloc, self.model)?;
         let found = completed(
             alloc,
             self.model,
             self.bounder,
             self.options.merge,
-            front,
+            made.as_ref(),
             room,
         )?;
         match found {
@@ -149,8 +155,8 @@ impl<'a, F: Fn(&[Place]) -> usize> Planner for FrontPlanner<'a, F> {
         &self,
         alloc: Global,
         room: &mut LookRoom,
-        front: &Front,
-    ) -> Result<Expanded<Front>, Memory> {
+        front: &HeldFront,
+    ) -> Result<Expanded<HeldFront>, Memory> {
         let made = expanded(
             alloc,
             self.model,

@@ -11,6 +11,7 @@ mod expansion;
 mod front_places;
 mod front_planner;
 mod greatest_leaf;
+mod held_front;
 mod held_leaf;
 mod held_leaves;
 mod look;

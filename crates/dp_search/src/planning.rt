@@ -43,7 +43,7 @@ pub fn plan<F: Fn(&[Place]) -> usize>(
     requires some_look { 1 ≤ options.look }
     requires look { options.look ≤ 16 }
     requires tree_nodes { 1 + options.nodes * widest model.now.model.actions < 2 ^ 32 }
-    requires rule { IsBranchingRule F.Fn rule.now }
+    requires rule { IsBranchingRule F.Fn rule.now.rule }
     ensures planned { IfOk result (λ c.
         IsPlanned model.now.model (MayAnswer F.Fn rule.now) fit.horizon (asked_for options) (certificate_of c)) }
 {

@@ -1,20 +1,58 @@
-use Rattle.std.proofs.Common.{All, subst}
-use Rattle.dp_search.specs.Expansions.{IsChild}
+use Rattle.std.proofs.Common.{subst, sym, ◌∙◌, ◌<◌, ap, IfOk, rules}
+use Rattle.std.specs.Int.{w128}
+use Rattle.std.proofs.lemmas.Int.{to_z-of_z}
+use Rattle.dp_spec.specs.Front.{Front}
+use Rattle.dp_spec.specs.Qualities.{HasNoEquivalent}
+use Rattle.dp_cluster.specs.KeptFronts.{KeptFront}
+use Rattle.dp_spec.specs.Wide.{is_wide}
+use Rattle.dp_model.specs.Horizons.{fit_of}
+use Rattle.dp_search.specs.Expansions.{mode_bound}
+use Rattle.dp_search.specs.FrontPlanners.{planner_space, widest}
+use Rattle.dp_search.specs.HeldFronts.{IsExpansion}
 use Rattle.dp_search.specs.Rules.{MayAnswer}
-use Rattle.dp_search.proofs.Expansions.{if_ok_all, merge_expands, of_some}
 use Rattle.dp_search.proofs.expansion.expanded.Goals as goal
 
-pub returns-in-Some-clause-is : goal.returns-in-Some-clause-is
-returns-in-Some-clause-is g c =
+pub front-requires : goal.front-requires
+front-requires g c =
+    record { held = (c.args.bounder.now.horizon, (c.args.options.look, (c.args.options.merge, c.requires.held))) }
+
+pub expanded_at-requires-clause-front : goal.expanded_at-requires-clause-front
+expanded_at-requires-clause-front g c =
+    c.in_ok-made.ensures.of_search c.args.bounder.now.horizon c.args.options.look c.args.options.merge
+    c.requires.held
+
+pub expanded_at-requires-clause-stage : goal.expanded_at-requires-clause-stage
+expanded_at-requires-clause-stage g c =
+    subst (λ (F : Front). F.stage < c.args.bounder.now.horizon) (sym c.in_ok-made.ensures.front)
+    c.requires.stage
+
+pub expanded_at-requires-clause-narrow : goal.expanded_at-requires-clause-narrow
+expanded_at-requires-clause-narrow g c =
     let m = c.args.model.now.model in
     let h = c.args.bounder.now.horizon in
-    let k = c.args.front.now in
-    let pair = c.in-Some.pair in
-    if_ok_all _ _ _ _
-    (λ x step fronts children. merge_expands m h c.args.options k c.requires.front c.requires.stage
-    (MayAnswer g.F.Fn c.args.rule.now) x pair.agent pair.first pair.second step fronts
-    (subst (λ n. All (IsChild m h n) x.children.items) c.requires.look children)
-    (of_some _ _ pair c.in-Some.is c.in_ok-pair.ensures.pair m c.requires.front.of_model)
-    (of_some _ _ pair c.in-Some.is c.in_ok-pair.ensures.exact)
-    (of_some _ _ pair c.in-Some.is c.in_ok-pair.ensures.merging))
-    c.merged.result c.merged.ensures.step c.merged.ensures.fronts c.merged.ensures.children
+    (c.requires.narrow.0, ap (is_wide m h c.requires.narrow.0) c.in_ok-made.ensures.front ∙ c.requires.narrow.1)
+
+pub expanded_at-requires-clause-settled : goal.expanded_at-requires-clause-settled
+expanded_at-requires-clause-settled g c on merging exact =
+    let m = c.args.model.now.model in
+    let same = c.as_ref-front.ensures in
+    let meant = ap (λ (k : KeptFront). k.front) same ∙ c.in_ok-made.ensures.front in
+    subst (λ (k : KeptFront). HasNoEquivalent m k.front) same
+    (c.is_settled-settled.ensures on m c.args.bounder.now.horizon c.args.options.look c.args.options.merge
+    c.requires.held meant merging exact)
+
+pub returns-clause-is : goal.returns-clause-is
+returns-clause-is g c =
+    let m = c.args.model.now.model in
+    let h = c.args.bounder.now.horizon in
+    let opts = c.args.options in
+    let S = planner_space m (fit_of m h) opts (MayAnswer g.F.Fn c.args.rule.now) in
+    subst (λ (F : Front). IfOk c.expanded_at.result
+    (IsExpansion S m h opts.look (widest m.actions) opts.merge F))
+    c.in_ok-made.ensures.front c.expanded_at.ensures.is
+
+pub expanded_at-requires-clause-bound : goal.expanded_at-requires-clause-bound
+expanded_at-requires-clause-bound g c =
+    to_z-of_z w128 c.copied-bound.result (search (rules, c.copied-bound.type_inv))
+    ∙ c.copied-bound.ensures ∙ c.requires.held.bound
+    ∙ ap (mode_bound c.args.model.now.model c.args.bounder.now.horizon c.args.options.look) (sym c.in_ok-made.ensures.front)
