@@ -43,7 +43,16 @@ commands_read = (
     λ v off files. refl,
     (
       λ v off files. refl,
-      (λ v off files. refl, (λ v off files. refl, tt)),
+      (
+        λ v off files. refl,
+        (
+          λ v off files. refl,
+          (
+            λ v off files. refl,
+            (λ v off files. refl, (λ v off files. refl, tt)),
+          ),
+        ),
+      ),
     ),
   ),
 )

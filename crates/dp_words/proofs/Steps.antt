@@ -1,4 +1,5 @@
--- A plan of the words is over at least one step, its look is from 1 to 16, and its version 1 or 2.
+-- A plan or a trial of the words is over at least one step, and its look is from 1 to 16; the version of a plan is 1 or
+-- 2; each size of a model to be made is from 1 to 65,536.
 use Rattle.std.proofs.Common.{◌≡◌, arith, ◌≤◌, ◌&&◌, ◌||◌, not, Bool, cond, codes, true, false, true≢false, refl, ap}
 use Rattle.std.proofs.Common.{sym, ◌∙◌, subst, ℕ, List, [], ◌∷◌, length, Option, Some, None, Result, Ok, Err, IfOk}
 use Rattle.std.proofs.Common.{is_some, unwrap_or, ◌⊎◌}
@@ -11,10 +12,11 @@ use Rattle.std.proofs.lemmas.Bool.{leb-true, and_parts}
 use Rattle.dp_words.specs.declared.job.Job.{Job}
 use Rattle.dp_words.specs.declared.job.WordFault.{WordFault}
 use Rattle.dp_words.specs.Line.{Given, Text, is_given, is_well_given, may_be_value, options_of, plain_of, value_in}
-use Rattle.dp_words.specs.Words.{CommandRow, HasLook, HasSomeStep, HasVersion, IsReadAs, Setting, Values, all_hold}
-use Rattle.dp_words.specs.Words.{cert, command_job, commands, file_at, fits, holds, horizon, is_allowed, is_number}
-use Rattle.dp_words.specs.Words.{job_of, look, no_merge, number_of, number_option, options, plan_row, read, row_job}
-use Rattle.dp_words.specs.Words.{job_of_values, value_names}
+use Rattle.dp_words.specs.Words.{AreMakeSizes, CommandRow, HasLook, HasSizes, HasSomeStep, HasVersion, IsReadAs}
+use Rattle.dp_words.specs.Words.{OptionRow, Setting, Values, actions, agents, all_hold, cert, command_job, commands}
+use Rattle.dp_words.specs.Words.{file_at, fits, holds, horizon, is_allowed, is_number, job_of, job_of_values, look}
+use Rattle.dp_words.specs.Words.{make_row, model_to_make, no_merge, number_of, number_option, observations, options}
+use Rattle.dp_words.specs.Words.{plan_row, read, row_job, states, trial_row, value_names}
 use Rattle.dp_words.proofs.Ranges.{Each, options_hold}
 use Rattle.dp_words.proofs.Rows.{same_text}
 use Rattle.dp_words.proofs.Rules.{is_in}
@@ -44,9 +46,14 @@ number_in_range s (Some t) holds default = written_in_range s.least s.most t hol
 one_or_two : (n : ℕ) → 1 ≤ n → n ≤ 2 → (n ≡ 1) ⊎ (n ≡ 2)
 one_or_two n some few = grind arith
 
+-- the options that give the sizes of a model to be made
+abbrev size_options : List OptionRow
+size_options =
+    number_option agents ∷ number_option states ∷ number_option actions ∷ number_option observations ∷ []
+
 -- the job has what a command asks of its numbers
 abbrev IsRunnable : Job → Type 0
-IsRunnable job = HasSomeStep job × HasLook job × HasVersion job
+IsRunnable job = HasSomeStep job × HasLook job × HasVersion job × HasSizes job
 
 -- the job of a row is so, where its options fit
 abbrev HasStep : Values → CommandRow → Type 0
@@ -78,29 +85,79 @@ required (m ∷ ms) v n is all =
     by true e is first next = ap (λ x. is_some (v x)) (sym (same_text m n e)) ∙ first
     by false e is first next = next is
 
+-- an option without a default that a command requires is in its range
+required_in_range : (options names : List Text) (v : Values) (off : Bool) (s : Setting) → is_in s.name names ≡ true
+    → fits options names v off ≡ true → holds v (number_option s) ≡ true
+    → (s.least ≤ option_map_or (digits_value 10) (v s.name) (unwrap_or s.default 0))
+    × (option_map_or (digits_value 10) (v s.name) (unwrap_or s.default 0) ≤ s.most)
+required_in_range options names v off s named ok holds =
+    let given = required names v s.name named (all_given options names v off ok) in
+    number_in_range s (v s.name) holds (λ none. absurd (true≢false (sym given ∙ none)))
+
+-- the sizes of a model to be made
+sizes_in_range : (options names : List Text) (v : Values) (off : Bool) → Each (holds v) size_options
+    → is_in (codes "agents") names ≡ true → is_in (codes "states") names ≡ true
+    → is_in (codes "actions") names ≡ true → is_in (codes "observations") names ≡ true
+    → fits options names v off ≡ true → AreMakeSizes (model_to_make (read v off))
+sizes_in_range options names v off allowed a s b o ok =
+    let of_agents = required_in_range options names v off agents a ok allowed.0 in
+    let of_states = required_in_range options names v off states s ok allowed.1.0 in
+    let of_actions = required_in_range options names v off actions b ok allowed.1.1.0 in
+    let of_observations = required_in_range options names v off observations o ok allowed.1.1.1.0 in
+    record {
+      some_agent = of_agents.0;
+      some_state = of_states.0;
+      some_action = of_actions.0;
+      some_observation = of_observations.0;
+      agents = of_agents.1;
+      states = of_states.1;
+      actions = of_actions.1;
+      observations = of_observations.1;
+    }
+
 -- one entry for each command of the table
 commands_have : (v : Values) → Each (holds v) options → EachHas v commands
 commands_have v allowed = (
-  (λ off files ok. (at_least_one off files ok, looks, one_or_two _ version.0 version.1)),
+  (λ off files ok. (
+    (required_in_range plan_row.options plan_row.required v off horizon refl ok allowed.0).0,
+    looks,
+    one_or_two _ version.0 version.1,
+    tt,
+  )),
   (
-    λ off files ok. (tt, tt, tt),
+    λ off files ok. (tt, tt, tt, tt),
     (
-      λ off files ok. (tt, tt, tt),
+      λ off files ok. (tt, tt, tt, tt),
       (
-        λ off files ok. (tt, tt, tt),
-        (λ off files ok. (tt, tt, tt), tt),
+        λ off files ok. (tt, tt, tt, tt),
+        (
+          λ off files ok. (tt, tt, tt, tt),
+          (
+            λ off files ok. (
+              tt,
+              tt,
+              tt,
+              sizes_in_range make_row.options make_row.required v off sizes refl refl refl refl ok,
+            ),
+            (
+              λ off files ok. (tt, tt, tt, tt),
+              (
+                λ off files ok. (
+                  (required_in_range trial_row.options trial_row.required v off horizon refl ok allowed.0).0,
+                  looks,
+                  tt,
+                  sizes_in_range trial_row.options trial_row.required v off sizes refl refl refl refl ok,
+                ),
+                tt,
+              ),
+            ),
+          ),
+        ),
       ),
     ),
   ),
 )
   where
-    at_least_one : (off : Bool) (files : List Text) → fits plan_row.options plan_row.required v off ≡ true
-        → 1 ≤ option_map_or (digits_value 10) (v (codes "horizon")) 0
-    at_least_one off files ok =
-        let given = required plan_row.required v (codes "horizon") refl
-        (all_given plan_row.options plan_row.required v off ok) in
-        (number_in_range horizon (v (codes "horizon")) allowed.0 (λ none. absurd (true≢false (sym given ∙ none)))).0
-
     looks : (1 ≤ option_map_or (digits_value 10) (v (codes "look")) 1)
         × (option_map_or (digits_value 10) (v (codes "look")) 1 ≤ 16)
     looks = number_in_range look (v (codes "look")) allowed.1.1.0 (λ none. (omega arith, omega arith))
@@ -108,6 +165,10 @@ commands_have v allowed = (
     version : (1 ≤ option_map_or (digits_value 10) (v (codes "cert")) 1)
         × (option_map_or (digits_value 10) (v (codes "cert")) 1 ≤ 2)
     version = number_in_range cert (v (codes "cert")) allowed.1.1.1.0 (λ none. (omega arith, omega arith))
+
+    sizes : Each (holds v) size_options
+    sizes =
+        let rest = allowed.1.1.1.1.1.1 in (rest.0, (rest.1.0, (rest.1.1.0, (rest.1.1.1.0, tt))))
 
 find_has : (v : Values) (cs : List CommandRow) → EachHas v cs
     → (p : CommandRow → Bool) (off : Bool) (files : List Text)
@@ -165,6 +226,10 @@ read_has words (Err e) is = tt
 pub read_looks : (words : List Text) (r : Result Job WordFault) → IsReadAs (job_of words) r → IfOk r HasLook
 read_looks words (Ok job) is = (job_has words job is).1
 read_looks words (Err e) is = tt
+
+pub read_sizes : (words : List Text) (r : Result Job WordFault) → IsReadAs (job_of words) r → IfOk r HasSizes
+read_sizes words (Ok job) is = (job_has words job is).3
+read_sizes words (Err e) is = tt
 
 pub read_version : (words : List Text) (r : Result Job WordFault) → IsReadAs (job_of words) r → IfOk r HasVersion
 read_version words (Ok job) is = (job_has words job is).2

@@ -9,7 +9,8 @@ use Rattle.std.specs.List.{starts_with, list_all, list_any}
 use Rattle.dp_base.specs.DecimalShape.{is_index}
 use Rattle.dp_words.specs.Line.{Given, Text, is_given, is_well_given, may_be_value, options_of, plain_of, value_in}
 use Rattle.dp_words.specs.declared.job.Job.{Job}
-use Rattle.dp_words.specs.declared.job.Job.TheVariants.{Check, Plan, Show, Sim, Value}
+use Rattle.dp_words.specs.declared.job.Job.TheVariants.{Check, Make, Plan, Print, Show, Sim, Trial, Value}
+use Rattle.dp_words.specs.declared.job.MakeJob.{MakeJob}
 use Rattle.dp_words.specs.declared.job.OrderWord.{OrderWord}
 use Rattle.dp_words.specs.declared.job.OrderWord.TheVariants.{First, Heavy, Spread}
 use Rattle.dp_words.specs.declared.job.WordFault.{WordFault}
@@ -67,9 +68,26 @@ seed = setting (codes "seed") 0 (2 ^ 64 - 1) None
 abbrev pub episodes : Setting
 episodes = setting (codes "episodes") 1 10000 (Some 1)
 
+-- a size of a model to be made
+abbrev pub size_setting : Text → Setting
+size_setting name = setting name 1 65536 None
+
+abbrev pub agents : Setting
+agents = size_setting (codes "agents")
+
+abbrev pub states : Setting
+states = size_setting (codes "states")
+
+abbrev pub actions : Setting
+actions = size_setting (codes "actions")
+
+abbrev pub observations : Setting
+observations = size_setting (codes "observations")
+
 -- the options whose values are numbers
 abbrev pub settings : List Setting
-settings = horizon ∷ nodes ∷ look ∷ cert ∷ seed ∷ episodes ∷ []
+settings =
+    horizon ∷ nodes ∷ look ∷ cert ∷ seed ∷ episodes ∷ agents ∷ states ∷ actions ∷ observations ∷ []
 
 -- a row of the table of options: the name of an option that takes a value, and which texts may be it
 pub record OptionRow : Type 0 where
@@ -172,9 +190,44 @@ sim_row = command_row (codes "sim") 2 (codes "seed" ∷ codes "episodes" ∷ [])
       episodes = read.number episodes;
     }))
 
+-- the model that the options ask for
+abbrev pub model_to_make : Read → MakeJob
+model_to_make read = record {
+  seed = read.number seed;
+  agents = read.number agents;
+  states = read.number states;
+  actions = read.number actions;
+  observations = read.number observations;
+}
+
+abbrev pub make_options : List Text
+make_options =
+    codes "seed" ∷ codes "agents" ∷ codes "states" ∷ codes "actions" ∷ codes "observations" ∷ []
+
+-- `make`
+abbrev pub make_row : CommandRow
+make_row = command_row (codes "make") 0 make_options make_options (λ read file. Make (model_to_make read))
+
+-- `print MODEL`
+abbrev pub print_row : CommandRow
+print_row = command_row (codes "print") 1 [] [] (λ read file. Print (record { model = file 0 }))
+
+-- `trial`
+abbrev pub trial_row : CommandRow
+trial_row =
+    command_row (codes "trial") 0 (make_options ++ codes "horizon" ∷ codes "nodes" ∷ codes "look" ∷ [])
+    (make_options ++ codes "horizon" ∷ [])
+    (λ read file. Trial (record {
+      made = model_to_make read;
+      horizon = read.number horizon;
+      nodes = read.number nodes;
+      look = read.number look;
+    }))
+
 -- the table of commands
 abbrev pub commands : List CommandRow
-commands = plan_row ∷ value_row ∷ check_row ∷ show_row ∷ sim_row ∷ []
+commands =
+    plan_row ∷ value_row ∷ check_row ∷ show_row ∷ sim_row ∷ make_row ∷ print_row ∷ trial_row ∷ []
 
 -- ---- the job
 
@@ -225,21 +278,27 @@ IsReadAs job (Ok read) = job ≡ Some read
 IsReadAs job (Err faults.Usage) = job ≡ None
 IsReadAs job (Err faults.Memory) = Unit {0}
 
--- a plan is over at least one step
+-- a plan, and a trial, is over at least one step
 abbrev pub HasSomeStep : Job → Type 0
 HasSomeStep (Plan job) = 1 ≤ job.horizon
 HasSomeStep (Value job) = Unit {0}
 HasSomeStep (Check job) = Unit {0}
 HasSomeStep (Show job) = Unit {0}
 HasSomeStep (Sim job) = Unit {0}
+HasSomeStep (Make job) = Unit {0}
+HasSomeStep (Print job) = Unit {0}
+HasSomeStep (Trial job) = 1 ≤ job.horizon
 
--- the look of a plan is from 1 to 16
+-- the look of a plan, and of a trial, is from 1 to 16
 abbrev pub HasLook : Job → Type 0
 HasLook (Plan job) = (1 ≤ job.look) × (job.look ≤ 16)
 HasLook (Value job) = Unit {0}
 HasLook (Check job) = Unit {0}
 HasLook (Show job) = Unit {0}
 HasLook (Sim job) = Unit {0}
+HasLook (Make job) = Unit {0}
+HasLook (Print job) = Unit {0}
+HasLook (Trial job) = (1 ≤ job.look) × (job.look ≤ 16)
 
 -- the certificate of a plan is of version 1 or 2
 abbrev pub HasVersion : Job → Type 0
@@ -248,3 +307,27 @@ HasVersion (Value job) = Unit {0}
 HasVersion (Check job) = Unit {0}
 HasVersion (Show job) = Unit {0}
 HasVersion (Sim job) = Unit {0}
+HasVersion (Make job) = Unit {0}
+HasVersion (Print job) = Unit {0}
+HasVersion (Trial job) = Unit {0}
+
+-- each size of a model to be made is from 1 to 65,536
+pub record AreMakeSizes (job : MakeJob) : Type 0 where
+  pub some_agent : 1 ≤ job.agents
+  pub some_state : 1 ≤ job.states
+  pub some_action : 1 ≤ job.actions
+  pub some_observation : 1 ≤ job.observations
+  pub agents : job.agents ≤ 65536
+  pub states : job.states ≤ 65536
+  pub actions : job.actions ≤ 65536
+  pub observations : job.observations ≤ 65536
+
+abbrev pub HasSizes : Job → Type 0
+HasSizes (Plan job) = Unit {0}
+HasSizes (Value job) = Unit {0}
+HasSizes (Check job) = Unit {0}
+HasSizes (Show job) = Unit {0}
+HasSizes (Sim job) = Unit {0}
+HasSizes (Make job) = AreMakeSizes job
+HasSizes (Print job) = Unit {0}
+HasSizes (Trial job) = AreMakeSizes job.made

@@ -14,6 +14,12 @@ pub enum Job {
     Show(ShowJob),
     /// Episodes of the policy of a certificate.
     Sim(SimJob),
+    /// A model made from a seed.
+    Make(MakeJob),
+    /// The tables of a model.
+    Print(PrintJob),
+    /// A plan for a model made from a seed.
+    Trial(TrialJob),
 }
 
 /// A plan for the model: the version of its certificate's text, its horizon, the budget of inner
@@ -59,6 +65,33 @@ pub struct SimJob {
     pub cert: Name,
     pub seed: u64,
     pub episodes: u32,
+}
+
+/// A model made from a seed: its numbers of agents and of states, and how many actions and observations each
+/// agent has.
+#[derive(Clone, Copy, Debug, PartialEq, Eq)]
+pub struct MakeJob {
+    pub seed: u64,
+    pub agents: u32,
+    pub states: u32,
+    pub actions: u32,
+    pub observations: u32,
+}
+
+/// The tables of the model of a model file.
+#[derive(Drop)]
+pub struct PrintJob {
+    pub model: Name,
+}
+
+/// A plan, with merging and by the order of the first place, for a model made from a seed: its horizon, the
+/// budget of inner nodes of the bound tree, and the steps of look-ahead in its bounds.
+#[derive(Drop)]
+pub struct TrialJob {
+    pub made: MakeJob,
+    pub horizon: u32,
+    pub nodes: u32,
+    pub look: u32,
 }
 
 /// The place of a front at which a plan's search branches.

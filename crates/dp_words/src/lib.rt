@@ -8,6 +8,9 @@ mod number;
 mod parse;
 mod read;
 
-pub use job::{CheckJob, Job, OrderWord, PlanJob, ShowJob, SimJob, ValueJob, WordFault};
+pub use job::{
+    CheckJob, Job, MakeJob, OrderWord, PlanJob, PrintJob, ShowJob, SimJob, TrialJob, ValueJob,
+    WordFault,
+};
 pub use name::Name;
 pub use read::read_words;

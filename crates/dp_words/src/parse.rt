@@ -9,8 +9,18 @@ use clap::{Arg, ArgAction, ArgMatches, Command};
 use std::alloc::{AllocError, Global};
 
 // The names of the options that take a value, in the order of the table.
-pub static OPTIONS: [&str; 7] = [
-    "horizon", "nodes", "look", "cert", "seed", "episodes", "order",
+pub static OPTIONS: [&str; 11] = [
+    "horizon",
+    "nodes",
+    "look",
+    "cert",
+    "seed",
+    "episodes",
+    "agents",
+    "states",
+    "actions",
+    "observations",
+    "order",
 ];
 
 // The command with an option of each name.

@@ -1,10 +1,13 @@
 // The job of the words.
 ghost use Rattle.std.specs.Prelude.{◌≡◌, ◌∷◌, IfOk, map, true, string_bytes};
-ghost use Rattle.dp_words.specs.Words.{HasLook, HasSomeStep, HasVersion, IsReadAs, all_hold, check_row, command_job};
-ghost use Rattle.dp_words.specs.Words.{job_of, job_of_values, plan_row, row_job, show_row, sim_row, value_row};
+ghost use Rattle.dp_words.specs.Words.{HasLook, HasSizes, HasSomeStep, HasVersion, IsReadAs, all_hold, check_row};
+ghost use Rattle.dp_words.specs.Words.{command_job, job_of, job_of_values, make_row, model_to_make, plan_row};
+ghost use Rattle.dp_words.specs.Words.{print_row, read, row_job, show_row, sim_row, trial_row, value_row};
 ghost use Rattle.dp_words.specs.Command.{merging_off, plain_words, values_of};
 
-use crate::job::{CheckJob, Job, PlanJob, ShowJob, SimJob, ValueJob, WordFault};
+use crate::job::{
+    CheckJob, Job, MakeJob, PlanJob, PrintJob, ShowJob, SimJob, TrialJob, ValueJob, WordFault,
+};
 use crate::line::{Setting, all_hold, fits, merging_off, order, order_holds, value_of};
 use crate::name::Name;
 use crate::parse::parsed;
@@ -53,8 +56,47 @@ const EPISODES: Setting = Setting {
     default: Some(1),
 };
 
+const AGENTS: Setting = Setting {
+    name: "agents",
+    least: 1,
+    most: 65_536,
+    default: None,
+};
+
+const STATES: Setting = Setting {
+    name: "states",
+    least: 1,
+    most: 65_536,
+    default: None,
+};
+
+const ACTIONS: Setting = Setting {
+    name: "actions",
+    least: 1,
+    most: 65_536,
+    default: None,
+};
+
+const OBSERVATIONS: Setting = Setting {
+    name: "observations",
+    least: 1,
+    most: 65_536,
+    default: None,
+};
+
 // The options whose values are numbers, in the order of the table.
-static SETTINGS: [Setting; 6] = [HORIZON, NODES, LOOK, CERT, SEED, EPISODES];
+static SETTINGS: [Setting; 10] = [
+    HORIZON,
+    NODES,
+    LOOK,
+    CERT,
+    SEED,
+    EPISODES,
+    AGENTS,
+    STATES,
+    ACTIONS,
+    OBSERVATIONS,
+];
 
 // The options of `plan`.
 static PLAN: [&str; 6] = ["horizon", "nodes", "look", "cert", "order", "no-merge"];
@@ -67,6 +109,31 @@ static SIM: [&str; 2] = ["seed", "episodes"];
 
 // Those that it requires.
 static SIM_REQUIRES: [&str; 1] = ["seed"];
+
+// The options of `make`, each of which it requires.
+static MAKE: [&str; 5] = ["seed", "agents", "states", "actions", "observations"];
+
+// The options of `trial`.
+static TRIAL: [&str; 8] = [
+    "seed",
+    "agents",
+    "states",
+    "actions",
+    "observations",
+    "horizon",
+    "nodes",
+    "look",
+];
+
+// Those that it requires.
+static TRIAL_REQUIRES: [&str; 6] = [
+    "seed",
+    "agents",
+    "states",
+    "actions",
+    "observations",
+    "horizon",
+];
 
 // The options of a command that has none.
 static NONE: [&str; 0] = [];
@@ -172,6 +239,65 @@ fn sim(alloc: Global, given: &ArgMatches<'_>, files: &[&str]) -> Result<Job, Wor
     }))
 }
 
+// The model that the options ask for.
+fn model_to_make(given: &ArgMatches<'_>) -> MakeJob
+    requires { all_hold (values_of given.now) ≡ true }
+    ensures { result ≡ model_to_make (read (values_of given.now) (merging_off given.now)) }
+{
+    MakeJob {
+        seed: value_of(given, SEED),
+        agents: value_of(given, AGENTS) as u32,
+        states: value_of(given, STATES) as u32,
+        actions: value_of(given, ACTIONS) as u32,
+        observations: value_of(given, OBSERVATIONS) as u32,
+    }
+}
+
+// `make`
+fn make(given: &ArgMatches<'_>, files: &[&str]) -> Result<Job, WordFault>
+    requires { all_hold (values_of given.now) ≡ true }
+    ensures { IsReadAs (row_job (values_of given.now) (merging_off given.now) (map (λ f. f.now) files.now)
+        make_row) result }
+{
+    if !files.is_empty() || !fits(given, MAKE.as_slice(), MAKE.as_slice()) {
+        return Err(WordFault::Usage);
+    }
+    Ok(Job::Make(model_to_make(given)))
+}
+
+// `print MODEL`
+fn print(alloc: Global, given: &ArgMatches<'_>, files: &[&str]) -> Result<Job, WordFault>
+    ensures { IsReadAs (row_job (values_of given.now) (merging_off given.now) (map (λ f. f.now) files.now)
+        print_row) result }
+{
+    let [model] = files else {
+        return Err(WordFault::Usage);
+    };
+    if !fits(given, NONE.as_slice(), NONE.as_slice()) {
+        return Err(WordFault::Usage);
+    }
+    Ok(Job::Print(PrintJob {
+        model: Name::of(alloc, model)?,
+    }))
+}
+
+// `trial`
+fn trial(given: &ArgMatches<'_>, files: &[&str]) -> Result<Job, WordFault>
+    requires { all_hold (values_of given.now) ≡ true }
+    ensures { IsReadAs (row_job (values_of given.now) (merging_off given.now) (map (λ f. f.now) files.now)
+        trial_row) result }
+{
+    if !files.is_empty() || !fits(given, TRIAL.as_slice(), TRIAL_REQUIRES.as_slice()) {
+        return Err(WordFault::Usage);
+    }
+    Ok(Job::Trial(TrialJob {
+        made: model_to_make(given),
+        horizon: value_of(given, HORIZON) as u32,
+        nodes: value_of(given, NODES) as u32,
+        look: value_of(given, LOOK) as u32,
+    }))
+}
+
 // The job of a command.
 fn command_job(
     alloc: Global,
@@ -189,6 +315,9 @@ fn command_job(
         "check" => check(alloc, given, files),
         "show" => show(alloc, given, files),
         "sim" => sim(alloc, given, files),
+        "make" => make(given, files),
+        "print" => print(alloc, given, files),
+        "trial" => trial(given, files),
         _ => Err(WordFault::Usage),
     }
 }
@@ -216,17 +345,19 @@ fn matches_job(alloc: Global, given: &ArgMatches<'_>) -> Result<Job, WordFault>
 /// command is unknown, its files are not as many as it takes, an option is unknown, is not the
 /// command's, is given twice or has no value in its range, or one that it requires is missing.
 ///
-/// Today the commands are `plan MODEL`, `value MODEL POLICY`, `check MODEL CERT`, `show MODEL CERT` and
-/// `sim MODEL CERT`. A plan requires `--horizon`, from 1 to 4,294,967,295, and may have `--nodes`, from 0
-/// to 4,294,967,295 (by default 100,000), `--look`, from 1 to 16 (1), `--cert`, 1 or 2 (1), `--order`,
+/// The commands are `plan MODEL`, `value MODEL POLICY`, `check MODEL CERT`, `show MODEL CERT`, `sim MODEL CERT`,
+/// `print MODEL`, `make` and `trial`. A plan requires `--horizon`, from 1 to 4,294,967,295, and may have `--nodes`,
+/// from 0 to 4,294,967,295 (by default 100,000), `--look`, from 1 to 16 (1), `--cert`, 1 or 2 (1), `--order`,
 /// `first`, `heavy` or `spread` (`first`), and `--no-merge`. A simulation requires `--seed`, from 0 to
-/// 2^64 - 1, and may have `--episodes`, from 1 to 10,000 (1). Numbers are in digits that do not begin
-/// with 0.
+/// 2^64 - 1, and may have `--episodes`, from 1 to 10,000 (1). `make` and `trial` require `--seed`, and `--agents`,
+/// `--states`, `--actions` and `--observations`, each from 1 to 65,536; `trial` requires `--horizon` besides, and may
+/// have `--nodes` and `--look`, as a plan. Numbers are in digits that do not begin with 0.
 pub fn read_words(alloc: Global, words: &[String]) -> Result<Job, WordFault>
     ensures read { IsReadAs (job_of (map string_bytes words.now)) result }
     ensures some_step { IfOk result HasSomeStep }
     ensures look { IfOk result HasLook }
     ensures version { IfOk result HasVersion }
+    ensures sizes { IfOk result HasSizes }
 {
     let given = parsed(alloc, words)?;
     matches_job(alloc, &given)

@@ -14,7 +14,13 @@ returns-in_default c = no_command (values_of c.args.given.now) (merging_off c.ar
           c.in_default.not-check,
           (
             c.in_default.not-show,
-            (c.in_default.not-sim, tt),
+            (
+              c.in_default.not-sim,
+              (
+                c.in_default.not-make,
+                (c.in_default.not-print, (c.in_default.not-trial, tt)),
+              ),
+            ),
           ),
         ),
       ),

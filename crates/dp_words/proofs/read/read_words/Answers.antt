@@ -1,6 +1,6 @@
 use Rattle.std.proofs.Common.{map, string_bytes}
 use Rattle.dp_words.proofs.Jobs.{fault_up, told_as}
-use Rattle.dp_words.proofs.Steps.{read_has, read_looks, read_version}
+use Rattle.dp_words.proofs.Steps.{read_has, read_looks, read_sizes, read_version}
 use Rattle.dp_words.proofs.read.read_words.Goals as goal
 
 pub returns-in_err-given : goal.returns-in_err-given
@@ -13,6 +13,7 @@ returns-in_err-given c =
       some_step = read_has words c.from_residual.result read;
       look = read_looks words c.from_residual.result read;
       version = read_version words c.from_residual.result read;
+      sizes = read_sizes words c.from_residual.result read;
     }
 
 pub returns : goal.returns
@@ -25,4 +26,5 @@ returns c =
       some_step = read_has words c.matches_job.result read;
       look = read_looks words c.matches_job.result read;
       version = read_version words c.matches_job.result read;
+      sizes = read_sizes words c.matches_job.result read;
     }
