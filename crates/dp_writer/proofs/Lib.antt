@@ -1,0 +1,19 @@
+pub mod Appending
+pub mod ShortestDigits
+pub mod DigitTexts
+pub mod RowCells
+pub mod RowTexts
+pub mod RewardTexts
+pub mod ListTexts
+pub mod WordTexts
+mod DrawnRewards
+mod DrawnRows
+mod JointSizes
+mod MadeModels
+mod TableLines
+mod MadeWritable
+pub mod RowNeeds
+pub mod ReadDecimals
+pub mod ReadFractions
+pub mod ReadRows
+pub mod ReadScales

@@ -1,0 +1,11 @@
+use Rattle.std.proofs.Common.{◌≡◌}
+use Rattle.std.specs.List.{flat_map, range_with_len}
+use Rattle.dp_writer.specs.LimitedTexts.{added}
+use Rattle.dp_writer.specs.WrittenLines.{lines_text}
+use Rattle.dp_writer.specs.WrittenModel.{reward_lines}
+use Rattle.dp_writer.proofs.rewards.push_of_action.Given as goal
+
+-- the lines so far
+abbrev pub invariant-loop-state : goal.invariant-loop-state
+invariant-loop-state l =
+    l.text ≡ added l.fn.text (lines_text (flat_map (reward_lines l.model.model l.action) (range_with_len 0 l.state)))

@@ -1,0 +1,12 @@
+use Rattle.std.proofs.Common.{◌≡◌}
+use Rattle.std.specs.List.{flat_map, range_with_len}
+use Rattle.dp_writer.specs.LimitedTexts.{added}
+use Rattle.dp_writer.specs.WrittenLines.{lines_text}
+use Rattle.dp_writer.specs.TableText.{chances_lines}
+use Rattle.dp_writer.proofs.table_rows.push_chances.Given as goal
+
+abbrev pub invariant-loop-action : goal.invariant-loop-action
+invariant-loop-action l =
+    l.text ≡ added l.fn.text (lines_text
+    (flat_map (λ a. flat_map (chances_lines l.model.model l.table a) (range_with_len 0 l.model.model.states))
+    (range_with_len 0 l.action)))

@@ -1,0 +1,11 @@
+use Rattle.std.proofs.Common.{◌≡◌}
+use Rattle.std.specs.List.{flat_map, range_with_len}
+use Rattle.dp_writer.specs.LimitedTexts.{added}
+use Rattle.dp_writer.specs.WrittenLines.{lines_text}
+use Rattle.dp_writer.specs.TableText.{chances_lines}
+use Rattle.dp_writer.proofs.table_rows.push_chances_of.Given as goal
+
+abbrev pub invariant-loop-state : goal.invariant-loop-state
+invariant-loop-state l =
+    l.text ≡ added l.fn.text (lines_text
+    (flat_map (chances_lines l.model.model l.table l.action) (range_with_len 0 l.state)))

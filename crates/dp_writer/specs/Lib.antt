@@ -1,0 +1,14 @@
+pub mod LimitedTexts
+pub mod WrittenNumbers
+pub mod WrittenLines
+pub mod ModelRows
+pub mod GivenLists
+pub mod ChanceRows
+pub mod WrittenModel
+pub mod Writable
+pub mod Draws
+pub mod MadeModel
+pub mod MadeSizes
+pub mod TableText
+pub mod NeededScales
+pub mod WriterLaws
