@@ -1,7 +1,7 @@
--- The ends of a valid certificate are at most 2^126 in magnitude.
+-- The ends of a valid certificate are at most 2^126 in magnitude, and so is its unit.
 use Rattle.std.proofs.Common.{◌≡◌, ℕ, zero, suc, ◌+◌, ◌-◌, ◌*◌, ◌^◌, ◌<◌, ◌≤◌, Bool, true, false, unsigned_abs, List}
 use Rattle.std.proofs.Common.{refl, sym, ap, subst, ◌∙◌, ⊎_elim, arith}
-use Rattle.std.specs.Prelude.{ℤ, ◌+ℤ◌, ◌≤ℤ◌}
+use Rattle.std.specs.Prelude.{ℤ, pos, ◌+ℤ◌, ◌≤ℤ◌}
 use Rattle.std.specs.Int.{int_min}
 use Rattle.std.proofs.Math.Nat.{le-mul_of_pos_right, mul-le-mul_right, pow-zero}
 use Rattle.std.proofs.lemmas.Int.{clamps, ints}
@@ -43,7 +43,7 @@ use Rattle.dp_laws.proofs.SizeLaws.{mode_can_refine, mode_can_update_weights}
 use Rattle.dp_laws.proofs.SizeSums.{abs_add, earned_size_le, int_sum_abs, reward_size_le, size_add, span_sum_size}
 use Rattle.dp_laws.proofs.SizeSums.{worth_size_le}
 use Rattle.dp_laws.proofs.ValidCertificates.{ends_in_order, lower_is_value}
-use Rattle.dp_cli.proofs.WorthSizes.{exact_worth_fits}
+use Rattle.dp_cli.proofs.WorthSizes.{exact_worth_fits, unit_fits}
 
 -- the horizon of a version has from 1 to 24 steps
 pub steps_within : (m : Model) (h version : ℕ) → IsWithinVersion m h version → (0 < h) × (h ≤ 24)
@@ -231,3 +231,11 @@ upper_fits m c is v =
     between : (low x high : ℤ) (n : ℕ) → unsigned_abs low ≤ n → unsigned_abs high ≤ n → low ≤ℤ x → x ≤ℤ high →
         unsigned_abs x ≤ n
     between low x high n a b p q = omega (arith, ints, a, b, p, q)
+
+-- ---- the unit
+
+pub units : (m : Model) → IsModel m → (c : Certificate) → IsValid m c → (pos 1 ≤ℤ c.unit) × (c.unit ≤ℤ pos (2 ^ 126))
+units m is c valid =
+    let u = unit_fits m is c.horizon (steps_within m c.horizon c.version valid.within).0 in
+    let unit = valid.unit in
+    (omega (arith, ints, u.0, unit), omega (arith, ints, u.1, unit))

@@ -27,10 +27,10 @@ use Rattle.dp_cli.specs.declared.status.Status.{Status}
 use Rattle.dp_cli.specs.declared.status.Status.TheVariants as statuses
 use Rattle.dp_cli.specs.Answer.{Answer, refused, done, GivesText, Stops}
 use Rattle.dp_cli.specs.Command.{Command, File, model_file}
-use Rattle.dp_cli.specs.ModelText.{model_fault}
+use Rattle.dp_cli.specs.ModelText.{model_fault, read_fault}
 use Rattle.dp_cli.specs.Put.{PutsAnswer}
 use Rattle.dp_cli.specs.Refusal.{fetch_refusal, model_refusal, most_bytes, word_refusal}
-use Rattle.dp_cli.specs.Run.{IsAnswerToFault, Answers, Replies, Runs}
+use Rattle.dp_cli.specs.Run.{IsAnswerToFault, Answers, Does, Replies, Runs}
 use Rattle.dp_cli.specs.Steps.{answer_of, FetchesFile, FetchesModel, PutsOutcome}
 use Rattle.dp_cli.proofs.Statuses.{fault_apart}
 
@@ -68,6 +68,14 @@ pub works_by : {command : Command} {texts : List (List ℕ)} {shelf : ShelfView}
 works_by (Ok text) h = Answers.works h.0 h.1
 works_by (Err refusal) h = stops_by refusal h
 
+-- a command that asks for no file answers what its code gives, and fetches nothing
+pub works_alone : {command : Command} (shelf : ShelfView) (result : Result (Vec ℕ Global) Refusal)
+    → command.files ≡ [] → GivesText (command.fault []) (λ text. command.IsText [] text) result
+    → Does command shelf shelf (answer_of result)
+works_alone {command} shelf result none h =
+    subst (λ (files : List File). Answers command files [] shelf shelf (answer_of result)) (sym none)
+    (works_by {command = command} {texts = []} {shelf = shelf} result h)
+
 -- a command that has been given its last file answers what its code gives of the bytes
 pub works_on : {command : Command} {texts : List (List ℕ)} {old new : ShelfView} {bytes : List ℕ} (file : File)
     (text : Vec ℕ Global) (result : Result (Vec ℕ Global) Refusal) → command.fault texts ≡ None
@@ -84,9 +92,9 @@ works_on {command} {texts} file text result fine fetched is h =
 -- A command whose first file is a model
 
 -- what is wrong with a file that means no model is so whatever may be wrong with a model
-stops_as : (after : Model → Option JobFault) (meant : Meaning) (refusal : Refusal)
+stops_as : (after : meant.ReadModel → Option JobFault) (meant : Meaning) (refusal : Refusal)
     → Stops (model_fault (λ m. None) meant) refusal
-    → Stops (model_fault after meant) refusal
+    → Stops (read_fault after meant) refusal
 stops_as after (FaultAt place why) refusal h = h
 stops_as after (Passes passed) refusal h = h
 stops_as after (Means read) refusals.Usage h = h
@@ -104,8 +112,8 @@ stops_reading bytes model_faults.Memory h = tt
 -- it answers why, where the file was not given or means no model
 pub lacks_model : {command : Command} {files : List File} {old new : ShelfView} (name : List ℕ)
     (refusal : Refusal)
-    (after : Model → Option JobFault) → command.fault [] ≡ None
-    → ((text : List ℕ) → command.fault (text ∷ []) ≡ model_fault after (meaning text))
+    (after : meant.ReadModel → Option JobFault) → command.fault [] ≡ None
+    → ((text : List ℕ) → command.fault (text ∷ []) ≡ read_fault after (meaning text))
     → FetchesModel old new name (Err refusal)
     → Answers command (model_file name ∷ files) [] old new (refused refusal)
 lacks_model name refusal after fine faults (inl fetched) = lacks_file (model_file name) refusal fine fetched
@@ -126,19 +134,28 @@ pub has_model : {command : Command} {files : List File} {old between new : Shelf
 has_model name read fine fetched rest =
     Answers.goes_on (model_file name) fetched.0 fine fetched.1 (rest fetched.0.items fetched.2)
 
--- What code gives of the model that a text means is what it gives of the text.
+-- What code gives of what is read of a text is what it gives of the text.
+pub gives_of_read : {read : meant.ReadModel} {Old New : List ℕ → Type 0} (text : List ℕ)
+    (fault : meant.ReadModel → Option JobFault)
+    (result : Result (Vec ℕ Global) Refusal) → meaning text ≡ Means read
+    → ((t : List ℕ) → Old t → New t)
+    → GivesText (fault read) Old result → GivesText (read_fault fault (meaning text)) New result
+gives_of_read text fault (Ok t) means to h = (
+  ap (λ (m : Meaning). read_fault fault m) means
+      ∙ h.0,
+  to t.items h.1,
+)
+gives_of_read text fault (Err refusal) means to h =
+    subst (λ (f : Option JobFault). Stops f refusal) (sym (ap (λ (m : Meaning). read_fault fault m) means)) h
+
+-- so is what it gives of the model
 pub gives_of_model : {read : meant.ReadModel} {Old New : List ℕ → Type 0} (text : List ℕ)
     (fault : Model → Option JobFault)
     (result : Result (Vec ℕ Global) Refusal) → meaning text ≡ Means read
     → ((t : List ℕ) → Old t → New t)
     → GivesText (fault read.model.model) Old result → GivesText (model_fault fault (meaning text)) New result
-gives_of_model text fault (Ok t) means to h = (
-  ap (λ (m : Meaning). model_fault fault m) means
-      ∙ h.0,
-  to t.items h.1,
-)
-gives_of_model text fault (Err refusal) means to h =
-    subst (λ (f : Option JobFault). Stops f refusal) (sym (ap (λ (m : Meaning). model_fault fault m) means)) h
+gives_of_model {read} {Old} {New} text fault result means to h =
+    gives_of_read {read = read} {Old = Old} {New = New} text (λ r. fault r.model.model) result means to h
 
 -- Memory may run out over each answer but that of a fetch that failed.
 or_memory : {command : Command} {files : List File} {texts : List (List ℕ)} {old new : ShelfView}

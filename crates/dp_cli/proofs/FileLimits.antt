@@ -17,7 +17,7 @@ use Rattle.dp_cli.specs.declared.refusal.FileRole.{FileRole}
 use Rattle.dp_cli.specs.declared.refusal.FileRole.TheVariants as roles
 use Rattle.dp_cli.specs.declared.refusal.JobFault.{JobFault}
 use Rattle.dp_cli.specs.declared.refusal.JobFault.TheVariants as job_faults
-use Rattle.dp_cli.specs.ModelText.{model_fault}
+use Rattle.dp_cli.specs.ModelText.{model_fault, read_fault}
 use Rattle.dp_cli.specs.Refusal.{role_limit}
 
 -- a limit on the bytes of a file
@@ -94,16 +94,24 @@ abbrev pub limit_told : Option JobFault → Option TooLarge
 limit_told (Some (job_faults.TooLarge passed)) = Some passed
 limit_told fault = None
 
--- what is wrong with the file of a model tells none of these limits, where what is wrong with its model does not
+-- what is wrong with the file of a model tells none of these limits, where what is wrong with what is read does not
+pub read_fault_is_other : (fault : ReadModel → Option JobFault)
+    → ((read : ReadModel) → IsOther (limit_told (fault read)))
+    → (bytes : List ℕ)
+    → IsOther (limit_told (read_fault fault (meaning bytes)))
+read_fault_is_other fault h bytes = by (meaning bytes) (meaning_is_other bytes)
+  where
+    by : (meant : Meaning) → IsOther (passes meant) → IsOther (limit_told (read_fault fault meant))
+    by (FaultAt place why) is = tt
+    by (Passes passed) is = is
+    by (Means read) is = h read
+
+-- the same, where it is the model alone
 pub model_fault_is_other : (fault : Model → Option JobFault) → ((m : Model) → IsOther (limit_told (fault m)))
     → (bytes : List ℕ)
     → IsOther (limit_told (model_fault fault (meaning bytes)))
-model_fault_is_other fault h bytes = by (meaning bytes) (meaning_is_other bytes)
-  where
-    by : (meant : Meaning) → IsOther (passes meant) → IsOther (limit_told (model_fault fault meant))
-    by (FaultAt place why) is = tt
-    by (Passes passed) is = is
-    by (Means read) is = h read.model.model
+model_fault_is_other fault h bytes =
+    read_fault_is_other (λ read. fault read.model.model) (λ read. h read.model.model) bytes
 
 -- no limit that is told so is that of a file of any role
 pub of_no_role : (fault : Option JobFault) → IsOther (limit_told fault) → (passed : TooLarge) (role : FileRole)

@@ -28,3 +28,10 @@ mod FirstGreatest
 mod NoPlaces
 mod RuledPlans
 mod PlanTexts
+mod MadeLimits
+mod MakeIsSound
+mod PrintIsSound
+mod ProvedPlans
+mod TrialIsSound
+mod MadeTexts
+mod WrittenFaults

@@ -32,7 +32,8 @@ none_of_more None more none = refl
 
 -- what is written of a certificate that was planned is a plan
 pub plan_written : (m : Model) (job : PlanJob) (fit : Fit) (c : Certificate) (bytes : List ℕ) → IsModel m
-    → None ≡ first_passed (plan_limits m job) → fit ≡ fit_of m job.horizon → CanPlan m fit (options_for job)
+    → None ≡ first_passed (plan_limits m job.version job.horizon job.nodes) → fit ≡ fit_of m job.horizon
+    → CanPlan m fit (options_for job)
     → IsPlanned m (order_rule job.order) fit.horizon (options_of job) c
     → (IsCertificateOf m c → IsCertificateText m bytes c) → IsPlanOf m job bytes
 plan_written m job fit c bytes is none fits can plan written = record {

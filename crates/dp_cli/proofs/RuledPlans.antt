@@ -42,6 +42,24 @@ module _ {P Q : Type 0} (told : P → Q) (size : P → ℤ) (told_size : Q → �
         (subst (λ (z : ℤ). size at.0 <ℤ z) (same first.item) (first.first y at.0 lt at.1));
   }
 
+  pub greatest_untold : (x : ℕ) → IsFirstGreatest told_size (map told items) x → IsFirstGreatest size items x
+  greatest_untold x first = let at = told_at x first.item first.is in
+      let top : size at.0 ≡ told_size first.item = same at.0 ∙ ap told_size at.2 in
+      let there = λ (y : ℕ) (other : P) (e : slice_get items y ≡ Some other).
+      (slice_get-map told items y ∙ ap (option_map told) e) in
+      record {
+        item = at.0;
+        is = at.1;
+        greatest = λ y other e.
+            subst (λ (z : ℤ). z ≤ℤ size at.0) (sym (same other))
+            (subst (λ (z : ℤ). told_size (told other) ≤ℤ z) (sym top)
+            (first.greatest y (told other) (there y other e)));
+        first = λ y other lt e.
+            subst (λ (z : ℤ). z <ℤ size at.0) (sym (same other))
+            (subst (λ (z : ℤ). told_size (told other) <ℤ z) (sym top)
+            (first.first y (told other) lt (there y other e)));
+      }
+
 -- ---- a rule that allows as much
 
 module _ (m : Model) (May Also : List Place → ℕ → Type 0)

@@ -1,9 +1,6 @@
 -- The text of episodes.
 use Rattle.std.specs.Prelude.{ℕ, zero, suc, ◌+◌, ◌*◌, List, [], ◌∷◌, ◌++◌, codes}
-use Rattle.rand_core.specs.Steps.{steps_u64_low, stream_of}
 use Rattle.rand_core.specs.Stream.{Stream}
-use Rattle.rand_pcg.specs.Lcg.{increment_of, started}
-use Rattle.rand_pcg.specs.Pcg.{multiplier_128, pcg64}
 use Rattle.dp_spec.specs.Model.{Model}
 use Rattle.dp_spec.specs.PolicyTree.{PolicyTree}
 use Rattle.dp_sim.specs.declared.step.SimStep.{SimStep}
@@ -42,7 +39,3 @@ episodes_text m h qs number zero stream = []
 episodes_text m h qs number (suc left) stream =
     episode_text number (episode_drawn m h qs (words_of (1 + 2 * h) stream))
     ++ episodes_text m h qs (suc number) left (left_after (1 + 2 * h) stream)
-
--- the words of a seed: those of the generator PCG XSL RR 128/64 from that state, in its stream 0 (O'Neill 2014)
-abbrev pub seed_stream : ℕ → Stream
-seed_stream seed = stream_of (steps_u64_low pcg64) (started 128 multiplier_128 seed (increment_of 128 0))

@@ -6,11 +6,14 @@ pub mod CheckCommand
 pub mod Command
 pub mod Commands
 pub mod EpisodeTexts
+pub mod MadeJobs
+pub mod MakeCommand
 pub mod ModelText
 pub mod NumberTexts
 pub mod Orders
 pub mod PlanCommand
 pub mod Planned
+pub mod PrintCommand
 pub mod Put
 pub mod ReasonLines
 pub mod Refusal
@@ -20,4 +23,5 @@ pub mod ShownPolicies
 pub mod SimCommand
 pub mod Status
 pub mod Steps
+pub mod TrialCommand
 pub mod ValueCommand

@@ -28,16 +28,17 @@ use Rattle.dp_cli.specs.Orders.{order_rule}
 
 -- the limits that a plan may pass, in order: those of its horizon in its version, that of its budget of branches and
 -- merges, and that of the nodes of a tree of so many
-abbrev pub plan_limits : Model → PlanJob → List (Option TooLarge)
-plan_limits m job =
-    horizon_passed m job.version job.horizon
-    ∷ passed_by Nodes job.nodes
-    ∷ passed_by TreeNodes (job.nodes * widest m.actions)
-    ∷ []
+abbrev pub plan_limits : Model → ℕ → ℕ → ℕ → List (Option TooLarge)
+plan_limits m version h nodes =
+    horizon_passed m version h ∷ passed_by Nodes nodes ∷ passed_by TreeNodes (nodes * widest m.actions) ∷ []
+
+-- what is wrong where a limit is passed
+abbrev pub large_fault : Option TooLarge → Option JobFault
+large_fault tried = option_map (λ passed. job_faults.TooLarge passed) tried
 
 -- why a model is not planned for
 abbrev pub limits_fault : PlanJob → Model → Option JobFault
-limits_fault job m = option_map (λ passed. job_faults.TooLarge passed) (first_passed (plan_limits m job))
+limits_fault job m = large_fault (first_passed (plan_limits m job.version job.horizon job.nodes))
 
 -- why a file that means that is not planned for
 abbrev pub plan_fault : PlanJob → Meaning → Option JobFault

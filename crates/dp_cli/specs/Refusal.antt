@@ -18,6 +18,8 @@ use Rattle.dp_reader.specs.declared.fault.ModelFault.{ModelFault}
 use Rattle.dp_reader.specs.declared.fault.ModelFault.TheVariants as model_faults
 use Rattle.dp_words.specs.declared.job.WordFault.{WordFault}
 use Rattle.dp_words.specs.declared.job.WordFault.TheVariants as word_faults
+use Rattle.dp_writer.specs.declared.fault.MakeFault.{MakeFault}
+use Rattle.dp_writer.specs.declared.fault.MakeFault.TheVariants as made_faults
 use Rattle.dp_cli.specs.declared.refusal.FileRole.{FileRole}
 use Rattle.dp_cli.specs.declared.refusal.FileRole.TheVariants.{Model, Second}
 use Rattle.dp_cli.specs.declared.refusal.JobFault.{JobFault}
@@ -69,6 +71,11 @@ abbrev pub certificate_refusal : CertFault → Refusal
 certificate_refusal (certificate_faults.At line why) = refusals.Fault (job_faults.BadFile line why)
 certificate_refusal (certificate_faults.TooLarge passed) = refusals.Fault (job_faults.TooLarge passed)
 certificate_refusal certificate_faults.Memory = refusals.Memory
+
+-- a model that was not made, or whose text was not written
+abbrev pub made_refusal : MakeFault → Refusal
+made_refusal (made_faults.TooLarge passed) = refusals.Fault (job_faults.TooLarge passed)
+made_refusal made_faults.Memory = refusals.Memory
 
 -- the exit status of what is wrong with the texts of a job
 abbrev pub fault_status : JobFault → Status

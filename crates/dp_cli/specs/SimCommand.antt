@@ -7,11 +7,12 @@ use Rattle.dp_spec.specs.PolicyTree.{IsPolicyOf}
 use Rattle.dp_spec.specs.SharedPolicy.{unfolded}
 use Rattle.dp_meaning.specs.Meaning.{Means, ReadModel, meaning}
 use Rattle.dp_words.specs.declared.job.SimJob.{SimJob}
+use Rattle.dp_writer.specs.Draws.{seed_stream}
 use Rattle.dp_cli.specs.declared.refusal.FileRole.TheVariants as roles
 use Rattle.dp_cli.specs.declared.refusal.JobFault.{JobFault}
 use Rattle.dp_cli.specs.CertificateFile.{certificate_or}
 use Rattle.dp_cli.specs.Command.{Command, model_file}
-use Rattle.dp_cli.specs.EpisodeTexts.{episodes_text, seed_stream}
+use Rattle.dp_cli.specs.EpisodeTexts.{episodes_text}
 use Rattle.dp_cli.specs.ModelText.{model_fault}
 
 -- ---- what may be wrong

@@ -2,7 +2,8 @@
 ghost use Rattle.std.specs.Prelude.{◌≡◌, ◌++◌, IfOk, OnOk};
 ghost use Rattle.dp_spec.specs.SharedPolicy.{IsSharedOf, unfolded};
 ghost use Rattle.dp_sim.specs.Acting.{AnswerPolicy};
-ghost use Rattle.dp_cli.specs.EpisodeTexts.{episode_text, episodes_text, seed_stream, step_text, steps_text};
+ghost use Rattle.dp_writer.specs.Draws.{seed_stream};
+ghost use Rattle.dp_cli.specs.EpisodeTexts.{episode_text, episodes_text, step_text, steps_text};
 
 use crate::number::{push_number, push_signed};
 use dp_base::Memory;

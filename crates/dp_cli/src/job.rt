@@ -1,14 +1,17 @@
 // What a job answers.
 ghost use Rattle.std.specs.Prelude.{Some, map, string_bytes};
-ghost use Rattle.dp_words.specs.Words.{HasLook, HasSomeStep, HasVersion, job_of};
+ghost use Rattle.dp_words.specs.Words.{HasLook, HasSizes, HasSomeStep, HasVersion, job_of};
 ghost use Rattle.dp_cli.specs.Run.{Replies};
 ghost use Rattle.dp_cli.specs.Steps.{answer_of};
 
 use crate::Refusal;
 use crate::check::check;
+use crate::make::make;
 use crate::plan::plan;
+use crate::print::print;
 use crate::show::show;
 use crate::sim::sim;
+use crate::trial::trial;
 use crate::value::value;
 use dp_io::Shelf;
 use dp_words::{Job, read_words};
@@ -31,6 +34,7 @@ fn do_job<S: Shelf>(alloc: Global, job: &Job, shelf: &mut S) -> Result<Vec<u8>, 
     requires some_step { HasSomeStep job.now }
     requires look { HasLook job.now }
     requires version { HasVersion job.now }
+    requires sizes { HasSizes job.now }
     ensures { Replies (Some job.now) (S.view shelf.old) (S.view shelf.new) (answer_of result) }
 {
     match job {
@@ -39,5 +43,8 @@ fn do_job<S: Shelf>(alloc: Global, job: &Job, shelf: &mut S) -> Result<Vec<u8>, 
         Job::Check(job) => check(alloc, job, shelf),
         Job::Show(job) => show(alloc, job, shelf),
         Job::Sim(job) => sim(alloc, job, shelf),
+        Job::Make(job) => make(alloc, job),
+        Job::Print(job) => print(alloc, job, shelf),
+        Job::Trial(job) => trial(alloc, job),
     }
 }

@@ -13,9 +13,11 @@ mod check;
 mod episodes;
 mod fetch;
 mod job;
+mod make;
 mod number;
 mod orders;
 mod plan;
+mod print;
 mod put;
 mod reason;
 mod refusal;
@@ -23,6 +25,7 @@ mod show;
 mod shown;
 mod sim;
 mod status;
+mod trial;
 mod value;
 
 use dp_io::{Shelf, Sink};
@@ -63,7 +66,9 @@ pub fn run<S: Shelf, W: Sink>(alloc: Global, words: &[String], shelf: &mut S, ou
     // model of the first, and the text has a line for each agent and own history, with the names of what was
     // seen and of the action that the policy does after it. Of `sim`: the bytes of the second file are such a
     // text, and the text tells the episodes of its policy in the model, one after the other by the words of
-    // the seed.
+    // the seed. Of `print`: the text tells the tables of the model of the file. Of `make`: the text is that of the
+    // model which is made of the sizes by the words of the seed. Of `trial`: the text tells what a certificate
+    // states that keeps all promises of a plan for this model.
     ensures certified { result ≡ Status.Done → IsCertified (job_of (map string_bytes words.now))
         (S.view shelf.old) (S.view shelf.new) (W.view out.old) (W.view out.new) }
 

@@ -1,5 +1,5 @@
 // The command `plan`.
-ghost use Rattle.std.specs.Prelude.{◌≡◌, ◌⊎◌, ◌<◌, ◌≤◌, IfOk, OnOk, length, pos};
+ghost use Rattle.std.specs.Prelude.{◌≡◌, ◌⊎◌, ◌<◌, ◌≤◌, ℕ, Bool, IfOk, OnOk, length, pos};
 ghost use Rattle.std.specs.Result.{result_err};
 ghost use Rattle.dp_spec.specs.Mode.{IsWithinVersion};
 ghost use Rattle.dp_spec.specs.Promises.{IsPlanned};
@@ -44,24 +44,31 @@ fn plan_model(alloc: Global, job: &PlanJob, model: &Model) -> Result<Vec<u8>, Re
     ensures { PlansModel job.now model.now.model result }
 {
     model.invariant();
-    let fit = fit_of_job(model, job)?;
+    let fit = fit_within_limits(model, job.version, job.horizon, job.nodes)?;
     let certificate = planned(alloc, job, model, fit)?;
     Ok(write_cert(alloc, &certificate)?)
 }
 
-// The mode and the unit of the horizon of a job, or the first limit that the job passes.
-fn fit_of_job(model: &Model, job: &PlanJob) -> Result<Fit, TooLarge>
-    requires some_step { 1 ≤ job.now.horizon }
-    requires version { (job.now.version ≡ 1) ⊎ (job.now.version ≡ 2) }
-    ensures passed { result_err result ≡ first_passed (plan_limits model.now.model job.now) }
-    ensures fit { IfOk result (λ fit. fit ≡ fit_of model.now.model job.now.horizon) }
-    ensures can { IfOk result (λ fit. 1 ≤ job.now.look → job.now.look ≤ 16 →
-        CanPlan model.now.model fit (options_for job.now)) }
+// The mode and the unit of a horizon, or the first limit that it passes in a version of certificates, or that the
+// budget of branches and merges does.
+pub(crate) fn fit_within_limits(
+    model: &Model,
+    version: u32,
+    horizon: u32,
+    nodes: u32,
+) -> Result<Fit, TooLarge>
+    requires some_step { 1 ≤ horizon }
+    requires version { (version ≡ 1) ⊎ (version ≡ 2) }
+    ensures passed { result_err result ≡ first_passed (plan_limits model.now.model version horizon nodes) }
+    ensures fit { IfOk result (λ fit. fit ≡ fit_of model.now.model horizon) }
+    ensures can { IfOk result (λ fit. (look : ℕ) (merge : Bool) → 1 ≤ look → look ≤ 16 →
+        CanPlan model.now.model fit
+        (record { version = version; nodes = nodes; look = look; merge = merge })) }
 {
-    let fit = fit_of_version(model, job.version, job.horizon)?;
-    let nodes = u128::from(job.nodes);
-    Limit::Nodes.check(nodes)?;
-    Limit::TreeNodes.check(nodes * u128::from(widest(model)))?;
+    let fit = fit_of_version(model, version, horizon)?;
+    let budget = u128::from(nodes);
+    Limit::Nodes.check(budget)?;
+    Limit::TreeNodes.check(budget * u128::from(widest(model)))?;
     Ok(fit)
 }
 
@@ -101,7 +108,7 @@ fn planned(alloc: Global, job: &PlanJob, model: &Model, fit: Fit) -> Result<Cert
 }
 
 // The certificate of a plan that branches on the first place.
-fn planned_by_number(
+pub(crate) fn planned_by_number(
     alloc: Global,
     model: &Model,
     fit: Fit,
@@ -111,7 +118,7 @@ fn planned_by_number(
     ensures { IfOk result (λ c. IsPlanned model.now.model (order_rule OrderWord.First) fit.horizon
         (asked_for options) (certificate_of c)) }
 {
-    let rule = Chooser::new(
+    let rule = Chooser::without_spreads(
         |_: &[Place]|
             ensures { result ≡ 0 }
         { 0 },
@@ -130,7 +137,7 @@ fn planned_by_weight(
     ensures { IfOk result (λ c. IsPlanned model.now.model (order_rule OrderWord.Heavy) fit.horizon
         (asked_for options) (certificate_of c)) }
 {
-    let rule = Chooser::new(
+    let rule = Chooser::without_spreads(
         |places: &[Place]|
             requires { 0 < length places.now }
             ensures { IsFirstGreatest (λ p. p.weight) places.now result }

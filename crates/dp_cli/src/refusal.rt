@@ -12,6 +12,7 @@ use dp_model::{Limit, TooLarge};
 use dp_policy::PolicyFault;
 use dp_reader::ModelFault;
 use dp_words::WordFault;
+use dp_writer::MakeFault;
 
 /// What a file is to the job that asks for it.
 #[derive(Clone, Copy, Debug, PartialEq, Eq)]
@@ -109,6 +110,19 @@ impl From<CertFault> for Refusal {
             CertFault::At { line, why } => Refusal::Fault(JobFault::BadFile { line, why }),
             CertFault::TooLarge(passed) => Refusal::Fault(JobFault::TooLarge(passed)),
             CertFault::Memory => Refusal::Memory,
+        }
+    }
+}
+
+impl From<MakeFault> for Refusal {
+    ghost use Rattle.dp_cli.specs.Refusal.{made_refusal};
+
+    ghost from_gives = { λ fault refusal. refusal ≡ made_refusal fault };
+
+    fn from(fault: MakeFault) -> Refusal {
+        match fault {
+            MakeFault::TooLarge(passed) => Refusal::Fault(JobFault::TooLarge(passed)),
+            MakeFault::Memory => Refusal::Memory,
         }
     }
 }

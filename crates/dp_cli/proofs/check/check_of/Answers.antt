@@ -1,15 +1,9 @@
-use Rattle.std.proofs.Common.{◌^◌, arith}
-use Rattle.std.specs.Prelude.{pos, ◌≤ℤ◌}
-use Rattle.std.proofs.lemmas.Int.{ints}
 use Rattle.std.proofs.lemmas.Result.{err_from_is_err_and}
-use Rattle.dp_spec.specs.Certificate.{Certificate, IsValid}
-use Rattle.dp_spec.specs.Model.{IsModel, Model}
 use Rattle.dp_cert.specs.CertificateValue.{certificate_of}
 use Rattle.dp_cli.specs.CheckCommand.{reason_fault}
-use Rattle.dp_cli.proofs.CertificateSizes.{lower_fits, steps_within, upper_fits}
+use Rattle.dp_cli.proofs.CertificateSizes.{lower_fits, units, upper_fits}
 use Rattle.dp_cli.proofs.CertificateReading.{stops_reading}
 use Rattle.dp_cli.proofs.Checks.{accepted_is, rejected_is}
-use Rattle.dp_cli.proofs.WorthSizes.{unit_fits}
 use Rattle.dp_cli.proofs.check.check_of.Goals as goal
 
 pub returns-in_err-cert : goal.returns-in_err-cert
@@ -28,14 +22,6 @@ returns-in-Rejected c =
     (rejected_is c.args.read.now.model.model c.invariant.ensures.model c.args.bytes.now
     (certificate_of c.in_ok-cert.cert)
     c.in-Rejected.reason c.in_ok-cert.ensures.answers first)
-
--- the unit of a valid certificate
-units : (m : Model) → IsModel m → (cert : Certificate) → IsValid m cert
-    → (pos 1 ≤ℤ cert.unit) × (cert.unit ≤ℤ pos (2 ^ 126))
-units m is cert valid =
-    let u = unit_fits m is cert.horizon (steps_within m cert.horizon cert.version valid.within).0 in
-    let unit = valid.unit in
-    (omega (arith, ints, u.0, unit), omega (arith, ints, u.1, unit))
 
 pub accepted_text-requires-clause-lower : goal.accepted_text-requires-clause-lower
 accepted_text-requires-clause-lower c =

@@ -9,7 +9,7 @@ pub returns-in_err-read : goal.returns-in_err-read
 returns-in_err-read g c =
     let exit = err_from_is_err_and c.from_residual.result c.from_residual.ensures.1 in
     rw (exit.1, exit.2)
-    (lacks_model _ c.in_err-read.field-0.0 (limits_fault c.args.job.now) refl (λ text. refl)
+    (lacks_model _ c.in_err-read.field-0.0 (λ read. limits_fault c.args.job.now read.model.model) refl (λ text. refl)
     c.in_err-read.ensures)
 
 pub returns : goal.returns

@@ -10,7 +10,7 @@ returns c =
     let m = c.args.model.now.model in
     let job = c.args.job.now in
     let fit = c.in_ok-fit.fit in
-    let can = c.in_ok-fit.ensures.can c.requires.look.0 c.requires.look.1 in (
+    let can = c.in_ok-fit.ensures.can job.look job.merge c.requires.look.0 c.requires.look.1 in (
       ap (option_map (λ passed. job_faults.TooLarge passed)) (sym c.in_ok-fit.ensures.passed),
       plan_written m job fit (certificate_of c.in_ok-certificate.certificate) _ c.invariant.ensures.model
           c.in_ok-fit.ensures.passed c.in_ok-fit.ensures.fit can

@@ -3,7 +3,8 @@ use Rattle.std.proofs.lemmas.Result.{err_from_is_err_and}
 use Rattle.dp_spec.specs.SharedPolicy.{IsSharedOf, unfolded}
 use Rattle.dp_laws.proofs.SharedTrees.{unfolded_is_policy}
 use Rattle.dp_cert.specs.CertificateValue.{certificate_of}
-use Rattle.dp_cli.specs.EpisodeTexts.{episodes_text, seed_stream}
+use Rattle.dp_writer.specs.Draws.{seed_stream}
+use Rattle.dp_cli.specs.EpisodeTexts.{episodes_text}
 use Rattle.dp_cli.proofs.ActorsOfRows.{kept_horizon}
 use Rattle.dp_cli.proofs.CertificateReading.{certificate_read, stops_reading}
 use Rattle.dp_cli.proofs.sim.sim_of.Goals as goal
