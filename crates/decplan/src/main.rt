@@ -3,6 +3,8 @@
 
 mod shelf;
 mod sink;
+#[cfg(test)]
+mod tests;
 
 use dp_cli::{Status, run};
 use shelf::HostShelf;
