@@ -76,6 +76,10 @@ tried check "$models/tiger.dpomdp" "$root/certificates/tiger-2.cert"
 tried value "$models/tiger.dpomdp" "$root/policies/tiger-3.policy"
 tried show "$models/tiger.dpomdp" "$root/certificates/tiger-2.cert"
 tried sim "$models/tiger.dpomdp" "$root/certificates/tiger-2.cert" --seed 7
+tried print "$models/tiger.dpomdp"
+tried make --seed 7 --agents 2 --states 3 --actions 2 --observations 2
+tried trial --seed 1 --agents 2 --states 1 --actions 1 --observations 1 --horizon 1
+tried trial --seed 7 --agents 2 --states 3 --actions 2 --observations 2 --horizon 2
 
 echo "$passed passed, $failed failed"
 [ "$failed" = 0 ]

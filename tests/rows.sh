@@ -26,9 +26,9 @@ judge() {
     fi
 }
 
-for model in "$root"/models/*.dpomdp; do
-    cmp -s "$model" "$data/models/$(basename "$model")"
-    judge "the rows' copy of $(basename "$model")" $?
+for copy in "$data"/models/*.dpomdp; do
+    cmp -s "$copy" "$root/models/$(basename "$copy")"
+    judge "the rows' copy of $(basename "$copy")" $?
 done
 
 # refuses NAME LINE WHY: the rows on standard input are refused at this line, and nothing else is printed.
