@@ -10,7 +10,7 @@ mod shape;
 mod significand;
 
 pub use decimal::{Decimal, NumFault, read_decimal};
-pub use divisor::{gcd, lcm, least_common_multiple};
+pub use divisor::{gcd, lcm, least_common_multiple, quotient};
 pub use memory::Memory;
 pub use rounding::{mul_down, mul_up};
 pub use shape::{is_decimal, is_index};
