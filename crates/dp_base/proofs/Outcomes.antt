@@ -83,7 +83,7 @@ shortest_form negative v (suc down) =
 -- ---- the number that is written
 
 -- the sign of a product
-signed-mul : (negative : Bool) (a b : ℕ) → (signed negative a *ℤ pos b) ≡ signed negative (a * b)
+pub signed-mul : (negative : Bool) (a b : ℕ) → (signed negative a *ℤ pos b) ≡ signed negative (a * b)
 signed-mul false a b = refl
 signed-mul true zero b = let e : 0 * b ≡ 0 = omega arith in rw e refl
 signed-mul true (suc a) b = refl

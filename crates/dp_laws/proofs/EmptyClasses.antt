@@ -9,14 +9,14 @@ use Rattle.dp_base.proofs.NaturalSumLaws.{nat_sum_none}
 use Rattle.dp_laws.proofs.HistorySums.{nat_history_sum_none, nat_history_sum_of_none}
 
 -- where the weights of all states are 0 each of them is
-none_at : (b t : Bool) (n : ℕ) (w : ℕ → ℕ) (s : ℕ) → s < n → cond t (nat_sum n w) 0 ≡ 0
+pub none_at : (b t : Bool) (n : ℕ) (w : ℕ → ℕ) (s : ℕ) → s < n → cond t (nat_sum n w) 0 ≡ 0
     → cond b (cond t (w s) 0) 0 ≡ 0
 none_at true true n w s p e = nat_sum_none n w e s p
 none_at true false n w s p e = refl
 none_at false t n w s p e = refl
 
 -- a class of total 0 has no weight anywhere
-no_weight : (m : Model) (F : Front) (i c x s : ℕ) → class_total m F i c ≡ 0 → s < m.states
+pub no_weight : (m : Model) (F : Front) (i c x s : ℕ) → class_total m F i c ≡ 0 → s < m.states
     → place_weight m F i c x s ≡ 0
 unfolding class_total place_weight
 no_weight m F i c x s e p =

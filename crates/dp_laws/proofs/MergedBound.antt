@@ -29,7 +29,7 @@ swap_last : (x y z w : ℤ) → z ≡ w → (x +ℤ y) +ℤ z ≡ (x +ℤ w) +�
 swap_last x y z w e = omega (arith, ints)
 
 -- a sum without place b, and that place
-int_sum_skip : (k b : ℕ) (g : ℕ → ℤ) → b ≤ k → int_sum (suc k) g ≡ int_sum k (λ c. g (kept_class b c)) +ℤ g b
+pub int_sum_skip : (k b : ℕ) (g : ℕ → ℤ) → b ≤ k → int_sum (suc k) g ≡ int_sum k (λ c. g (kept_class b c)) +ℤ g b
 int_sum_skip zero b g h = let e : zero ≡ b = omega arith in ap (λ z. pos 0 +ℤ g z) e
 int_sum_skip (suc k) b g h =
     elim (cases_lt k b) [

@@ -16,7 +16,7 @@ use Rattle.dp_spec.specs.Calls.{Calls, size}
 use Rattle.dp_spec.specs.SizesOfTable.{table_reward_size}
 use Rattle.dp_base.proofs.Ring.{v, ◌⊕◌, ◌⊗◌, by_ring}
 use Rattle.dp_mdp.specs.Building.{AllowsLastRewards, AllowsRow, AreLastRewards, IsPower, IsTabulating}
-use Rattle.dp_mdp.specs.Links.{AreLinksOf}
+use Rattle.dp_links.specs.Links.{AreLinksOf}
 use Rattle.dp_mdp.specs.TableRows.{IsRow, IsTable, KeptTable}
 use Rattle.dp_mdp.specs.StepRewards.{arrival_reward, reward_part, state_reward}
 

@@ -1,5 +1,4 @@
 pub mod Growth
-pub mod LinkSums
 pub mod Modes
 pub mod RunningSums
 pub mod StepParts

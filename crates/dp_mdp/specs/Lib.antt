@@ -1,4 +1,3 @@
 pub mod Building
-pub mod Links
 pub mod StepRewards
 pub mod TableRows

@@ -8,7 +8,7 @@ use Rattle.dp_spec.specs.Arithmetic.{Arithmetic}
 use Rattle.dp_spec.specs.Enclosure.{enclosure}
 use Rattle.dp_spec.specs.Quantities.{mdp_table_in}
 use Rattle.dp_mdp.specs.Building.{AreLastRewards, IsPower}
-use Rattle.dp_mdp.specs.Links.{AreLinksOf, LinkLists}
+use Rattle.dp_links.specs.Links.{AreLinksOf, LinkLists}
 
 -- the value over r steps from state s
 abbrev pub value_at : List (List ℤ) → ℕ → ℕ → ℤ

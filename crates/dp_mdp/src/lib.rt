@@ -2,7 +2,6 @@
 #![tactic(auto)]
 
 mod build;
-mod links;
 mod step_reward;
 mod table;
 

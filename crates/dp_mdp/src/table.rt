@@ -4,12 +4,12 @@ ghost use Rattle.dp_spec.specs.Arithmetic.{arithmetic};
 ghost use Rattle.dp_spec.specs.Mode.{IsTrueFit};
 ghost use Rattle.dp_spec.specs.Model.{joint_actions};
 ghost use Rattle.dp_mdp.specs.Building.{IsTabulating};
-ghost use Rattle.dp_mdp.specs.Links.{AreLinksOf, linked};
+ghost use Rattle.dp_links.specs.Links.{AreLinksOf, linked};
 ghost use Rattle.dp_mdp.specs.TableRows.{BoundsEachValue, IsTable, value_at};
 
 use crate::build::{last_rewards, powers_of, rows_in};
-use crate::links::Links;
 use dp_base::Memory;
+use dp_links::Links;
 use dp_model::{Fit, Model, Sequence};
 use dp_num::{Arith, Exact, Outward};
 use std::alloc::Global;

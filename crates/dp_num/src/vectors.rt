@@ -2,7 +2,7 @@
 ghost use Rattle.std.specs.Prelude.{◌≡◌, ℕ, ◌/◌, ◌<◌, List, map, pos, unsigned_abs};
 ghost use Rattle.dp_spec.specs.Primitive.{IsGcdOf, IsPrimitiveOf};
 
-use dp_base::gcd;
+use dp_base::{gcd, quotient};
 
 /// Divides each of the numbers, which are at least 0, by the greatest common divisor of all, where that
 /// is above 0. It takes no memory.
@@ -14,7 +14,7 @@ pub fn primitive(values: &mut [i128])
     let common = common_divisor(values);
     if common > 1 {
         for at in 0..values.len() {
-            values[at] = quotient(values[at], common);
+            values[at] = divided(values[at], common);
         }
     }
 }
@@ -35,9 +35,9 @@ fn common_divisor(values: &[i128]) -> u128
 
 // A number, which is at least 0, divided by another.
 #[inline]
-fn quotient(value: i128, divisor: u128) -> i128
+fn divided(value: i128, divisor: u128) -> i128
     requires { 1 < divisor }
     ensures { result ≡ pos (unsigned_abs value / divisor) }
 {
-    (value.unsigned_abs() / divisor) as i128
+    quotient(value.unsigned_abs(), divisor) as i128
 }

@@ -11,8 +11,8 @@ use Rattle.dp_spec.specs.Quantities.{span_sum, weights_after_in}
 use Rattle.dp_spec.specs.Zeros.{KeepsZero, nothing}
 use Rattle.dp_laws.proofs.SizeSums.{span_sum_part}
 use Rattle.dp_laws.proofs.SpanSums.{span_sum_none}
-use Rattle.dp_mdp.specs.Links.{linked, step_chance}
-use Rattle.dp_mdp.proofs.LinkSums.{at_item, those_below, those_count, those_sum}
+use Rattle.dp_links.specs.Links.{linked, step_chance}
+use Rattle.dp_links.proofs.LinkSums.{at_item, those_below, those_count, those_sum}
 use Rattle.dp_pomdp.specs.Looking.{IsBeforeHorizon, IsLooking, updated_part, weights_of}
 
 -- ---- what adds nothing

@@ -6,7 +6,7 @@ ghost use Rattle.dp_spec.specs.Mode.{IsTrueFit};
 ghost use Rattle.dp_spec.specs.Model.{joint_actions, joint_observations, start_at};
 ghost use Rattle.dp_spec.specs.Quantities.{weights_after_in};
 ghost use Rattle.dp_spec.specs.Sizes.{AreWeights};
-ghost use Rattle.dp_mdp.specs.Links.{AreLinksOf};
+ghost use Rattle.dp_links.specs.Links.{AreLinksOf};
 ghost use Rattle.dp_pomdp.specs.Keys.{AreKeyWeights, keys_below, no_key_weights, pairs_of, start_weights};
 ghost use Rattle.dp_pomdp.specs.Looking.{weights_of};
 

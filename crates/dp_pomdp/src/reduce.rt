@@ -5,7 +5,7 @@ ghost use Rattle.dp_spec.specs.Arithmetic.{point};
 ghost use Rattle.dp_pomdp.specs.Looking.{weights_of};
 ghost use Rattle.dp_pomdp.specs.Multiples.{AreNumbers, AreTimes, IsDivisorOf};
 
-use dp_base::{Memory, gcd};
+use dp_base::{Memory, gcd, quotient};
 use dp_spec::Span;
 
 /// In exact mode weights with a look of at least 2 are divided by their greatest common divisor, which
@@ -63,17 +63,17 @@ fn divide(weights: &mut [Span], common: u128)
     ensures { AreTimes common weights.new weights.old }
 {
     for at in 0..weights.len() {
-        weights[at] = quotient(weights[at], common);
+        weights[at] = divided(weights[at], common);
     }
 }
 
 // One number divided by another.
 #[inline]
-fn quotient(weight: Span, common: u128) -> Span
+fn divided(weight: Span, common: u128) -> Span
     requires some { 1 < common }
     ensures { result ≡ point (pos (unsigned_abs weight.high / common)) }
 {
-    let number = (weight.high.unsigned_abs() / common) as i128;
+    let number = quotient(weight.high.unsigned_abs(), common) as i128;
     Span {
         low: number,
         high: number,

@@ -3,7 +3,7 @@ ghost use Rattle.std.specs.Prelude.{◌≡◌, ◌<◌, ◌≤◌, ◌^◌, ◌*
 ghost use Rattle.dp_base.specs.Sums.{int_sum};
 ghost use Rattle.dp_spec.specs.Model.{joint_actions, joint_observations, obs_at};
 ghost use Rattle.dp_spec.specs.Quantities.{mdp_table_in, weighted_reward_in, weighted_table_in, weights_after_in};
-ghost use Rattle.dp_mdp.specs.Links.{AreLinksOf};
+ghost use Rattle.dp_links.specs.Links.{AreLinksOf};
 ghost use Rattle.dp_mdp.specs.TableRows.{IsRow, IsTable};
 ghost use Rattle.dp_pomdp.specs.Looking.{AreZero, IsBeforeHorizon, IsLooking, updated_part, weighed_part, weights_of};
 

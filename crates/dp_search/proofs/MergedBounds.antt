@@ -21,6 +21,8 @@ use Rattle.dp_spec.specs.Merge.{placed_number, without, class_of_agent, class_of
 use Rattle.dp_spec.specs.Model.{IsModel, Model, joint_observations}
 use Rattle.dp_spec.specs.Steps.{IsUnassigned}
 use Rattle.dp_spec.specs.WellFormed.{IsFront}
+use Rattle.dp_laws.proofs.EmptyClasses.{no_weight}
+use Rattle.dp_laws.proofs.MergedBound.{int_sum_skip}
 use Rattle.dp_laws.proofs.EarnedValue.{look_ahead_ext, weighted_reward_ext, weights_after_ext}
 use Rattle.dp_laws.proofs.HistorySums.{nat_history_sum_none, nat_history_sum_of_none}
 use Rattle.dp_laws.proofs.JointPlaces.{int_sum_placed}
@@ -36,25 +38,6 @@ use Rattle.dp_base.specs.Sums.{nat_sum}
 use Rattle.std.proofs.Common.{Bool, false}
 
 -- ---- sums with one class less
-
-swap_last : (x y z w : ℤ) → z ≡ w → (x +ℤ y) +ℤ z ≡ (x +ℤ w) +ℤ y
-swap_last x y z w e = omega (arith, ints)
-
--- a sum without place b, and that place
-int_sum_skip : (k b : ℕ) (g : ℕ → ℤ) → b ≤ k → int_sum (suc k) g ≡ int_sum k (λ c. g (kept_class b c)) +ℤ g b
-int_sum_skip zero b g h = let e : zero ≡ b = omega arith in ap (λ z. pos 0 +ℤ g z) e
-int_sum_skip (suc k) b g h =
-    elim (cases_lt k b) [
-      | inl lt ↦
-          let e : suc k ≡ b = omega arith in
-          let rest = int_sum_ext (suc k) g (λ c. g (kept_class b c))
-          (λ c p. ap g (kept_low b c (omega arith))) in
-          λ j. rest j +ℤ g (e j)
-      | inr le ↦
-          ap (λ z. z +ℤ g (suc k)) (int_sum_skip k b g le)
-          ∙ swap_last (int_sum k (λ c. g (kept_class b c))) (g b) (g (suc k)) (g (kept_class b k))
-          (ap g (kept_high b k le))
-    ]
 
 together_is : (x y fa ga gb ga' : ℤ) → x ≡ y → ga' ≡ ga → fa ≡ ga +ℤ gb → x +ℤ fa ≡ (y +ℤ ga') +ℤ gb
 together_is x y fa ga gb ga' e f h = omega (arith, ints)
@@ -151,23 +134,6 @@ module _ (m : Model) (r look : ℕ) (l : List ℕ) where
           let u_none : u ≡ 0 = omega arith in
           best_of_none (w_none t_none) (v_none u_none)
     ]
-
--- ---- a class of total 0 has no weight anywhere
-
-none_at : (b t : Bool) (n : ℕ) (w : ℕ → ℕ) (s : ℕ) → s < n → cond t (nat_sum n w) 0 ≡ 0
-    → cond b (cond t (w s) 0) 0 ≡ 0
-none_at true true n w s p e = nat_sum_none n w e s p
-none_at true false n w s p e = refl
-none_at false t n w s p e = refl
-
-no_weight : (m : Model) (F : Front) (i c x s : ℕ) → class_total m F i c ≡ 0 → s < m.states
-    → place_weight m F i c x s ≡ 0
-unfolding class_total place_weight
-no_weight m F i c x s e p =
-    nat_history_sum_of_none (joint_observations m) F.stage _ (λ H h.
-    none_at (eqb (class_of_others m F i H) x) (eqb (class_of_agent m F i H) c) m.states
-    (history_weight m (fixed_joint_action m F) H) s p
-    (nat_history_sum_none (joint_observations m) F.stage _ e H h))
 
 -- ---- the bounds of joint classes
 

@@ -1,5 +1,4 @@
 pub mod LinkedParts
-pub mod LinkSums
 pub mod JointRows
 pub mod Modes
 pub mod RewardSums

@@ -11,10 +11,10 @@ use Rattle.dp_spec.specs.Zeros.{KeepsZero, nothing}
 use Rattle.dp_laws.proofs.SizeSums.{reward_state_le, span_sum_part, span_sum_size}
 use Rattle.dp_laws.proofs.SpanSums.{span_add_none, span_sum_none}
 use Rattle.dp_base.proofs.NaturalSumLaws.{nat_sum_le}
-use Rattle.dp_value.specs.Links.{linked, step_chance}
+use Rattle.dp_links.specs.Links.{linked, step_chance}
 use Rattle.dp_value.specs.Rewards.{IsRewardable, reward_arriving, reward_from, reward_part}
 use Rattle.dp_value.specs.WeightUpdates.{AreUpdatable}
-use Rattle.dp_value.proofs.LinkSums.{at_item, those_below, those_count, those_sum}
+use Rattle.dp_links.proofs.LinkSums.{at_item, those_below, those_count, those_sum}
 use Rattle.dp_value.proofs.RewardSums.{whole}
 use Rattle.dp_value.proofs.WeightUpdates.{updated_part}
 

@@ -1,5 +1,4 @@
 pub mod JointTrees
-pub mod Links
 pub mod Rewards
 pub mod Rooms
 pub mod RowWeights

@@ -3,7 +3,6 @@
 
 mod joint_trees;
 mod linked;
-mod links;
 mod reward;
 mod room;
 mod rows;

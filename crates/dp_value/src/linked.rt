@@ -3,11 +3,11 @@ ghost use Rattle.std.specs.Prelude.{◌≡◌, ◌<◌, false, length};
 ghost use Rattle.dp_spec.specs.Model.{joint_actions, joint_observations, trans_at};
 ghost use Rattle.dp_spec.specs.Quantities.{weighted_reward_in, weights_after_in};
 ghost use Rattle.dp_spec.specs.Zeros.{KeepsZero, nothing};
-ghost use Rattle.dp_value.specs.Links.{AreLinksOf};
+ghost use Rattle.dp_links.specs.Links.{AreLinksOf};
 ghost use Rattle.dp_value.specs.Rewards.{IsRewardable, reward_arriving, reward_from};
 ghost use Rattle.dp_value.specs.WeightUpdates.{AreUpdatable, weights_of};
 
-use crate::links::Links;
+use dp_links::Links;
 use dp_model::Model;
 use dp_num::{Arith, add_spans};
 use dp_spec::Span;

@@ -7,10 +7,10 @@ ghost use Rattle.dp_model.specs.Horizons.{fit_of};
 ghost use Rattle.dp_value.specs.Rooms.{IsRoomFor};
 ghost use Rattle.dp_value.specs.Worths.{IsWorthOf, ends_of};
 
-use crate::links::Links;
 use crate::rows::joint_rows;
 use crate::shared_worth::shared_worth;
 use dp_base::Memory;
+use dp_links::Links;
 use dp_model::{Fit, Model};
 use dp_num::{Exact, Outward};
 use dp_policy::Shared;

@@ -7,13 +7,13 @@ ghost use Rattle.dp_spec.specs.Model.{joint_actions, joint_observations, start_a
 ghost use Rattle.dp_spec.specs.Quantities.{span_sum, weights_after_in};
 ghost use Rattle.dp_spec.specs.SharedWorth.{joint_row_count, rows_earn_in, shared_worth_in};
 ghost use Rattle.dp_spec.specs.Zeros.{KeepsZero};
-ghost use Rattle.dp_value.specs.Links.{AreLinksOf};
+ghost use Rattle.dp_links.specs.Links.{AreLinksOf};
 ghost use Rattle.dp_value.specs.WeightUpdates.{AreUpdatable, weights_of};
 ghost use Rattle.dp_value.specs.RowWeights.{AreRowWeights, IsSharable, row_gives, row_part, weight_in};
 
 use crate::linked::{linked_reward, linked_weight};
-use crate::links::Links;
 use crate::rows::{action_of, joint_rows, next_of};
+use dp_links::Links;
 use dp_model::Model;
 use dp_num::{Arith, add_spans};
 use dp_policy::Shared;

@@ -4,12 +4,12 @@ ghost use Rattle.dp_spec.specs.Model.{joint_actions, joint_observations};
 ghost use Rattle.dp_spec.specs.Quantities.{recursive_worth_in, weights_after_in};
 ghost use Rattle.dp_spec.specs.Zeros.{KeepsZero, nothing};
 ghost use Rattle.dp_value.specs.JointTrees.{IsEvaluable, first_trees};
-ghost use Rattle.dp_value.specs.Links.{AreLinksOf};
+ghost use Rattle.dp_links.specs.Links.{AreLinksOf};
 ghost use Rattle.dp_value.specs.WeightUpdates.{AreUpdatable, weights_of};
 
 use crate::joint_trees::{joint_action, subtrees};
 use crate::linked::{is_some, linked_reward, linked_weight};
-use crate::links::Links;
+use dp_links::Links;
 use dp_model::Model;
 use dp_num::{Arith, add_spans};
 use dp_policy::PTree;

@@ -10,6 +10,7 @@ use Rattle.std.proofs.Math.Nat.{mul_right_comm, div-le_of_le-mul, mul-mod_left}
 use Rattle.dp_base.specs.declared.decimal.Decimal.{Decimal}
 use Rattle.dp_base.specs.Decimals.{decimal_of, signed}
 use Rattle.dp_base.proofs.Outcomes.{shortest_form}
+use Rattle.dp_base.proofs.Outcomes.{signed-mul}
 use Rattle.dp_base.proofs.SignificandLaws.{tens_up}
 use Rattle.dp_lexer.specs.declared.Kind.TheVariants.{Number}
 use Rattle.dp_lexer.specs.TokenLaws.{IsOfKind}
@@ -22,11 +23,6 @@ use Rattle.dp_writer.proofs.ReadDecimals.{number_token, read_written}
 signed_abs : (z : ℤ) → signed (is_below_zero z) (unsigned_abs z) ≡ z
 signed_abs (pos n) = refl
 signed_abs (negsuc n) = refl
-
-signed-mul : (negative : Bool) (a b : ℕ) → (signed negative a *ℤ pos b) ≡ signed negative (a * b)
-signed-mul true zero b = let none : 0 * b ≡ 0 = omega arith in rw none refl
-signed-mul true (suc a) b = refl
-signed-mul false a b = refl
 
 -- v over ten to `most` is the fraction a / scale
 pub times_scale : (a scale p v : ℕ) → a * p % scale ≡ 0 → v ≡ a * p / scale → v * scale ≡ a * p

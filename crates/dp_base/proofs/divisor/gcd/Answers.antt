@@ -21,8 +21,8 @@ returns-in-Ok-Ok-clause-greatest c =
     let (_, left) = c.in-Ok-Ok.ensures in
     let (_, right) = c.in-Ok-Ok.ensures' in
     c.loop-divisor.invariant c.short_gcd.result
-        (subst (λ n. IsGcd n c.loop-divisor.divisor c.short_gcd.result) left
-            (subst (λ n. IsGcd c.in-Ok-Ok.short n c.short_gcd.result) right c.short_gcd.ensures))
+    (subst (λ n. IsGcd n c.loop-divisor.divisor c.short_gcd.result) left
+    (subst (λ n. IsGcd c.in-Ok-Ok.short n c.short_gcd.result) right c.short_gcd.ensures))
 
 pub returns-in-Ok-Ok-clause-computed : goal.returns-in-Ok-Ok-clause-computed
 returns-in-Ok-Ok-clause-computed c = same_from_IsGcd c.args.a c.args.b _ _ (returns-in-Ok-Ok-clause-greatest c)

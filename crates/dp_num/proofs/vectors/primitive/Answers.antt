@@ -12,11 +12,11 @@ loop-at-preserved c =
     let vs = c.args.values.now in
     let g = c.common_divisor-common.result in
     let i = c.loop-at.at in
-    let passed = to_z-of_z w128 c.quotient.result (search (rules, c.quotient.type_inv)) in
+    let passed = to_z-of_z w128 c.divided.result (search (rules, c.divided.type_inv)) in
     let read : get_or c.loop-at.values i (pos 0) ≡ get_or vs i (pos 0) =
     ap (λ l. get_or l i (pos 0)) c.loop-at.invariant ∙ divided_read vs g i (pos 0) in
     let handed = to_z-of_z w128 (get_or c.loop-at.values i (pos 0)) (search rules) in
-    let value = passed ∙ c.quotient.ensures ∙ ap (λ (v : ℤ). pos (unsigned_abs v / g)) (handed ∙ read) in
+    let value = passed ∙ c.divided.ensures ∙ ap (λ (v : ℤ). pos (unsigned_abs v / g)) (handed ∙ read) in
     (λ j. set (c.loop-at.invariant j) i (value j))
     ∙ divided_next vs g i (pos 0) c.loop-at-test.true
     ∙ ap (divided_to vs g) (sym (add-one i))

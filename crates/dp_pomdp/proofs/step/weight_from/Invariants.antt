@@ -1,6 +1,6 @@
 use Rattle.std.proofs.Common.{◌≡◌}
 use Rattle.dp_spec.specs.Quantities.{span_sum}
-use Rattle.dp_mdp.proofs.LinkSums.{at_item}
+use Rattle.dp_links.proofs.LinkSums.{at_item}
 use Rattle.dp_pomdp.specs.Looking.{updated_part}
 use Rattle.dp_pomdp.proofs.step.weight_from.Given as goal
 

@@ -2,7 +2,7 @@ use Rattle.std.proofs.Common.{◌≡◌}
 use Rattle.dp_spec.specs.Quantities.{span_sum}
 use Rattle.dp_value.specs.WeightUpdates.{weights_of}
 use Rattle.dp_value.specs.Rewards.{reward_arriving}
-use Rattle.dp_value.proofs.LinkSums.{at_item}
+use Rattle.dp_links.proofs.LinkSums.{at_item}
 use Rattle.dp_value.proofs.linked.reward_after.Given as goal
 
 abbrev pub invariant-loop-place : goal.invariant-loop-place

@@ -1,7 +1,7 @@
 use Rattle.std.proofs.Common.{◌≡◌}
 use Rattle.dp_spec.specs.Quantities.{span_sum}
 use Rattle.dp_value.specs.WeightUpdates.{weights_of}
-use Rattle.dp_value.proofs.LinkSums.{at_item}
+use Rattle.dp_links.proofs.LinkSums.{at_item}
 use Rattle.dp_value.proofs.WeightUpdates.{updated_part}
 use Rattle.dp_value.proofs.linked.weight_before.Given as goal
 

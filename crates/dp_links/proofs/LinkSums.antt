@@ -13,7 +13,7 @@ use Rattle.dp_spec.specs.Arithmetic.{span_add}
 use Rattle.dp_spec.specs.Quantities.{span_sum}
 use Rattle.dp_spec.specs.Zeros.{nothing}
 use Rattle.dp_laws.proofs.SpanSums.{span_add_none, span_sum_ext}
-use Rattle.dp_mdp.specs.Links.{those_of}
+use Rattle.dp_links.specs.Links.{those_of}
 
 -- f of the k-th of a list
 abbrev pub at_item : {A : Type 0} → (ℕ → A) → List ℕ → ℕ → A

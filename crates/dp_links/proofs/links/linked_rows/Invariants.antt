@@ -1,6 +1,6 @@
 use Rattle.std.proofs.Common.{◌≡◌, ◌<◌, ℕ, length, get_or, []}
-use Rattle.dp_value.specs.Links.{IsLinkedRow}
-use Rattle.dp_value.proofs.links.linked_rows.Given as goal
+use Rattle.dp_links.specs.Links.{IsLinkedRow}
+use Rattle.dp_links.proofs.links.linked_rows.Given as goal
 
 abbrev pub invariant-loop-action : goal.invariant-loop-action
 invariant-loop-action l = record {

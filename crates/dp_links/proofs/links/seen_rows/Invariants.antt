@@ -1,9 +1,9 @@
 use Rattle.std.proofs.Common.{◌≡◌, ◌<◌, ℕ, length, get_or, []}
-use Rattle.dp_mdp.specs.Links.{IsLinkedRow}
-use Rattle.dp_mdp.proofs.links.linked_rows.Given as goal
+use Rattle.dp_links.specs.Links.{seen_after}
+use Rattle.dp_links.proofs.links.seen_rows.Given as goal
 
 abbrev pub invariant-loop-action : goal.invariant-loop-action
 invariant-loop-action l = record {
   filled : length l.rows.items ≡ l.action;
-  rows : (a : ℕ) → a < l.action → IsLinkedRow l.model.model l.backwards a (get_or l.rows.items a []);
+  lists : (a : ℕ) → a < l.action → get_or l.rows.items a [] ≡ seen_after l.model.model a;
 }

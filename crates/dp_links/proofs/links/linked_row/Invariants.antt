@@ -1,6 +1,6 @@
 use Rattle.std.proofs.Common.{◌≡◌, ◌<◌, ℕ, length, get_or, []}
-use Rattle.dp_value.specs.Links.{linked}
-use Rattle.dp_value.proofs.links.linked_row.Given as goal
+use Rattle.dp_links.specs.Links.{linked}
+use Rattle.dp_links.proofs.links.linked_row.Given as goal
 
 abbrev pub invariant-loop-state : goal.invariant-loop-state
 invariant-loop-state l = record {
