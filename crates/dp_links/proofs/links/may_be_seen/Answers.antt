@@ -1,4 +1,4 @@
-use Rattle.std.proofs.Common.{◌∙◌, sym, subst, ◌<◌}
+use Rattle.std.proofs.Common.{◌∙◌, subst, ◌<◌}
 use Rattle.dp_base.proofs.NaturalSumLaws.{nat_sum_none}
 use Rattle.dp_links.proofs.links.may_be_seen.Goals as goal
 

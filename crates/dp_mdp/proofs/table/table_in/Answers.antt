@@ -18,4 +18,4 @@ returns g c =
     made_table (g.A.Arith.operations c.args.arith.now) (g.A.Arith.calls c.args.arith.now) c.args.model.now.model
     c.args.horizon c.args.step c.requires.sizes _ _ _ _ c.of.ensures c.of-2.ensures c.of-3.ensures
     c.in_ok-rows.ensures.long c.in_ok-rows.ensures.each c.in_ok-rewards.ensures c.in_ok-powers.ensures.as_many
-    c.in_ok-powers.ensures.powers c.in_ok-links.ensures
+    c.in_ok-powers.ensures.powers c.in_ok-links.ensures.of_model
