@@ -20,3 +20,6 @@ pub mod ReadScales
 pub mod ReadLists
 pub mod SaidHeaders
 pub mod SaidCovers
+pub mod SaidStatements
+pub mod RowsAgain
+pub mod SaidCells
