@@ -23,3 +23,5 @@ pub mod SaidCovers
 pub mod SaidStatements
 pub mod RowsAgain
 pub mod SaidCells
+pub mod SaidFractions
+pub mod SaidScales
