@@ -25,3 +25,4 @@ pub mod RowsAgain
 pub mod SaidCells
 pub mod SaidFractions
 pub mod SaidScales
+pub mod SaidRewards

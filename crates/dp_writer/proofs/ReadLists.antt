@@ -1,14 +1,14 @@
 -- Lists of what stands for each number, one after the other: their filters, their maps, and the last item that passes.
 use Rattle.std.proofs.Common.{◌≡◌, ◌≢◌, ℕ, zero, suc, ◌+◌, ◌*◌, ◌<◌, ◌≤◌, Bool, true, false, cond, List, [], ◌∷◌, ◌++◌}
-use Rattle.std.proofs.Common.{length, map, refl, sym, ap, ◌∙◌, arith, inl, inr}
+use Rattle.std.proofs.Common.{length, get_or, map, max, refl, sym, ap, ◌∙◌, arith, inl, inr}
 use Rattle.std.specs.Prelude.{filter, reverse, Option, Some, None, option_map, ◌||◌}
-use Rattle.std.specs.List.{find, flat_map, list_any, range_with_len}
+use Rattle.std.specs.List.{find, flat_map, fold, list_any, range_with_len}
 use Rattle.std.specs.Option.{option_or}
 use Rattle.std.proofs.lemmas.Bool.{cases_lt}
-use Rattle.std.proofs.lemmas.List.{length-append, map-append, reverse-append}
+use Rattle.std.proofs.lemmas.List.{get_or_append_left, get_or-append-add, length-append, map-append, reverse-append}
 use Rattle.std.proofs.lemmas.List.Elements.{filter-append}
 use Rattle.std.proofs.lemmas.List.Folds.{find-append, list_any-append}
-use Rattle.dp_meaning.proofs.Lists.{last_none}
+use Rattle.dp_meaning.proofs.Lists.{last_none, most_above}
 use Rattle.dp_writer.proofs.WordTexts.{below_more}
 
 -- ---- maps and filters
@@ -62,6 +62,31 @@ length_flat g a zero k few = omega arith
 length_flat g a (suc n) k few =
     omega (arith, length-append (g a) (flat_map g (range_with_len (a + 1) n)), few a, length_flat g (a + 1) n k few)
 
+-- where k items stand for each, those for the item at place i stand at i * k and behind
+pub flat_at : {A B : Type 0} (g : A → List B) (xs : List A) (k i j : ℕ) (e : A) (d : B)
+    → ((n : ℕ) → n < length xs → length (g (get_or xs n e)) ≡ k) → i < length xs → j < k
+    → get_or (flat_map g xs) (i * k + j) d ≡ get_or (g (get_or xs i e)) j d
+flat_at g [] k i j e d alike lt below = absurd (omega (arith, lt))
+flat_at g (x ∷ xs) k zero j e d alike lt below =
+    let place : 0 * k + j ≡ j = omega arith in
+    ap (λ n. get_or (g x ++ flat_map g xs) n d) place
+    ∙ get_or_append_left (g x) (flat_map g xs) d j (omega (arith, below, alike 0 (omega arith)))
+flat_at g (x ∷ xs) k (suc i) j e d alike lt below =
+    let here = alike 0 (omega arith) in
+    let place : suc i * k + j ≡ length (g x) + (i * k + j) = omega (arith, here) in
+    ap (λ n. get_or (g x ++ flat_map g xs) n d) place
+    ∙ get_or-append-add (g x) (flat_map g xs) (i * k + j) d
+    ∙ flat_at g xs k i j e d (λ n less. alike (suc n) (omega (arith, less))) (omega (arith, lt)) below
+
+-- and there are so many
+pub length_alike : {A B : Type 0} (g : A → List B) (xs : List A) (k : ℕ) (e : A)
+    → ((n : ℕ) → n < length xs → length (g (get_or xs n e)) ≡ k) → length (flat_map g xs) ≡ length xs * k
+length_alike g [] k e alike = omega arith
+length_alike g (x ∷ xs) k e alike =
+    let here = alike 0 (omega arith) in
+    let others = length_alike g xs k e (λ n less. alike (suc n) (omega (arith, less))) in
+    omega (arith, length-append (g x) (flat_map g xs), here, others)
+
 -- ---- the last that passes
 
 abbrev pub last_that : {A : Type 0} → (A → Bool) → List A → Option A
@@ -91,6 +116,21 @@ last_of_map p f (x ∷ xs) =
 or_none : {A : Type 0} (o : Option A) → option_or o None ≡ o
 or_none (Some x) = refl
 or_none None = refl
+
+-- it has no more than the greatest
+pub last_within : {A : Type 0} (f : A → ℕ) (p : A → Bool) (xs : List A) (m : ℕ) (x : A)
+    → last_that p xs ≡ Some x → f x ≤ fold (λ most y. max most (f y)) m xs
+last_within f p [] m x e = absurd cc
+last_within {A = A} f p (y ∷ ys) m x e =
+    by (last_that p ys) (p y) (last_within f p ys (max m (f y)) x) (sym (last_of_append p (y ∷ []) ys) ∙ e)
+  where
+    by : (o : Option A) (b : Bool) → (o ≡ Some x → f x ≤ fold (λ most z. max most (f z)) (max m (f y)) ys)
+        → option_or o (cond b (Some y) None) ≡ Some x → f x ≤ fold (λ most z. max most (f z)) (max m (f y)) ys
+    by (Some z) b behind same = behind same
+    by None true behind same =
+        let one : y ≡ x = cc in
+        let here = ap f one in omega (arith, here, most_above f (max m (f y)) ys)
+    by None false behind same = absurd cc
 
 -- none passes where none does of what stands for a number
 pub none_of_each : {A : Type 0} (p : A → Bool) (g : ℕ → List A) (n : ℕ)
