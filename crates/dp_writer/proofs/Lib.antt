@@ -26,3 +26,5 @@ pub mod SaidCells
 pub mod SaidFractions
 pub mod SaidScales
 pub mod SaidRewards
+pub mod SaidLimits
+pub mod RightRows
