@@ -28,3 +28,4 @@ pub mod SaidScales
 pub mod SaidRewards
 pub mod SaidLimits
 pub mod RightRows
+pub mod SaidTables
