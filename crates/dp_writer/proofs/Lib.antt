@@ -29,3 +29,5 @@ pub mod SaidRewards
 pub mod SaidLimits
 pub mod RightRows
 pub mod SaidTables
+pub mod SaidStart
+pub mod ReadTexts
