@@ -1,6 +1,6 @@
 -- A text that says a model is read as the model.
 use Rattle.std.proofs.Common.{◌≡◌, ℕ, ◌+◌, ◌*◌, ◌^◌, ◌<◌, true, false, get_or, map, ℤ, pos, ◌*ℤ◌, refl, sym, ap, subst}
-use Rattle.std.proofs.Common.{[], ◌∷◌, ◌∙◌, arith, Ok}
+use Rattle.std.proofs.Common.{[], ◌∷◌, ◌∙◌, length, arith, Ok, None}
 use Rattle.dp_spec.specs.Model.{IsModel, Model, joint_actions, joint_observations, start_at, trans_at, obs_at}
 use Rattle.dp_spec.specs.Model.{reward_at}
 use Rattle.dp_model.specs.Tables.{IsNamedModel, NamedModel}
@@ -10,7 +10,9 @@ use Rattle.dp_meaning.specs.declared.text.Text.{Text}
 use Rattle.dp_meaning.specs.Faults.{◌>>=◌}
 use Rattle.dp_meaning.specs.Statements.{axes_of}
 use Rattle.dp_meaning.specs.Cells.{reward_of_cell, statements_for}
-use Rattle.dp_meaning.specs.Meaning.{ReadModel, names_given, repaired_model, rewards_of, table_model}
+use Rattle.dp_meaning.specs.Limits.{passed_limit}
+use Rattle.dp_meaning.specs.Meaning.{ReadModel, meaning, meaning_of_model, meaning_of_text, meaning_within}
+use Rattle.dp_meaning.specs.Meaning.{names_given, repaired_model, rewards_of, table_model}
 use Rattle.dp_meaning.specs.Rows.{Repaired, obs_rows, repair_all, start_row, trans_rows}
 use Rattle.dp_meaning.specs.Rows.{table_rows as given_rows}
 use Rattle.dp_meaning.specs.Scales.{digits_of_statements, scales_of}
@@ -18,6 +20,7 @@ use Rattle.dp_meaning.specs.Text.{joint_actions_in, joint_observations_in, state
 use Rattle.dp_meaning.proofs.BuiltModel.{reward_of_place}
 use Rattle.dp_meaning.proofs.FaultSteps.{done}
 use Rattle.dp_writer.specs.declared.rows.ChanceTable.TheVariants.{Next, Seen}
+use Rattle.dp_writer.specs.Writable.{is_writable}
 use Rattle.dp_writer.specs.WriterLaws.{IsModelAgain, SaidTextsReadBack}
 use Rattle.dp_writer.specs.WrittenText.{IsSaidBy, said_header}
 use Rattle.dp_writer.proofs.SaidHeaders.{HasSizes, text_joint_actions, text_joint_observations, text_names, text_sizes}
@@ -128,9 +131,11 @@ is_again end m text is said start trans obs =
       reward = λ a s t o lt lt' below below'. reward_again m text a s t o is said lt lt' below below';
     }
 
--- the text is read
-pub said_texts_read_back : SaidTextsReadBack
-said_texts_read_back end m text is writable said =
+-- the text passes no limit, and the model that is read of it is the model again, wherever the text ends
+said_text_again : (end : ℕ) (m : NamedModel) (text : Text) → IsNamedModel m → is_writable m.model ≡ true
+    → IsSaidBy m text
+    → (passed_limit text ≡ None) × ((r : ReadModel) × (repaired_model end text ≡ Ok r) × IsModelAgain m r)
+said_text_again end m text is writable said =
     let can = can_be_written m.model writable in
     let start = start_read_again end m text is can said in
     let trans = table_again end m text Next is can.next said in
@@ -142,4 +147,15 @@ said_texts_read_back end m text is writable said =
             (obs_are end m text is said obs),
         is_again end m text is said start trans obs,
       ),
+    )
+
+-- a file with this text means it
+pub said_texts_read_back : SaidTextsReadBack
+unfolding meaning
+said_texts_read_back bytes m text is writable says said =
+    let again = said_text_again (length bytes) m text is writable said in (
+      again.1.0,
+      ap (meaning_of_text bytes) says ∙ ap (meaning_within bytes text) again.0
+          ∙ ap (meaning_of_model bytes) again.1.1,
+      again.1.2,
     )

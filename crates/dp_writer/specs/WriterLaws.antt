@@ -1,6 +1,6 @@
 -- What reading says of what was written.
 use Rattle.std.specs.Prelude.{◌≡◌, ℕ, ◌*◌, ◌%◌, ◌^◌, ◌<◌, ◌≤◌, ℤ, pos, ◌*ℤ◌, unsigned_abs, List, get_or, length, map}
-use Rattle.std.specs.Prelude.{true, false, [], sum, None, Ok}
+use Rattle.std.specs.Prelude.{true, false, [], sum, Ok}
 use Rattle.std.specs.Int.{◌∣◌}
 use Rattle.dp_base.specs.declared.decimal.Decimal.{Decimal}
 use Rattle.dp_base.specs.Decimals.{decimal_of}
@@ -10,8 +10,7 @@ use Rattle.dp_spec.specs.Model.{joint_actions, joint_observations, start_at, tra
 use Rattle.dp_model.specs.Tables.{IsNamedModel, NamedModel}
 use Rattle.dp_meaning.specs.declared.text.Text.{Text}
 use Rattle.dp_meaning.specs.Cells.{chance_over}
-use Rattle.dp_meaning.specs.Limits.{passed_limit}
-use Rattle.dp_meaning.specs.Meaning.{ReadModel, repaired_model}
+use Rattle.dp_meaning.specs.Meaning.{ReadModel, Means, meaning, text_of}
 use Rattle.dp_writer.specs.Writable.{is_writable, written_scale}
 use Rattle.dp_writer.specs.WrittenModel.{are_equal, chance_word, reward_word}
 use Rattle.dp_writer.specs.WrittenNumbers.{decimal_over}
@@ -89,10 +88,9 @@ pub record IsModelAgain (m : NamedModel) (r : ReadModel) : Type 0 where
       → (reward_at r.model.model a s t o *ℤ pos m.model.scales.reward)
       ≡ (reward_at m.model a s t o *ℤ pos r.model.model.scales.reward)
 
--- A text that says a model which can be written passes no limit, and the model that is read of it is the model again,
--- wherever the text ends.
+-- A file whose text says a model that can be written means that model again.
 abbrev pub SaidTextsReadBack : Type 0
 SaidTextsReadBack =
-    (end : ℕ) (m : NamedModel) (text : Text) → IsNamedModel m → is_writable m.model ≡ true → IsSaidBy m text
-    → (passed_limit text ≡ None)
-    × ((r : ReadModel) × (repaired_model end text ≡ Ok r) × IsModelAgain m r)
+    (bytes : List ℕ) (m : NamedModel) (text : Text) → IsNamedModel m → is_writable m.model ≡ true
+    → text_of bytes ≡ Ok text → IsSaidBy m text
+    → (r : ReadModel) × (meaning bytes ≡ Means r) × IsModelAgain m r
