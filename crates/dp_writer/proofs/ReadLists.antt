@@ -1,5 +1,6 @@
--- Lists of what stands for each number, one after the other: their filters, their maps, and the last item that passes.
-use Rattle.std.proofs.Common.{◌≡◌, ◌≢◌, ℕ, zero, suc, ◌+◌, ◌*◌, ◌<◌, ◌≤◌, Bool, true, false, cond, List, [], ◌∷◌, ◌++◌}
+-- Lists of what stands for each number: their filters, their maps, their lengths, and the last item that passes.
+use Rattle.std.proofs.Common.{◌≡◌, ◌≢◌, ℕ, zero, suc, ◌+◌, ◌*◌, ◌<◌, ◌≤◌, Bool, true, false, cond, List, []}
+use Rattle.std.proofs.Common.{◌∷◌, ◌++◌}
 use Rattle.std.proofs.Common.{length, get_or, map, max, refl, sym, ap, ◌∙◌, arith, inl, inr}
 use Rattle.std.specs.Prelude.{filter, reverse, Option, Some, None, option_map, ◌||◌}
 use Rattle.std.specs.List.{find, flat_map, fold, list_any, range_with_len}
@@ -156,11 +157,11 @@ last_of_each p g (suc n) i lt none =
     ∙ elim (cases_lt i n) [
       | inl below ↦
           ap (λ o. option_or o (last_that p (flat_map g (range_with_len 0 n))))
-              (last_none p (g n) (none n (omega arith) (omega (arith, below))))
+          (last_none p (g n) (none n (omega arith) (omega (arith, below))))
           ∙ last_of_each p g n i below (λ j less. none j (omega (arith, less)))
       | inr past ↦ (let same : n ≡ i = omega (arith, lt, past) in
           ap (λ o. option_or (last_that p (g n)) o)
-              (last_none p (flat_map g (range_with_len 0 n))
-              (none_of_each p g n (λ j less. none j (omega (arith, less)) (omega (arith, less, past)))))
+          (last_none p (flat_map g (range_with_len 0 n))
+          (none_of_each p g n (λ j less. none j (omega (arith, less)) (omega (arith, less, past)))))
           ∙ or_none (last_that p (g n)) ∙ ap (λ k. last_that p (g k)) same)
     ]

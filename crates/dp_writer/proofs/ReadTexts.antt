@@ -1,7 +1,7 @@
 -- A text that says a model is read as the model.
-use Rattle.std.proofs.Common.{◌≡◌, ℕ, ◌+◌, ◌*◌, ◌^◌, ◌<◌, true, false, get_or, map, ℤ, pos, ◌*ℤ◌, refl, sym, ap, subst}
+use Rattle.std.proofs.Common.{◌≡◌, ℕ, ◌+◌, ◌*◌, ◌^◌, ◌<◌, true, false, get_or, pos, refl, sym, ap, subst}
 use Rattle.std.proofs.Common.{[], ◌∷◌, ◌∙◌, length, arith, Ok, None}
-use Rattle.dp_spec.specs.Model.{IsModel, Model, joint_actions, joint_observations, start_at, trans_at, obs_at}
+use Rattle.dp_spec.specs.Model.{joint_actions, joint_observations, start_at, trans_at, obs_at}
 use Rattle.dp_spec.specs.Model.{reward_at}
 use Rattle.dp_model.specs.Tables.{IsNamedModel, NamedModel}
 use Rattle.dp_meaning.specs.declared.header.Header.{Header}
@@ -16,20 +16,20 @@ use Rattle.dp_meaning.specs.Meaning.{names_given, repaired_model, rewards_of, ta
 use Rattle.dp_meaning.specs.Rows.{Repaired, obs_rows, repair_all, start_row, trans_rows}
 use Rattle.dp_meaning.specs.Rows.{table_rows as given_rows}
 use Rattle.dp_meaning.specs.Scales.{digits_of_statements, scales_of}
-use Rattle.dp_meaning.specs.Text.{joint_actions_in, joint_observations_in, states_in}
+use Rattle.dp_meaning.specs.Text.{joint_observations_in, states_in}
 use Rattle.dp_meaning.proofs.BuiltModel.{reward_of_place}
 use Rattle.dp_meaning.proofs.FaultSteps.{done}
 use Rattle.dp_writer.specs.declared.rows.ChanceTable.TheVariants.{Next, Seen}
 use Rattle.dp_writer.specs.Writable.{is_writable}
 use Rattle.dp_writer.specs.WriterLaws.{IsModelAgain, SaidTextsReadBack}
 use Rattle.dp_writer.specs.WrittenText.{IsSaidBy, said_header}
-use Rattle.dp_writer.proofs.SaidHeaders.{HasSizes, text_joint_actions, text_joint_observations, text_names, text_sizes}
-use Rattle.dp_writer.proofs.SaidLimits.{CanBeWritten, can_be_written, text_obs_scale, text_trans_scale, text_within}
+use Rattle.dp_writer.proofs.SaidHeaders.{text_joint_actions, text_joint_observations, text_names, text_sizes}
+use Rattle.dp_writer.proofs.SaidLimits.{can_be_written, text_obs_scale, text_trans_scale, text_within}
 use Rattle.dp_writer.proofs.SaidRewards.{IsRewardAgain, reward_read}
 use Rattle.dp_writer.proofs.SaidScales.{text_discount}
 use Rattle.dp_writer.proofs.SaidStart.{IsStartAgain, start_read_again}
 use Rattle.dp_writer.proofs.SaidStatements.{text_rewards}
-use Rattle.dp_writer.proofs.SaidTables.{IsTableAgain, read_scale, table_again}
+use Rattle.dp_writer.proofs.SaidTables.{IsTableAgain, table_again}
 
 -- ---- rewards
 

@@ -1,11 +1,9 @@
 -- Rows that need no repair.
-use Rattle.std.proofs.Common.{◌≡◌, ℕ, zero, suc, ◌+◌, ◌*◌, ◌/◌, ◌%◌, ◌<◌, List, [], ◌∷◌, ◌++◌, length, get_or, sum, refl}
-use Rattle.std.proofs.Common.{sym, ap, subst, ◌∙◌, arith, cond, Some, None}
-use Rattle.std.specs.Prelude.{◌==◌, Result, Ok}
+use Rattle.std.proofs.Common.{◌≡◌, ℕ, suc, ◌+◌, ◌*◌, ◌/◌, ◌%◌, ◌<◌, List, [], ◌∷◌, ◌++◌, length, get_or, sum, refl}
+use Rattle.std.proofs.Common.{ap, ◌∙◌, arith, cond, Some}
 use Rattle.std.proofs.lemmas.Bool.{eq-eqb}
 use Rattle.dp_spec.specs.JointNumbers.{parts_of, product}
 use Rattle.dp_spec.proofs.JointNumberLaws.{parts_below}
-use Rattle.dp_meaning.specs.declared.why.Fault.{Fault}
 use Rattle.dp_meaning.specs.declared.why.Why.TheVariants.{RowSum}
 use Rattle.dp_meaning.specs.Faults.{◌>>=◌, fault}
 use Rattle.dp_meaning.specs.Rows.{Repaired, Row, is_near, repair, repair_all, repair_at, repaired_cells, row_place}

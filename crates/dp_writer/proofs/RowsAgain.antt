@@ -1,10 +1,10 @@
 -- Rows of chances as they are read again: the same fractions, over a scale that they sum to.
-use Rattle.std.proofs.Common.{◌≡◌, ℕ, zero, suc, ◌*◌, ◌/◌, ◌%◌, ◌^◌, ◌<◌, Bool, true, false, cond, List, [], ◌∷◌}
-use Rattle.std.proofs.Common.{length, get_or, map, sum, refl, sym, ap, subst, ◌∙◌, arith}
+use Rattle.std.proofs.Common.{◌≡◌, ℕ, zero, suc, ◌*◌, ◌/◌, ◌^◌, ◌<◌, Bool, true, false, cond, List, [], ◌∷◌}
+use Rattle.std.proofs.Common.{length, get_or, map, sum, refl, sym, ap, ◌∙◌, arith}
 use Rattle.std.specs.Prelude.{◌==◌, ◌||◌, if◌then◌else◌}
 use Rattle.std.specs.Int.{◌∣◌}
 use Rattle.std.specs.List.{list_all}
-use Rattle.std.proofs.Math.Nat.{div-mul_cancel, mul_assoc, mul_comm, mul_right_comm}
+use Rattle.std.proofs.Math.Nat.{div-mul_cancel, mul_assoc, mul_comm}
 use Rattle.std.proofs.lemmas.Bool.{and_parts, eqb-true}
 use Rattle.std.proofs.lemmas.List.{get_or-map, length-map}
 use Rattle.std.proofs.lemmas.List.FromFn.{fill_by_all}

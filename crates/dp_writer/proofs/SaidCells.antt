@@ -1,17 +1,15 @@
 -- What the statements that are written of a table of chances give its cells.
 use Rattle.std.proofs.Common.{◌≡◌, ◌≢◌, ◌⊎◌, ℕ, zero, suc, ◌+◌, ◌*◌, ◌/◌, ◌<◌, Bool, true, false, cond, List, [], ◌∷◌}
 use Rattle.std.proofs.Common.{length, get_or, map, pos, refl, sym, ap, ◌∙◌, arith}
-use Rattle.std.specs.Prelude.{◌||◌, ◌&&◌, Option, Some, None, option_map}
+use Rattle.std.specs.Prelude.{◌||◌, Option, Some, None, option_map}
 use Rattle.std.specs.List.{list_any, range_with_len}
 use Rattle.std.proofs.lemmas.List.{get_or-map}
 use Rattle.std.proofs.lemmas.List.FromFn.{fill_by_all, get_or-map-range_with_len, length-map-range_with_len}
 use Rattle.std.proofs.lemmas.List.{length-map}
 use Rattle.dp_base.specs.declared.decimal.Decimal.{Decimal}
-use Rattle.dp_spec.specs.JointNumbers.{product}
 use Rattle.dp_spec.specs.Model.{Model, joint_actions}
 use Rattle.dp_meaning.specs.declared.given_list.GivenList.{GivenList}
 use Rattle.dp_meaning.specs.declared.statement.Statement.{Statement}
-use Rattle.dp_meaning.specs.declared.statement.Value.{Value}
 use Rattle.dp_meaning.specs.declared.statement.Value.TheVariants.{Uniform, Numbers}
 use Rattle.dp_meaning.specs.Fields.{Axis}
 use Rattle.dp_meaning.specs.NameLists.{size_of}
@@ -28,7 +26,7 @@ use Rattle.dp_writer.specs.WrittenText.{said_of, said_table}
 use Rattle.dp_writer.proofs.ReadLists.{last_of_map, last_that}
 use Rattle.dp_writer.proofs.RowCells.{length_each}
 use Rattle.dp_writer.proofs.RowsAgain.{cell_again}
-use Rattle.dp_writer.proofs.SaidCovers.{covers_other, covers_own, last_by_state}
+use Rattle.dp_writer.proofs.SaidCovers.{below_product, covers_other, covers_own, last_by_state}
 
 -- ---- by what is said
 
@@ -48,7 +46,8 @@ chance_said_of_cell : (scale : ℕ) (axes : List Axis) (statements : List Statem
 unfolding chance_of_cell
 chance_said_of_cell scale axes statements cell =
     by_said scale axes cell (last_covering axes statements cell)
-    ∙ ap (said_chance scale axes cell) (sym (last_of_map (λ (x : Said). covers axes x.fields cell) said_of statements))
+    ∙ ap (said_chance scale axes cell)
+    (sym (last_of_map (λ (x : Said). covers axes x.fields cell) said_of statements))
 
 -- ---- the statement of a joint action and a state
 
@@ -74,10 +73,6 @@ last_of_said m table p a s lt lt' own others =
     last_by_state m (chance_said m table) p a s lt lt'
     (λ other t less below ne. ap (λ b. b || false) (others other t less below ne))
     ∙ ap (λ b. cond b (Some (row_said m table a s)) None) own
-
-below_product : (m : Model) (a : ℕ) → a < joint_actions m → a < product m.actions
-unfolding joint_actions
-below_product m a lt = lt
 
 last_of_cell : (m : Model) (table : ChanceTable) (axis : Axis) (states : GivenList) (third : Axis) (a s j : ℕ)
     → map size_of axis ≡ m.actions → a < joint_actions m → s < m.states
@@ -149,10 +144,10 @@ row_read m table axis states third statements read a s sizes len said lt lt' =
     (map (chance_of_cell read axes statements) cells) n 0
     (length-map cells (chance_of_cell read axes statements) ∙ count)
     (λ k below.
-        get_or-map (chance_of_cell read axes statements) cells k [] 0 (omega (arith, below, count))
-        ∙ ap (chance_of_cell read axes statements)
-        (get_or-map-range_with_len (λ j. a ∷ s ∷ j ∷ []) 0 n k k [] below (omega arith))
-        ∙ chance_read m table axis states third statements read a s k sizes len said lt lt' below)
+    get_or-map (chance_of_cell read axes statements) cells k [] 0 (omega (arith, below, count))
+    ∙ ap (chance_of_cell read axes statements)
+    (get_or-map-range_with_len (λ j. a ∷ s ∷ j ∷ []) 0 n k k [] below (omega arith))
+    ∙ chance_read m table axis states third statements read a s k sizes len said lt lt' below)
 
 -- none of the cells is covered where no cell is
 none_of_cells : (p : Cell → Bool) (f : ℕ → Cell) (xs : List ℕ) → ((n : ℕ) → p (f n) ≡ false)

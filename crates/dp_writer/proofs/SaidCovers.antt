@@ -1,7 +1,8 @@
 -- Which cells the statement of a joint action and a state covers: its own.
-use Rattle.std.proofs.Common.{◌≡◌, ◌≢◌, ℕ, ◌/◌, ◌<◌, Bool, true, false, List, [], ◌∷◌, length, map, refl, sym, ap, ◌∙◌}
+use Rattle.std.proofs.Common.{◌≡◌, ◌≢◌, ℕ, ◌/◌, ◌<◌, Bool, true, false, List, [], ◌∷◌, length, map, refl, sym, ap}
+use Rattle.std.proofs.Common.{◌∙◌}
 use Rattle.std.proofs.Common.{arith, ◌⊎◌, inl, inr}
-use Rattle.std.specs.Prelude.{◌&&◌, ◌||◌, ◌==◌, Option, Some, None}
+use Rattle.std.specs.Prelude.{◌&&◌, ◌==◌}
 use Rattle.std.specs.List.{flat_map, list_any, range_with_len}
 use Rattle.std.proofs.lemmas.Bool.{and_left, and_parts, and_right, eq-eqb, eqb-true, false_from_ne_true, ne_eqb}
 use Rattle.dp_spec.specs.JointNumbers.{joint_number, parts_of, product}
@@ -86,6 +87,11 @@ covers_other axis states rest ns a s other t more cell sizes lt lt' (inr ne) =
     covers_by axis states rest ns a s other t more cell sizes
     ∙ and_right (allow (map (λ n. Only n) (parts_of ns other)) (parts_of ns a)) _
     (and_left (t == s) (covers rest more cell) (ne_eqb t s ne))
+
+-- joint actions are below the product of the actions
+pub below_product : (m : Model) (a : ℕ) → a < joint_actions m → a < product m.actions
+unfolding joint_actions
+below_product m a lt = lt
 
 -- ---- the last statement
 

@@ -4,13 +4,13 @@ use Rattle.std.specs.Prelude.{slice_index}
 use Rattle.std.specs.List.{range_with_len}
 use Rattle.std.proofs.lemmas.List.FromFn.{fill_by_all}
 use Rattle.dp_spec.specs.JointNumbers.{product}
-use Rattle.dp_spec.specs.Model.{Model, IsModel, joint_actions, joint_observations}
+use Rattle.dp_spec.specs.Model.{Model, joint_actions, joint_observations}
 use Rattle.dp_model.specs.Names.{names_of}
 use Rattle.dp_model.specs.Tables.{IsNamedModel, NamedModel, NamesAllOrNone}
 use Rattle.dp_meaning.specs.declared.header.Header.{Header}
 use Rattle.dp_meaning.specs.declared.text.Text.{Text}
 use Rattle.dp_meaning.specs.NameLists.{size_of, names_in}
-use Rattle.dp_meaning.specs.Text.{states_in, joint_actions_in, joint_observations_in}
+use Rattle.dp_meaning.specs.Text.{joint_actions_in, joint_observations_in}
 use Rattle.dp_meaning.specs.Meaning.{names_given}
 use Rattle.dp_writer.specs.WrittenText.{IsSaidBy, given_list, given_lists, said_header}
 use Rattle.dp_writer.proofs.ReadLists.{map-map}

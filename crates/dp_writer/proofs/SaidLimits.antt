@@ -1,6 +1,6 @@
 -- A text that is written of a model passes no limit.
-use Rattle.std.proofs.Common.{◌≡◌, ℕ, ◌+◌, ◌*◌, ◌^◌, ◌<◌, ◌≤◌, Bool, true, false, cond, List, [], ◌∷◌, length, map, refl}
-use Rattle.std.proofs.Common.{sym, ap, subst, ◌∙◌, arith}
+use Rattle.std.proofs.Common.{◌≡◌, ℕ, ◌*◌, ◌^◌, ◌<◌, ◌≤◌, Bool, true, false, cond, List, [], ◌∷◌, length}
+use Rattle.std.proofs.Common.{sym, ap, ◌∙◌, arith}
 use Rattle.std.specs.Prelude.{None, Some, Option, nat_le, pos}
 use Rattle.std.specs.List.{flat_map, list_all, range_with_len}
 use Rattle.std.specs.Ordering.{int_eq}
@@ -19,18 +19,18 @@ use Rattle.dp_model.specs.Limits.{first_passed, greatest_allowed, passed_by}
 use Rattle.dp_model.specs.Tables.{IsNamedModel, NamedModel}
 use Rattle.dp_meaning.specs.declared.statement.Table.TheVariants.{Trans, Obs, Reward}
 use Rattle.dp_meaning.specs.declared.text.Text.{Text}
-use Rattle.dp_meaning.specs.NameLists.{size_of}
 use Rattle.dp_meaning.specs.Cells.{statements_for}
 use Rattle.dp_meaning.specs.Limits.{passed_limit, product_past}
 use Rattle.dp_meaning.specs.Scales.{scales_of, table_scale}
-use Rattle.dp_meaning.specs.Text.{states_in, joint_actions_in, joint_observations_in}
+use Rattle.dp_meaning.specs.Text.{states_in, joint_observations_in}
 use Rattle.dp_writer.specs.declared.rows.ChanceTable.TheVariants.{Next, Seen}
 use Rattle.dp_writer.specs.ModelRows.{reward_rows, start_row, table_rows}
-use Rattle.dp_writer.specs.Writable.{are_writable_rows, is_writable, is_writable_row, is_writable_table, written_scale}
+use Rattle.dp_writer.specs.Writable.{are_writable_rows, is_writable, is_writable_row, is_writable_table}
+use Rattle.dp_writer.specs.Writable.{written_scale}
 use Rattle.dp_writer.specs.WrittenModel.{is_only_reward}
 use Rattle.dp_writer.specs.WrittenText.{IsSaidBy, Said, reward_said, said_by_state, said_of}
 use Rattle.dp_writer.proofs.ReadLists.{length_flat}
-use Rattle.dp_writer.proofs.SaidHeaders.{HasSizes, text_joint_actions, text_joint_observations, text_sizes}
+use Rattle.dp_writer.proofs.SaidHeaders.{text_joint_actions, text_joint_observations, text_sizes}
 use Rattle.dp_writer.proofs.SaidScales.{text_start_scale, text_table_scale}
 use Rattle.dp_writer.proofs.SaidStatements.{text_rewards}
 
@@ -151,17 +151,17 @@ text_within m text is writable said =
     let rewards = statements_for Reward text.statements in
     let lines = sym (length-map rewards said_of) ∙ ap length (text_rewards m text said) in
     λ i. first_passed (
-      kept limits.Agents _ _ has.agents sizes.agents_limit i
-      ∷ kept limits.States _ _ s sizes.states_limit i
-      ∷ kept limits.JointActions _ _ (counted _ _ has.actions (some_acted m.model is.model)
-          (few_acted m.model is.model)) (few_acted m.model is.model) i
-      ∷ kept limits.JointObservations _ _ (counted _ _ has.observations (some_seen m.model is.model)
-          (few_seen m.model is.model)) (few_seen m.model is.model) i
-      ∷ kept limits.TransCells _ _ (λ j. a j * s j * s j) sizes.trans_cells_limit i
-      ∷ kept limits.ObsCells _ _ (λ j. a j * s j * o j) sizes.obs_cells_limit i
-      ∷ kept limits.RewardCells _ _ (λ j. a j * s j * s j * o j) sizes.reward_cells_limit i
-      ∷ kept limits.RewardLines _ _ lines (few_said m.model is.model) i
-      ∷ kept limits.Scale _ _ (text_start_scale m text said s) (scale_within _ _ _ can.start) i
-      ∷ kept limits.Scale _ _ (text_trans_scale m text said s) (scale_within _ _ _ can.next) i
-      ∷ kept limits.Scale _ _ (text_obs_scale m text said o) (scale_within _ _ _ can.seen) i
-      ∷ [])
+    kept limits.Agents _ _ has.agents sizes.agents_limit i
+    ∷ kept limits.States _ _ s sizes.states_limit i
+    ∷ kept limits.JointActions _ _ (counted _ _ has.actions (some_acted m.model is.model)
+    (few_acted m.model is.model)) (few_acted m.model is.model) i
+    ∷ kept limits.JointObservations _ _ (counted _ _ has.observations (some_seen m.model is.model)
+    (few_seen m.model is.model)) (few_seen m.model is.model) i
+    ∷ kept limits.TransCells _ _ (λ j. a j * s j * s j) sizes.trans_cells_limit i
+    ∷ kept limits.ObsCells _ _ (λ j. a j * s j * o j) sizes.obs_cells_limit i
+    ∷ kept limits.RewardCells _ _ (λ j. a j * s j * s j * o j) sizes.reward_cells_limit i
+    ∷ kept limits.RewardLines _ _ lines (few_said m.model is.model) i
+    ∷ kept limits.Scale _ _ (text_start_scale m text said s) (scale_within _ _ _ can.start) i
+    ∷ kept limits.Scale _ _ (text_trans_scale m text said s) (scale_within _ _ _ can.next) i
+    ∷ kept limits.Scale _ _ (text_obs_scale m text said o) (scale_within _ _ _ can.seen) i
+    ∷ [])

@@ -1,5 +1,5 @@
 -- What the statements that are written of the rewards give.
-use Rattle.std.proofs.Common.{◌≡◌, ◌≢◌, ◌⊎◌, ℕ, suc, ◌+◌, ◌*◌, ◌^◌, ◌<◌, ◌≤◌, Bool, true, false, cond, List, [], ◌∷◌, ◌++◌}
+use Rattle.std.proofs.Common.{◌≡◌, ℕ, ◌+◌, ◌*◌, ◌^◌, ◌<◌, ◌≤◌, Bool, true, false, cond, List, [], ◌∷◌, ◌++◌}
 use Rattle.std.proofs.Common.{length, get_or, map, max, ℤ, pos, ◌*ℤ◌, unsigned_abs, refl, sym, ap, subst, ◌∙◌, arith}
 use Rattle.std.specs.Prelude.{◌&&◌, ◌||◌, Option, Some, None, option_map}
 use Rattle.std.specs.List.{flat_map, fold, list_all, list_any}
@@ -8,7 +8,7 @@ use Rattle.std.proofs.lemmas.Bool.Decides.{Decides-int_eq}
 use Rattle.std.proofs.lemmas.List.{get_or-map, length-map}
 use Rattle.std.proofs.lemmas.List.Folds.{fold-map}
 use Rattle.dp_base.specs.declared.decimal.Decimal.{Decimal}
-use Rattle.dp_spec.specs.JointNumbers.{parts_of, product}
+use Rattle.dp_spec.specs.JointNumbers.{parts_of}
 use Rattle.dp_spec.specs.Model.{IsModel, Model, joint_actions, joint_observations, reward_at}
 use Rattle.dp_spec.proofs.JointNumberLaws.{row_below}
 use Rattle.dp_meaning.specs.declared.given_list.GivenList.{GivenList}
@@ -31,7 +31,7 @@ use Rattle.dp_writer.proofs.ReadLists.{flat_at, last_of_map, last_that, last_wit
 use Rattle.dp_writer.proofs.ReadScales.{from_each, tens_divide}
 use Rattle.dp_writer.proofs.RowCells.{each_at, length_each}
 use Rattle.dp_writer.proofs.RowsAgain.{passes_at}
-use Rattle.dp_writer.proofs.SaidCovers.{allow_any, covers_other, covers_own, last_by_state}
+use Rattle.dp_writer.proofs.SaidCovers.{below_product, allow_any, covers_other, covers_own, last_by_state}
 use Rattle.dp_writer.proofs.SaidFractions.{over_fraction, reward_fraction, tens_whole}
 
 -- ---- by what is said
@@ -51,7 +51,8 @@ reward_said_of_cell : (scale : ℕ) (axes : List Axis) (statements : List Statem
 unfolding reward_of_cell
 reward_said_of_cell scale axes statements cell =
     by_said scale axes cell (last_covering axes statements cell)
-    ∙ ap (said_reward scale axes cell) (sym (last_of_map (λ (x : Said). covers axes x.fields cell) said_of statements))
+    ∙ ap (said_reward scale axes cell)
+    (sym (last_of_map (λ (x : Said). covers axes x.fields cell) said_of statements))
 
 -- ---- the statement of a joint action and a state
 
@@ -107,10 +108,6 @@ own_of_said m a s p e f =
 abbrev pub reward_axes : Axis → GivenList → GivenList → Axis → List Axis
 reward_axes axis states next seen = axis ∷ (states ∷ []) ∷ (next ∷ []) ∷ seen ∷ []
 
-below_product : (m : Model) (a : ℕ) → a < joint_actions m → a < product m.actions
-unfolding joint_actions
-below_product m a lt = lt
-
 stars_cover : (next : GivenList) (seen : Axis) (counts : List ℕ) (t o : ℕ)
     → covers ((next ∷ []) ∷ seen ∷ []) ((Any ∷ []) ∷ map (λ n. Any) counts ∷ []) (t ∷ o ∷ []) ≡ true
 stars_cover next seen counts t o = ap (λ b. b && true) (allow_any counts (parts_of (map size_of seen) o))
@@ -127,10 +124,10 @@ last_of_cell m axis states next seen a s t o sizes lt lt' =
     let last = t ∷ o ∷ [] in
     last_by_state m (reward_said m) p a s lt lt'
     (λ other n less below ne.
-        let apart = λ (more : List (List Part)).
-        covers_other axis states rest m.actions a s other n more last sizes (below_product m a lt)
-        (below_product m other less) ne in
-        none_of_said m other n p (apart stars) (apart []))
+    let apart = λ (more : List (List Part)).
+    covers_other axis states rest m.actions a s other n more last sizes (below_product m a lt)
+    (below_product m other less) ne in
+    none_of_said m other n p (apart stars) (apart []))
     ∙ own_of_said m a s p
     (covers_own axis states rest m.actions a s stars last sizes
     ∙ stars_cover next seen m.observations t o)
@@ -286,5 +283,9 @@ reward_read m axis seen states next statements a s t o is sizes size said lt lt'
     subst (λ r. IsRewardAgain (10 ^ most) m.scales.reward r (reward_at m a s t o))
     (sym (reward_said_of_cell (10 ^ most) axes statements cell ∙ ap (said_reward (10 ^ most) axes cell) last))
     (own_again m axis seen states next most a s t o is size below below'
-    (λ x found. omega (arith, digits_by_said statements, last_within (λ (y : Said). digits_of_value y.value) p
-    (map said_of statements) 0 x (last ∙ found))))
+    (λ x found. omega (
+      arith,
+      digits_by_said statements,
+      last_within (λ (y : Said). digits_of_value y.value) p
+          (map said_of statements) 0 x (last ∙ found),
+    )))

@@ -1,5 +1,6 @@
 -- The scales with which a written text is read.
-use Rattle.std.proofs.Common.{◌≡◌, ℕ, ◌*◌, ◌^◌, Bool, true, false, cond, List, [], ◌∷◌, map, max, pos, unsigned_abs, refl}
+use Rattle.std.proofs.Common.{◌≡◌, ℕ, ◌*◌, ◌^◌, Bool, true, false, cond, List, [], ◌∷◌, map, max, pos, refl}
+use Rattle.std.proofs.Common.{unsigned_abs}
 use Rattle.std.proofs.Common.{sym, ap, subst, ◌∙◌, arith}
 use Rattle.std.specs.Prelude.{◌||◌}
 use Rattle.std.specs.List.{flat_map, fold, list_any, range_with_len}
@@ -11,12 +12,11 @@ use Rattle.dp_model.specs.Tables.{NamedModel}
 use Rattle.dp_meaning.specs.declared.header.Header.{Header}
 use Rattle.dp_meaning.specs.declared.header.Start.TheVariants.{AnyState, StartRow}
 use Rattle.dp_meaning.specs.declared.statement.Statement.{Statement}
-use Rattle.dp_meaning.specs.declared.statement.Value.{Value}
 use Rattle.dp_meaning.specs.declared.statement.Value.TheVariants.{Uniform, Numbers}
 use Rattle.dp_meaning.specs.declared.text.Text.{Text}
 use Rattle.dp_meaning.specs.Cells.{statements_for}
 use Rattle.dp_meaning.specs.Text.{states_in}
-use Rattle.dp_meaning.specs.Scales.{digits_of_statements, digits_of_value, is_uniform, scale_of, scales_of}
+use Rattle.dp_meaning.specs.Scales.{digits_of_value, is_uniform, scale_of, scales_of}
 use Rattle.dp_meaning.specs.Scales.{start_scale, table_scale}
 use Rattle.dp_writer.specs.declared.rows.ChanceTable.{ChanceTable}
 use Rattle.dp_writer.specs.ModelRows.{action_rows, chance_row, scale_of_table, start_row, table_rows}

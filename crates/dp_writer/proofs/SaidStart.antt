@@ -1,5 +1,5 @@
 -- The start that is read of a written text.
-use Rattle.std.proofs.Common.{◌≡◌, ℕ, zero, suc, ◌+◌, ◌*◌, ◌/◌, ◌^◌, ◌<◌, Bool, true, false, cond, List, [], ◌∷◌}
+use Rattle.std.proofs.Common.{◌≡◌, ℕ, ◌*◌, ◌/◌, ◌<◌, Bool, true, false, cond, List, [], ◌∷◌}
 use Rattle.std.proofs.Common.{length, get_or, map, pos, sum, Some, refl, sym, ap, subst, ◌∙◌, arith}
 use Rattle.std.specs.Int.{◌∣◌}
 use Rattle.std.specs.List.{range_with_len}
@@ -8,19 +8,16 @@ use Rattle.std.proofs.lemmas.List.FromFn.{fill_by_all, get_or-map-range_with_len
 use Rattle.dp_base.specs.declared.decimal.Decimal.{Decimal}
 use Rattle.dp_spec.specs.Model.{IsModel, Model, start_at}
 use Rattle.dp_model.specs.Tables.{IsNamedModel, NamedModel}
-use Rattle.dp_meaning.specs.declared.header.Start.{Start}
 use Rattle.dp_meaning.specs.declared.header.Start.TheVariants.{AnyState, StartRow}
 use Rattle.dp_meaning.specs.declared.text.Text.{Text}
 use Rattle.dp_meaning.specs.Cells.{chance_over, no_number}
-use Rattle.dp_meaning.specs.Rows.{Repaired, Row, offset_of_start, repair_all, start_chance}
+use Rattle.dp_meaning.specs.Rows.{Repaired, offset_of_start, repair_all, start_chance}
 use Rattle.dp_meaning.specs.Rows.{start_row as given_start}
 use Rattle.dp_meaning.specs.Scales.{scales_of}
-use Rattle.dp_meaning.specs.Text.{states_in}
 use Rattle.dp_meaning.proofs.BuiltModel.{start_is_repair}
 use Rattle.dp_meaning.proofs.FaultSteps.{done}
 use Rattle.dp_writer.specs.ModelRows.{each_below, start_row}
-use Rattle.dp_writer.specs.Writable.{are_writable_rows, is_writable_row, written_scale}
-use Rattle.dp_writer.specs.WriterLaws.{fraction_digits}
+use Rattle.dp_writer.specs.Writable.{is_writable_row, written_scale}
 use Rattle.dp_writer.specs.WrittenModel.{are_equal}
 use Rattle.dp_writer.specs.WrittenNumbers.{decimal_over}
 use Rattle.dp_writer.specs.WrittenText.{IsSaidBy, chance_decimals, said_start}

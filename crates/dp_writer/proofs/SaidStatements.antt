@@ -124,7 +124,8 @@ of_table table statements = sym (filter_of_map (is_said_of table) said_of statem
 
 -- the statements of a table of chances
 pub text_chances : (m : NamedModel) (text : Text) (table : ChanceTable) → IsSaidBy m text
-    → map said_of (statements_for (said_table table) text.statements) ≡ said_by_state m.model (chance_said m.model table)
+    → map said_of (statements_for (said_table table) text.statements)
+    ≡ said_by_state m.model (chance_said m.model table)
 text_chances m text table said =
     of_table (said_table table) text.statements
     ∙ ap (filter (is_said_of (said_table table))) said.statements ∙ said_chances m.model table

@@ -1,8 +1,8 @@
 -- The tables of chances that are read of a written text.
-use Rattle.std.proofs.Common.{◌≡◌, ℕ, suc, ◌+◌, ◌*◌, ◌^◌, ◌<◌, ◌≤◌, true, false, List, [], ◌∷◌, length, get_or, map, sum}
+use Rattle.std.proofs.Common.{◌≡◌, ℕ, ◌+◌, ◌*◌, ◌^◌, ◌<◌, true, List, [], ◌∷◌, length, get_or, sum}
 use Rattle.std.proofs.Common.{refl, sym, ap, subst, ◌∙◌, arith}
 use Rattle.std.specs.Int.{◌∣◌}
-use Rattle.std.specs.List.{flat_map, list_all, range_with_len}
+use Rattle.std.specs.List.{range_with_len}
 use Rattle.std.proofs.lemmas.List.FromFn.{get_or-map-range_with_len, get_or-range_with_len, length-map-range_with_len}
 use Rattle.std.proofs.lemmas.List.FromFn.{length-range_with_len}
 use Rattle.dp_spec.specs.JointNumbers.{parts_of}
@@ -26,7 +26,7 @@ use Rattle.dp_writer.specs.ModelRows.{table_rows}
 use Rattle.dp_writer.specs.Writable.{is_writable_row, is_writable_table, written_scale}
 use Rattle.dp_writer.specs.WriterLaws.{fraction_digits}
 use Rattle.dp_writer.specs.WrittenModel.{are_equal}
-use Rattle.dp_writer.specs.WrittenText.{IsSaidBy, chance_said, said_by_state, said_of, said_table}
+use Rattle.dp_writer.specs.WrittenText.{IsSaidBy, said_table}
 use Rattle.dp_writer.proofs.ReadLists.{flat_at, length_alike}
 use Rattle.dp_writer.proofs.ReadScales.{scales_have_room}
 use Rattle.dp_writer.proofs.RightRows.{IsRight, at_parts, right_rows}
@@ -144,7 +144,8 @@ row_is_right m text table a s is writable said lt lt' =
           lt lt' (some_in_table m.model table is.model);
       sums = ap sum (row_read m.model table header.actions header.states third statements read a s has.actions
           (third_size m.model text table has) said_all lt lt'
-          ∙ ap (each_below (cell_again read (scale_of_table m.model table) (chance_row m.model table a s))) (sym long))
+          ∙ ap (each_below (cell_again read (scale_of_table m.model table) (chance_row m.model table a s)))
+          (sym long))
           ∙ again.sums;
     })
 

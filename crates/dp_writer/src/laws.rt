@@ -22,8 +22,8 @@ pub fn written_scales_have_room()
     ensures { WrittenScalesHaveRoom }
 {}
 
-/// A file whose text says a model that can be written means a model without repaired rows, with equal sizes, equal names
-/// and the same fractions.
+/// A file whose text says a model that can be written means a model without repaired rows, with equal sizes, equal
+/// names and the same fractions.
 pub fn said_texts_read_back()
     ensures { SaidTextsReadBack }
 {}
