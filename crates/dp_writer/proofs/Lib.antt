@@ -17,3 +17,17 @@ pub mod ReadDecimals
 pub mod ReadFractions
 pub mod ReadRows
 pub mod ReadScales
+pub mod ReadLists
+pub mod SaidHeaders
+pub mod SaidCovers
+pub mod SaidStatements
+pub mod RowsAgain
+pub mod SaidCells
+pub mod SaidFractions
+pub mod SaidScales
+pub mod SaidRewards
+pub mod SaidLimits
+pub mod RightRows
+pub mod SaidTables
+pub mod SaidStart
+pub mod ReadTexts

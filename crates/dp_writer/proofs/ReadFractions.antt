@@ -20,7 +20,7 @@ use Rattle.dp_writer.proofs.DigitTexts.{some_below_zero}
 use Rattle.dp_writer.proofs.ReadDecimals.{number_token, read_written}
 
 -- a number by its sign and its magnitude
-signed_abs : (z : ℤ) → signed (is_below_zero z) (unsigned_abs z) ≡ z
+pub signed_abs : (z : ℤ) → signed (is_below_zero z) (unsigned_abs z) ≡ z
 signed_abs (pos n) = refl
 signed_abs (negsuc n) = refl
 
