@@ -17,3 +17,4 @@ pub mod ReadDecimals
 pub mod ReadFractions
 pub mod ReadRows
 pub mod ReadScales
+pub mod Symbols
