@@ -18,3 +18,5 @@ pub mod ReadFractions
 pub mod ReadRows
 pub mod ReadScales
 pub mod Symbols
+pub mod SpelledLines
+pub mod SymbolItems

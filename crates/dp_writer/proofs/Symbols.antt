@@ -61,6 +61,11 @@ pub record HasSymbols (bytes : List ℕ) (at : ℕ) (symbols : List Symbol) : Ty
 pub record ReadsAs (rest : List ℕ) (symbols : List Symbol) : Type 0 where
   pub reads : (bytes : List ℕ) (at : ℕ) → drop at bytes ≡ rest → HasSymbols bytes at symbols
 
+-- the same text is read as the same symbols
+pub same_read : {text other : List ℕ} {symbols others : List Symbol} → text ≡ other → symbols ≡ others
+    → ReadsAs text symbols → ReadsAs other others
+same_read {other = other} {symbols = symbols} e f read = subst (ReadsAs other) f (subst (λ l. ReadsAs l symbols) e read)
+
 -- nothing is left
 pub nothing_read : ReadsAs [] []
 unfolding tokens_from
