@@ -12,3 +12,4 @@ pub mod MadeSizes
 pub mod TableText
 pub mod NeededScales
 pub mod WriterLaws
+pub mod WrittenText
