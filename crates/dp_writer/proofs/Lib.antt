@@ -20,3 +20,5 @@ pub mod ReadScales
 pub mod Symbols
 pub mod SpelledLines
 pub mod SymbolItems
+pub mod WordShapes
+pub mod ReadPieces
