@@ -22,3 +22,4 @@ pub mod SpelledLines
 pub mod SymbolItems
 pub mod WordShapes
 pub mod ReadPieces
+pub mod NumberWords
