@@ -23,3 +23,5 @@ pub mod SymbolItems
 pub mod WordShapes
 pub mod ReadPieces
 pub mod NumberWords
+pub mod Ranges
+pub mod WrittenFacts
