@@ -25,3 +25,4 @@ pub mod ReadPieces
 pub mod NumberWords
 pub mod Ranges
 pub mod WrittenFacts
+pub mod WrittenItems
