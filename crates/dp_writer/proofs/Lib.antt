@@ -26,3 +26,4 @@ pub mod NumberWords
 pub mod Ranges
 pub mod WrittenFacts
 pub mod WrittenItems
+pub mod StatementItems

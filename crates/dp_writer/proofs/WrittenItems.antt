@@ -110,7 +110,7 @@ pub record AreItemLines (lines : List Words) (items : List SymbolItem) : Type 0 
   pub lines_are : AreLinesOf lines (flat_map item_lines items)
   pub items_are : Each IsSymbolItem items
 
-items_joined : IsJoined AreItemLines
+pub items_joined : IsJoined AreItemLines
 items_joined = record {
   none = record { lines_are = tt; items_are = tt };
   joined = λ lines more items others a b. record {
@@ -130,7 +130,7 @@ runs_begin_none (word ∷ second ∷ words) = by (is_decimal second)
     by true = refl
     by false = refl
 
-none_begin : (lines : List Words) → Each (λ line. begins line ≡ false) (map (map run_symbol) lines)
+pub none_begin : (lines : List Words) → Each (λ line. begins line ≡ false) (map (map run_symbol) lines)
 none_begin [] = tt
 none_begin (words ∷ lines) = (runs_begin_none words, none_begin lines)
 
@@ -141,7 +141,7 @@ pub record AreRunLines (lines : List Words) : Type 0 where
 IsRunLine : Words → Type 0
 IsRunLine words = (0 < length words) × Each IsRun words
 
-run_lines : (lines : List Words) → Each (λ words. (0 < length words) × Each IsRun words) lines
+pub run_lines : (lines : List Words) → Each (λ words. (0 < length words) × Each IsRun words) lines
     → AreLinesOf lines (map (map run_symbol) lines)
 run_lines [] each = tt
 run_lines (words ∷ lines) each = (runs_line words each.0.0 each.0.1, run_lines lines each.1)
@@ -180,7 +180,7 @@ module _ (m : NamedModel) (can : CanBeWritten m) where
         (observations_list m can i (omega (arith, below))),
       )))
 
-  header_read : AreItemLines (header_lines m) (header_items m)
+  pub header_read : AreItemLines (header_lines m) (header_items m)
   unfolding header_lines
   header_read = record {
     lines_are = (
