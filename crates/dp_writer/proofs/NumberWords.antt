@@ -86,6 +86,7 @@ chance_number scale n some within whole =
     (omega (arith, div-le_of_le-mul scale {m = n * 10 ^ 18} {n = 10 ^ 18} (mul-le-mul_right (10 ^ 18) within))) in
     record {
       run = number_run (chance_word scale n) is.token;
+      shape = is.token.1;
       read = is.read;
       in_range = chance_range (decimal_over 18 (pos n) scale) scale n some within is.sign is.fraction is.few;
     }
@@ -111,6 +112,7 @@ reward_number scale k r few tens within =
     let some : 0 < scale = omega (arith, tens, tens_up 0 k (omega arith)) in
     record {
       run = number_run (reward_word scale r) is.token;
+      shape = is.token.1;
       read = is.read;
       in_range = reward_range (decimal_over 9 r scale) scale (unsigned_abs r) some within is.fraction is.few;
     }

@@ -13,7 +13,7 @@ use Rattle.std.proofs.lemmas.Slice.Eq.{bytes_eq-Decides}
 use Rattle.std.proofs.Math.Seq.{get_or-append_seam}
 use Rattle.dp_base.specs.declared.decimal.Decimal.{Decimal}
 use Rattle.dp_base.specs.Decimals.{decimal_of}
-use Rattle.dp_base.specs.DecimalShape.{is_index}
+use Rattle.dp_base.specs.DecimalShape.{is_decimal, is_index}
 use Rattle.dp_base.specs.Names.{is_name}
 use Rattle.dp_model.specs.Names.{has_name}
 use Rattle.dp_meaning.specs.declared.why.Fault.{Fault}
@@ -34,8 +34,8 @@ use Rattle.dp_writer.proofs.Symbols.{Symbol, symbol_of, run_symbol, IsRun}
 use Rattle.dp_writer.proofs.WordShapes.{IsIndexOf, IsNameWord, index_written, name_word}
 
 -- a step that does not fail is followed by the next
-pub then : {A B : Type 0} (x : Result A Fault) (f : A → Result B Fault) (a : A) → x ≡ done a → (x >>= f) ≡ f a
-then x f a e = ap (λ (r : Result _ Fault). r >>= f) e
+pub step_done : {A B : Type 0} (x : Result A Fault) (f : A → Result B Fault) (a : A) → x ≡ done a → (x >>= f) ≡ f a
+step_done x f a e = ap (λ (r : Result _ Fault). r >>= f) e
 
 -- the text of a piece that is a word or a number
 pub text_is : (piece : Piece) (text : List ℕ) → symbol_of piece ≡ run_symbol text → piece.text ≡ text
@@ -46,6 +46,7 @@ text_is piece text e = ap (λ (s : Symbol). s.text) e
 -- a word is read as a number that is in range
 pub record IsNumberOf (fits : Decimal → Bool) (text : List ℕ) (d : Decimal) : Type 0 where
   pub run : IsRun text
+  pub shape : is_decimal text ≡ true
   pub read : decimal_of text ≡ Ok d
   pub in_range : fits d ≡ true
 
@@ -70,13 +71,14 @@ numbers_read fits next n word d (x ∷ xs) (piece ∷ pieces) len each e =
     let text = text_is piece (word x) same in
     let others : map symbol_of pieces ≡ map run_symbol (map word xs) = cc in
     ap (λ k. numbers fits next k (piece ∷ pieces)) len
-    ∙ then (number fits piece) _ (d x) (number_read fits piece (word x) (d x) text each.0)
-    ∙ then (numbers fits next (length xs) pieces) _ (map d xs)
+    ∙ step_done (number fits piece) _ (d x) (number_read fits piece (word x) (d x) text each.0)
+    ∙ step_done (numbers fits next (length xs) pieces) _ (map d xs)
     (numbers_read fits next (length xs) word d xs pieces refl each.1 others)
 
 -- ---- lists
 
-other_bytes : (a b : List ℕ) → (a ≡ b → ⊥) → bytes_eq a b ≡ false
+-- bytes that are not the same
+pub other_bytes : (a b : List ℕ) → (a ≡ b → ⊥) → bytes_eq a b ≡ false
 other_bytes a b differ = elim (cases_Bool (bytes_eq a b)) [
   | inl same ↦ absurd (differ ((bytes_eq-Decides a b).0 same))
   | inr other ↦ other
@@ -138,7 +140,7 @@ list_read [] n next (piece ∷ []) is e =
     let written = index_written n (omega (arith, is.few)) in
     ap (λ b. cond b (count piece >>= λ k. ended (Counted k) []) (names_after [] (piece ∷ []) >>= λ names. done
     (Named names))) (ap is_index text ∙ written.index)
-    ∙ then (count piece) (λ k. ended (Counted k) []) n
+    ∙ step_done (count piece) (λ k. ended (Counted k) []) n
     (count_read piece n (ap (digits_value 10) text ∙ written.value) is.some is.few)
 list_read [] n next (piece ∷ more ∷ pieces) is e = absurd cc
 list_read (name ∷ names) n next [] is e = absurd cc
@@ -148,7 +150,7 @@ list_read (name ∷ names) n next (piece ∷ pieces) is e =
     let none : is_index piece.text ≡ false = ap is_index text ∙ is.are_names.0.no_index in
     ap (λ b. cond b (count piece >>= λ k. ended (Counted k) pieces) (names_after [] (piece ∷ pieces) >>= λ ns. done
     (Named ns))) none
-    ∙ then (names_after [] (piece ∷ pieces)) (λ ns. done (Named ns)) (name ∷ names)
+    ∙ step_done (names_after [] (piece ∷ pieces)) (λ ns. done (Named ns)) (name ∷ names)
     (names_read [] (name ∷ names) (piece ∷ pieces) is.are_names is.differ e)
 
 -- its words are names and numbers

@@ -202,7 +202,8 @@ pub record HasItems (bytes : List ℕ) (its : List SymbolItem) : Type 0 where
   pub before : (items_of_pieces (length bytes) pieces).before ≡ []
   pub items : map item_symbols (items_of_pieces (length bytes) pieces).items ≡ its
 
-none_mapped : {A B : Type 0} (f : A → B) (xs : List A) → map f xs ≡ [] → xs ≡ []
+-- a list of which nothing is made is empty
+pub none_mapped : {A B : Type 0} (f : A → B) (xs : List A) → map f xs ≡ [] → xs ≡ []
 none_mapped f [] e = refl
 none_mapped f (x ∷ xs) e = absurd cc
 
