@@ -27,3 +27,5 @@ pub mod Ranges
 pub mod WrittenFacts
 pub mod WrittenItems
 pub mod StatementItems
+pub mod EntryValues
+pub mod HeaderRead
