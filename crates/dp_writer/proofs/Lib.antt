@@ -29,3 +29,14 @@ pub mod WrittenItems
 pub mod StatementItems
 pub mod EntryValues
 pub mod HeaderRead
+pub mod ReadLists
+pub mod SaidHeaders
+pub mod SaidCovers
+pub mod SaidStatements
+pub mod RowsAgain
+pub mod SaidCells
+pub mod SaidFractions
+pub mod SaidScales
+pub mod SaidRewards
+pub mod SaidLimits
+pub mod RightRows

@@ -19,11 +19,11 @@ use Rattle.dp_writer.proofs.DigitTexts.{some_below_zero}
 use Rattle.dp_writer.proofs.ReadDecimals.{number_token, read_written}
 
 -- a number by its sign and its magnitude
-signed_abs : (z : ℤ) → signed (is_below_zero z) (unsigned_abs z) ≡ z
+pub signed_abs : (z : ℤ) → signed (is_below_zero z) (unsigned_abs z) ≡ z
 signed_abs (pos n) = refl
 signed_abs (negsuc n) = refl
 
-signed-mul : (negative : Bool) (a b : ℕ) → (signed negative a *ℤ pos b) ≡ signed negative (a * b)
+pub signed-mul : (negative : Bool) (a b : ℕ) → (signed negative a *ℤ pos b) ≡ signed negative (a * b)
 signed-mul true zero b = let none : 0 * b ≡ 0 = omega arith in rw none refl
 signed-mul true (suc a) b = refl
 signed-mul false a b = refl

@@ -18,11 +18,11 @@ use Rattle.dp_writer.specs.WrittenNumbers.{decimal_over}
 
 -- the greatest is at least where it began, and at least each
 module _ {A : Type 0} (g : A → ℕ) where
-  from_first : (m : ℕ) (xs : List A) → m ≤ fold (λ most x. max most (g x)) m xs
+  pub from_first : (m : ℕ) (xs : List A) → m ≤ fold (λ most x. max most (g x)) m xs
   from_first m [] = omega arith
   from_first m (x ∷ xs) = omega (arith, from_first (max m (g x)) xs)
 
-  from_each : (m : ℕ) (xs : List A) (i : ℕ) (d : A) → i < length xs
+  pub from_each : (m : ℕ) (xs : List A) (i : ℕ) (d : A) → i < length xs
       → g (get_or xs i d) ≤ fold (λ most x. max most (g x)) m xs
   from_each m [] i d lt = absurd (omega (arith, lt))
   from_each m (x ∷ xs) zero d lt = omega (arith, from_first (max m (g x)) xs)
@@ -36,7 +36,7 @@ one_passes p (x ∷ xs) zero d lt passes = rw passes refl
 one_passes p (x ∷ xs) (suc i) d lt passes = rw (one_passes p xs i d (omega (arith, lt)) passes) (or-true (p x))
 
 -- fewer tens divide more
-tens_divide : (a b : ℕ) → a ≤ b → 10 ^ a ∣ 10 ^ b
+pub tens_divide : (a b : ℕ) → a ≤ b → 10 ^ a ∣ 10 ^ b
 tens_divide a b le =
     let split : b ≡ a + (b - a) = omega (arith, le) in
     subst (λ k. 10 ^ a ∣ k) (sym (ap (λ e. 10 ^ e) split ∙ pow-add 10 a (b - a)))
