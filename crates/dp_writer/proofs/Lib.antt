@@ -29,6 +29,7 @@ pub mod WrittenItems
 pub mod StatementItems
 pub mod EntryValues
 pub mod HeaderRead
+pub mod FieldSymbols
 pub mod ReadLists
 pub mod SaidHeaders
 pub mod SaidCovers

@@ -57,6 +57,23 @@ pub record IsJoined {X Y : Type 0} (R : List X → List Y → Type 0) : Type 0 w
   pub none : R [] []
   pub joined : (xs more : List X) (ys others : List Y) → R xs ys → R more others → R (xs ++ more) (ys ++ others)
 
+-- what holds of two lists side by side
+abbrev pub Alongside : {X Y : Type 0} → (X → Y → Type 0) → List X → List Y → Type 0
+Alongside R [] [] = Unit {0}
+Alongside R [] (y ∷ ys) = ⊥
+Alongside R (x ∷ xs) [] = ⊥
+Alongside R (x ∷ xs) (y ∷ ys) = R x y × Alongside R xs ys
+
+alongside_append : {X Y : Type 0} (R : X → Y → Type 0) (xs more : List X) (ys others : List Y) → Alongside R xs ys
+    → Alongside R more others → Alongside R (xs ++ more) (ys ++ others)
+alongside_append R [] more [] others a b = b
+alongside_append R [] more (y ∷ ys) others a b = absurd a
+alongside_append R (x ∷ xs) more [] others a b = absurd a
+alongside_append R (x ∷ xs) more (y ∷ ys) others a b = (a.0, alongside_append R xs more ys others a.1 b)
+
+pub alongside_joined : {X Y : Type 0} (R : X → Y → Type 0) → IsJoined (Alongside R)
+alongside_joined R = record { none = tt; joined = alongside_append R }
+
 -- it holds of all lists where it holds of each
 pub over_range : {X Y : Type 0} (R : List X → List Y → Type 0) (join : IsJoined R) (f : ℕ → List X) (g : ℕ → List Y)
     (a n : ℕ) → ((k : ℕ) → k < a + n → R (f k) (g k))
