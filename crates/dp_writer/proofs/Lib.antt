@@ -30,6 +30,8 @@ pub mod StatementItems
 pub mod EntryValues
 pub mod HeaderRead
 pub mod FieldSymbols
+pub mod StatementValues
+pub mod StatementRead
 pub mod ReadLists
 pub mod SaidHeaders
 pub mod SaidCovers
