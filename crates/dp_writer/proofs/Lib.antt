@@ -32,6 +32,8 @@ pub mod HeaderRead
 pub mod FieldSymbols
 pub mod StatementValues
 pub mod StatementRead
+pub mod StatementsSaid
+pub mod WrittenRead
 pub mod ReadLists
 pub mod SaidHeaders
 pub mod SaidCovers

@@ -66,15 +66,15 @@ pub record SaysItem (header : Header) (symbols : SymbolItem) (said : Said) : Typ
       → (s : Statement) × (statement_of_kind header item (kind_of item) ≡ done s) × (said_of s ≡ said)
 
 -- what is known of what stands behind the fields of a joint action and a state
-record IsRest (header : Header) (table : Table) (axes : List Axis) (rest : List Symbol) (lines : List Words)
+pub record IsRest (header : Header) (table : Table) (axes : List Axis) (rest : List Symbol) (lines : List Words)
     (parts : List (List Part)) (value : Value) : Type 0 where
-  axes_are : axes_of header table ≡ header.actions ∷ (header.states ∷ []) ∷ axes
-  least : least_fields table ≤ 2
-  fields : List (List Symbol)
-  left : List Symbol
-  fields_are : symbol_fields rest ≡ record { fields = fields; rest = left }
-  read : FieldsRead axes fields parts
-  value_read : (next : ℕ) (pieces : List Piece)
+  pub axes_are : axes_of header table ≡ header.actions ∷ (header.states ∷ []) ∷ axes
+  pub least : least_fields table ≤ 2
+  pub fields : List (List Symbol)
+  pub left : List Symbol
+  pub fields_are : symbol_fields rest ≡ record { fields = fields; rest = left }
+  pub read : FieldsRead axes fields parts
+  pub value_read : (next : ℕ) (pieces : List Piece)
       → map symbol_of pieces ≡ left ++ flat_map (λ l. l) (map (map run_symbol) lines)
       → value_of table (drop (length parts) axes) next pieces ≡ done value
 
@@ -119,7 +119,7 @@ module _ (header : Header) (m : Model) (sizes : HasSizes m header) (a s : ℕ) (
       others)
 
   -- an item with these fields
-  item_says : (word : List ℕ) (table : Table) (axes : List Axis) (rest : List Symbol) (lines : List Words)
+  pub item_says : (word : List ℕ) (table : Table) (axes : List Axis) (rest : List Symbol) (lines : List Words)
       (parts : List (List Part)) (value : Value) → kind_in item_words word ≡ StatementOf table
       → IsRest header table axes rest lines parts value
       → SaysItem header (statement_item m word a s rest lines)
