@@ -45,3 +45,6 @@ pub mod SaidScales
 pub mod SaidRewards
 pub mod SaidLimits
 pub mod RightRows
+pub mod SaidTables
+pub mod SaidStart
+pub mod ReadTexts

@@ -6,10 +6,15 @@ use Rattle.dp_base.specs.declared.decimal.Decimal.{Decimal}
 use Rattle.dp_base.specs.Decimals.{decimal_of}
 use Rattle.dp_lexer.specs.declared.Kind.TheVariants.{Number}
 use Rattle.dp_lexer.specs.TokenLaws.{IsOfKind}
+use Rattle.dp_spec.specs.Model.{joint_actions, joint_observations, start_at, trans_at, obs_at, reward_at}
+use Rattle.dp_model.specs.Tables.{IsNamedModel, NamedModel}
+use Rattle.dp_meaning.specs.declared.text.Text.{Text}
 use Rattle.dp_meaning.specs.Cells.{chance_over}
-use Rattle.dp_writer.specs.Writable.{written_scale}
+use Rattle.dp_meaning.specs.Meaning.{ReadModel, Means, meaning, text_of}
+use Rattle.dp_writer.specs.Writable.{is_writable, written_scale}
 use Rattle.dp_writer.specs.WrittenModel.{are_equal, chance_word, reward_word}
 use Rattle.dp_writer.specs.WrittenNumbers.{decimal_over}
+use Rattle.dp_writer.specs.WrittenText.{IsSaidBy}
 
 -- a text is one Number, and read as the fraction n / scale
 pub record ReadsAs (text : List ℕ) (n : ℤ) (scale : ℕ) : Type 0 where
@@ -59,3 +64,33 @@ WrittenScalesHaveRoom =
     → (are_equal (get_or rows i []) ≡ true → len ∣ written_scale scale len rows)
     × ((j : ℕ) → are_equal (get_or rows i []) ≡ false → j < length (get_or rows i [])
     → 10 ^ fraction_digits scale (get_or (get_or rows i []) j 0) ∣ written_scale scale len rows)
+
+-- ---- models
+
+-- A model that is read is the model again: no row of it was repaired, its sizes and its names are equal, and its
+-- chances, its discount and its rewards are the same fractions.
+pub record IsModelAgain (m : NamedModel) (r : ReadModel) : Type 0 where
+  pub repaired : r.repaired ≡ 0
+  pub names : r.model.names ≡ m.names
+  pub states : r.model.model.states ≡ m.model.states
+  pub actions : r.model.model.actions ≡ m.model.actions
+  pub observations : r.model.model.observations ≡ m.model.observations
+  pub discount : r.model.model.scales.gain * m.model.scales.discount
+      ≡ m.model.scales.gain * r.model.model.scales.discount
+  pub start : (s : ℕ) → s < m.model.states
+      → start_at r.model.model s * m.model.scales.start ≡ start_at m.model s * r.model.model.scales.start
+  pub trans : (a s t : ℕ) → a < joint_actions m.model → s < m.model.states → t < m.model.states
+      → trans_at r.model.model a s t * m.model.scales.trans ≡ trans_at m.model a s t * r.model.model.scales.trans
+  pub obs : (a t o : ℕ) → a < joint_actions m.model → t < m.model.states → o < joint_observations m.model
+      → obs_at r.model.model a t o * m.model.scales.obs ≡ obs_at m.model a t o * r.model.model.scales.obs
+  pub reward : (a s t o : ℕ) → a < joint_actions m.model → s < m.model.states → t < m.model.states
+      → o < joint_observations m.model
+      → (reward_at r.model.model a s t o *ℤ pos m.model.scales.reward)
+      ≡ (reward_at m.model a s t o *ℤ pos r.model.model.scales.reward)
+
+-- A file whose text says a model that can be written means that model again.
+abbrev pub SaidTextsReadBack : Type 0
+SaidTextsReadBack =
+    (bytes : List ℕ) (m : NamedModel) (text : Text) → IsNamedModel m → is_writable m.model ≡ true
+    → text_of bytes ≡ Ok text → IsSaidBy m text
+    → (r : ReadModel) × (meaning bytes ≡ Means r) × IsModelAgain m r

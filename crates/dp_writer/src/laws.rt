@@ -1,5 +1,5 @@
 ghost use Rattle.dp_writer.specs.WriterLaws.{WrittenChancesReadBack, WrittenRewardsReadBack, WrittenRowsNeedNoRepair};
-ghost use Rattle.dp_writer.specs.WriterLaws.{WrittenScalesHaveRoom};
+ghost use Rattle.dp_writer.specs.WriterLaws.{SaidTextsReadBack, WrittenScalesHaveRoom};
 
 /// The word that is written of a chance which is a whole multiple of `10^-18` is read as that chance.
 pub fn written_chances_read_back()
@@ -20,4 +20,10 @@ pub fn written_rows_need_no_repair()
 /// by the length of uniform rows.
 pub fn written_scales_have_room()
     ensures { WrittenScalesHaveRoom }
+{}
+
+/// A file whose text says a model that can be written means a model without repaired rows, with equal sizes, equal names
+/// and the same fractions.
+pub fn said_texts_read_back()
+    ensures { SaidTextsReadBack }
 {}

@@ -22,7 +22,7 @@ mod table_text;
 
 pub use fault::MakeFault;
 pub use laws::{
-    written_chances_read_back, written_rewards_read_back, written_rows_need_no_repair,
+    said_texts_read_back, written_chances_read_back, written_rewards_read_back, written_rows_need_no_repair,
     written_scales_have_room,
 };
 pub use made::make_model;
