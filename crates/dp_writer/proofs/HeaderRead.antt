@@ -36,7 +36,7 @@ use Rattle.dp_writer.proofs.ReadPieces.{list_read, size_given, step_done}
 use Rattle.dp_writer.proofs.RowCells.{length_each}
 use Rattle.dp_writer.proofs.Symbols.{Symbol, symbol_of}
 use Rattle.dp_writer.proofs.SymbolItems.{SymbolItem, item_symbols}
-use Rattle.dp_writer.proofs.WrittenFacts.{CanBeWritten, actions_list, agents_list, discount_number, observations_list}
+use Rattle.dp_writer.proofs.WrittenFacts.{IsWritableModel, actions_list, agents_list, discount_number, observations_list}
 use Rattle.dp_writer.proofs.WrittenFacts.{start_written, states_list}
 use Rattle.dp_writer.proofs.WrittenItems.{header_items, word_item}
 use Rattle.dp_spec.specs.Model.{start_at}
@@ -104,7 +104,7 @@ header_done end entries header (item ∷ rest) (it ∷ its) all e each =
     let kind = kind_is item each.0.symbol each.0.more (ap (λ (i : SymbolItem). i.first) same ∙ each.0.first) ∙ each.0.kind in
     rw (kind, header_of) (step_done (header_with (item_at item) entries) (λ h. done (h, item ∷ rest)) header (all (item_at item)))
 
-module _ (m : NamedModel) (can : CanBeWritten m) where
+module _ (m : NamedModel) (can : IsWritableModel m) where
   -- the values of the entries
   abbrev agents : GivenList
   agents = given_list m.names.agents (length m.model.actions)

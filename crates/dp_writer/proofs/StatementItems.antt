@@ -27,7 +27,7 @@ use Rattle.dp_writer.proofs.SpelledLines.{star_spelled, word_spelled, words_spel
 use Rattle.dp_writer.proofs.Symbols.{IsRun, Symbol, colon_symbol, run_symbol, star_symbol}
 use Rattle.dp_writer.proofs.SymbolItems.{HasItems, SymbolItem, item_lines, items_read}
 use Rattle.dp_writer.proofs.WordShapes.{index_written}
-use Rattle.dp_writer.proofs.WrittenFacts.{CanBeWritten, reward_number_of, row_runs, row_written}
+use Rattle.dp_writer.proofs.WrittenFacts.{IsWritableModel, reward_number_of, row_runs, row_written}
 use Rattle.dp_writer.proofs.WrittenItems.{AreItemLines, any_symbols, by_state, chance_items, field_symbols, header_items}
 use Rattle.dp_writer.proofs.WrittenItems.{header_read, items_joined, none_begin, one_reward_items, reward_items, run_lines}
 use Rattle.dp_writer.proofs.WrittenItems.{statement_item, statement_items, table_letter}
@@ -97,7 +97,7 @@ module _ (m : Model) (is : IsModel m) (a s : ℕ) (action : a < joint_actions m)
 
 -- ---- rows of chances
 
-module _ (m : NamedModel) (can : CanBeWritten m) (a s : ℕ) (action : a < joint_actions m.model)
+module _ (m : NamedModel) (can : IsWritableModel m) (a s : ℕ) (action : a < joint_actions m.model)
     (state : s < m.model.states) where
   chance_read_of : (table : ChanceTable) (word : List ℕ) → IsRun word
       → AreItemLines (statement_words m.model (word ++ 58 ∷ []) a s
@@ -196,7 +196,7 @@ over_states R join m f g each =
     (λ s state. each a s (omega (arith, action)) (omega (arith, state))))
 
 -- the lines that are written of a model
-pub lines_are_items : (m : NamedModel) → CanBeWritten m
+pub lines_are_items : (m : NamedModel) → IsWritableModel m
     → AreItemLines (written_lines m) (header_items m ++ statement_items m.model)
 unfolding written_lines
 lines_are_items m can =
@@ -217,7 +217,7 @@ lines_are_items m can =
     rewards))
 
 -- the items of the text that is written of a model
-pub written_items_read : (m : NamedModel) → CanBeWritten m
+pub written_items_read : (m : NamedModel) → IsWritableModel m
     → HasItems (written_model m) (header_items m ++ statement_items m.model)
 unfolding written_model
 written_items_read m can =

@@ -53,7 +53,7 @@ use Rattle.dp_writer.proofs.StatementItems.{over_states, parts_within}
 use Rattle.dp_writer.proofs.StatementValues.{rewards_value_read, row_value_read}
 use Rattle.dp_writer.proofs.Symbols.{Symbol, colon_symbol, run_symbol, star_symbol, symbol_of}
 use Rattle.dp_writer.proofs.SymbolItems.{SymbolItem, after_colon_symbols, item_symbols, line_symbols, more_symbols}
-use Rattle.dp_writer.proofs.WrittenFacts.{CanBeWritten, reward_number_of, row_written}
+use Rattle.dp_writer.proofs.WrittenFacts.{IsWritableModel, reward_number_of, row_written}
 use Rattle.dp_writer.proofs.WrittenItems.{any_symbols, by_state, chance_items, field_symbols, one_reward_items}
 use Rattle.dp_writer.proofs.WrittenItems.{reward_items, statement_item, statement_items, table_letter}
 

@@ -47,7 +47,7 @@ use Rattle.dp_writer.proofs.StatementRead.{IsRest, SaysItem, item_says}
 use Rattle.dp_writer.proofs.StatementValues.{rewards_value_read, row_value_read}
 use Rattle.dp_writer.proofs.Symbols.{Symbol, colon_symbol, run_symbol, star_symbol, symbol_of}
 use Rattle.dp_writer.proofs.SymbolItems.{SymbolItem, item_symbols}
-use Rattle.dp_writer.proofs.WrittenFacts.{CanBeWritten, reward_number_of, row_written}
+use Rattle.dp_writer.proofs.WrittenFacts.{IsWritableModel, reward_number_of, row_written}
 use Rattle.dp_writer.proofs.WrittenItems.{any_symbols, by_state, chance_items, reward_items, statement_items}
 use Rattle.dp_writer.proofs.WrittenItems.{statement_item}
 
@@ -61,7 +61,7 @@ any_fields reward =
     ∙ ap (λ (f : SymbolFields). record { fields = (star_symbol ∷ []) ∷ f.fields; rest = f.rest })
     (no_field (run_symbol reward ∷ []) (run_in_field reward, tt)))
 
-module _ (m : NamedModel) (can : CanBeWritten m) (header : Header) (sizes : HasSizes m.model header) where
+module _ (m : NamedModel) (can : IsWritableModel m) (header : Header) (sizes : HasSizes m.model header) where
   -- any joint observation
   any_observation : map {A = _} {B = Part} (λ _. Any) header.observations ≡ map (λ _. Any) m.model.observations
   any_observation = sym (map-map {B = ℕ} (λ _. Any) size_of header.observations) ∙ ap (map (λ _. Any)) sizes.observations

@@ -37,7 +37,7 @@ use Rattle.dp_writer.proofs.Symbols.{IsRun}
 use Rattle.dp_writer.proofs.WordShapes.{IsNameWord, name_word}
 
 -- what `write_model` knows of a model
-pub record CanBeWritten (m : NamedModel) : Type 0 where
+pub record IsWritableModel (m : NamedModel) : Type 0 where
   pub named : IsNamedModel m
   pub names : AreNames m.names
   pub writable : IsTrue (is_writable m.model)
@@ -74,7 +74,7 @@ whole_tens a scale k most few tens =
     ∙ sym (mul_assoc a (10 ^ (most - k)) (10 ^ k)) ∙ ap (λ p. a * 10 ^ (most - k) * p) (sym tens) in
     ap (λ x. x % scale) all ∙ mul-mod_left (a * 10 ^ (most - k)) scale
 
-module _ (m : NamedModel) (can : CanBeWritten m) where
+module _ (m : NamedModel) (can : IsWritableModel m) where
   abbrev model : IsModel m.model
   model = can.named.model
 
@@ -195,7 +195,7 @@ table_writable m writable =
     each next seen Next = next
     each next seen Seen = seen
 
-module _ (m : NamedModel) (can : CanBeWritten m) where
+module _ (m : NamedModel) (can : IsWritableModel m) where
   -- the start
   pub start_written : IsWrittenRow m.model.scales.start (start_row m.model)
   start_written = row_of m.model Start can.named.model tt (table_writable m.model can.writable).0

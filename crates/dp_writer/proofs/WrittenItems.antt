@@ -31,7 +31,7 @@ use Rattle.dp_writer.proofs.SpelledLines.{runs_spelled, same_line, star_spelled,
 use Rattle.dp_writer.proofs.Symbols.{IsRun, Symbol, colon_symbol, run_symbol, star_symbol}
 use Rattle.dp_writer.proofs.SymbolItems.{IsSymbolItem, SymbolItem, begins, item_lines}
 use Rattle.dp_writer.proofs.WordShapes.{index_written}
-use Rattle.dp_writer.proofs.WrittenFacts.{CanBeWritten, IsWrittenRow, actions_list, agents_list, discount_number}
+use Rattle.dp_writer.proofs.WrittenFacts.{IsWritableModel, IsWrittenRow, actions_list, agents_list, discount_number}
 use Rattle.dp_writer.proofs.WrittenFacts.{observations_list, reward_number_of, row_runs, row_written, start_written}
 use Rattle.dp_writer.proofs.WrittenFacts.{states_list}
 
@@ -156,7 +156,7 @@ word_is : (text : List ℕ) → IsRun text → (words : Words) → Each IsRun wo
     (run_symbol text ∷ colon_symbol ∷ map run_symbol words)
 word_is text run words runs = labelled_line text words run runs
 
-module _ (m : NamedModel) (can : CanBeWritten m) where
+module _ (m : NamedModel) (can : IsWritableModel m) where
   actions_lines : AreLinesOf (agent_lines m.names.actions m.model.actions)
       (map (map run_symbol) (agent_lines m.names.actions m.model.actions))
   actions_lines = run_lines (agent_lines m.names.actions m.model.actions)
