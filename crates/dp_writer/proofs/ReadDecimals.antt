@@ -35,7 +35,7 @@ use Rattle.dp_writer.proofs.ShortestDigits.{shortest_stays}
 digit_byte : (d : ℕ) → d < 10 → is_ascii_digit (48 + d) ≡ true
 digit_byte d below = rw (le-leb 48 (48 + d) (omega arith), le-leb (48 + d) 57 (omega arith)) refl
 
-all_digits : (ds : List ℕ) → AllDigits 10 ds → list_all is_ascii_digit ds ≡ true
+pub all_digits : (ds : List ℕ) → AllDigits 10 ds → list_all is_ascii_digit ds ≡ true
 all_digits [] are = refl
 all_digits (c ∷ cs) are =
     let low : 48 ≤ c = omega (arith, digit_from_value c are.0) in
@@ -253,7 +253,7 @@ read_written negative n k ends below few some =
 
 -- ---- the token of a number
 
-digit_names : (ds : List ℕ) → list_all is_ascii_digit ds ≡ true → list_all is_name_byte ds ≡ true
+pub digit_names : (ds : List ℕ) → list_all is_ascii_digit ds ≡ true → list_all is_name_byte ds ≡ true
 digit_names [] all = refl
 digit_names (d ∷ ds) all =
     let parts = and_parts (is_ascii_digit d) (list_all is_ascii_digit ds) all in

@@ -39,7 +39,7 @@ without_tens n a scale j k most v sum value is =
     ∙ ap (λ p. a * p) (pow-add 10 k j) ∙ sym (mul_assoc a (10 ^ k) (10 ^ j)))
 
 -- it is small
-small : (n j k most v : ℕ) → j + k ≡ most → n * 10 ^ j ≡ v → v < 10 ^ (18 + most) → n < 10 ^ (18 + k)
+pub small : (n j k most v : ℕ) → j + k ≡ most → n * 10 ^ j ≡ v → v < 10 ^ (18 + most) → n < 10 ^ (18 + k)
 small n j k most v sum value below = elim (cases_lt n (10 ^ (18 + k))) [
   | inl less ↦ less
   | inr past ↦ (
@@ -50,7 +50,7 @@ small n j k most v sum value below = elim (cases_lt n (10 ^ (18 + k))) [
 ]
 
 -- it is not 0
-not_zero : (n a scale k : ℕ) → n * scale ≡ a * 10 ^ k → 0 < a → 0 < n
+pub not_zero : (n a scale k : ℕ) → n * scale ≡ a * 10 ^ k → 0 < a → 0 < n
 not_zero zero a scale k is some =
     let none : 0 * scale ≡ 0 = omega arith in
     let tens : 1 ≤ 10 ^ k = omega (arith, tens_up 0 k (omega arith)) in
@@ -89,15 +89,21 @@ chances_read_back scale n some within whole =
     read_over 18 scale (pos n) (omega arith) whole
     (omega (arith, div-le_of_le-mul scale {m = n * 10 ^ 18} {n = 10 ^ 18} (mul-le-mul_right (10 ^ 18) within)))
 
--- a reward
-pub rewards_read_back : WrittenRewardsReadBack
-rewards_read_back scale k r few tens within =
+-- a reward over a power of ten has few fraction digits
+pub reward_digits : (scale k : ℕ) (r : ℤ) → k ≤ 9 → scale ≡ 10 ^ k → unsigned_abs r ≤ 10 ^ 8 * scale
+    → (unsigned_abs r * 10 ^ 9 % scale ≡ 0) × (unsigned_abs r * 10 ^ 9 / scale < 10 ^ (18 + 9))
+reward_digits scale k r few tens within =
     let a = unsigned_abs r in
     let split : 9 ≡ (9 - k) + k = omega (arith, few) in
     let nine : 10 ^ 9 ≡ 10 ^ (9 - k) * 10 ^ k = ap (λ e. 10 ^ e) split ∙ pow-add 10 (9 - k) k in
     let all : a * 10 ^ 9 ≡ a * 10 ^ (9 - k) * scale =
     ap (λ p. a * p) nine ∙ sym (mul_assoc a (10 ^ (9 - k)) (10 ^ k)) ∙ ap (λ p. a * 10 ^ (9 - k) * p) (sym tens) in
-    let whole : a * 10 ^ 9 % scale ≡ 0 = ap (λ x. x % scale) all ∙ mul-mod_left (a * 10 ^ (9 - k)) scale in
-    let most : a * 10 ^ 9 ≤ scale * 10 ^ 17 = omega (arith, within) in
-    read_over 9 scale r (omega arith) whole
-    (omega (arith, div-le_of_le-mul scale {m = a * 10 ^ 9} {n = 10 ^ 17} most))
+    let most : a * 10 ^ 9 ≤ scale * 10 ^ 17 = omega (arith, within) in (
+      ap (λ x. x % scale) all ∙ mul-mod_left (a * 10 ^ (9 - k)) scale,
+      omega (arith, div-le_of_le-mul scale {m = a * 10 ^ 9} {n = 10 ^ 17} most),
+    )
+
+-- a reward
+pub rewards_read_back : WrittenRewardsReadBack
+rewards_read_back scale k r few tens within =
+    let digits = reward_digits scale k r few tens within in read_over 9 scale r (omega arith) digits.0 digits.1

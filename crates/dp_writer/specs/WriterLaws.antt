@@ -7,12 +7,13 @@ use Rattle.dp_base.specs.Decimals.{decimal_of}
 use Rattle.dp_lexer.specs.declared.Kind.TheVariants.{Number}
 use Rattle.dp_lexer.specs.TokenLaws.{IsOfKind}
 use Rattle.dp_spec.specs.Model.{joint_actions, joint_observations, start_at, trans_at, obs_at, reward_at}
+use Rattle.dp_model.specs.Names.{AreNames}
 use Rattle.dp_model.specs.Tables.{IsNamedModel, NamedModel}
 use Rattle.dp_meaning.specs.declared.text.Text.{Text}
 use Rattle.dp_meaning.specs.Cells.{chance_over}
 use Rattle.dp_meaning.specs.Meaning.{ReadModel, Means, meaning, text_of}
 use Rattle.dp_writer.specs.Writable.{is_writable, written_scale}
-use Rattle.dp_writer.specs.WrittenModel.{are_equal, chance_word, reward_word}
+use Rattle.dp_writer.specs.WrittenModel.{are_equal, chance_word, reward_word, written_model}
 use Rattle.dp_writer.specs.WrittenNumbers.{decimal_over}
 use Rattle.dp_writer.specs.WrittenText.{IsSaidBy}
 
@@ -88,9 +89,17 @@ pub record IsModelAgain (m : NamedModel) (r : ReadModel) : Type 0 where
       → (reward_at r.model.model a s t o *ℤ pos m.model.scales.reward)
       ≡ (reward_at m.model a s t o *ℤ pos r.model.model.scales.reward)
 
+-- A file with these bytes means the model again.
+abbrev pub MeansAgain : NamedModel → List ℕ → Type 0
+MeansAgain m bytes = (r : ReadModel) × (meaning bytes ≡ Means r) × IsModelAgain m r
+
 -- A file whose text says a model that can be written means that model again.
 abbrev pub SaidTextsReadBack : Type 0
 SaidTextsReadBack =
     (bytes : List ℕ) (m : NamedModel) (text : Text) → IsNamedModel m → is_writable m.model ≡ true
-    → text_of bytes ≡ Ok text → IsSaidBy m text
-    → (r : ReadModel) × (meaning bytes ≡ Means r) × IsModelAgain m r
+    → text_of bytes ≡ Ok text → IsSaidBy m text → MeansAgain m bytes
+
+-- The text that is written of a model that can be written means that model again.
+abbrev pub WrittenModelsReadBack : Type 0
+WrittenModelsReadBack =
+    (m : NamedModel) → IsNamedModel m → AreNames m.names → is_writable m.model ≡ true → MeansAgain m (written_model m)

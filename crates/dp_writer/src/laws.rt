@@ -1,5 +1,5 @@
 ghost use Rattle.dp_writer.specs.WriterLaws.{WrittenChancesReadBack, WrittenRewardsReadBack, WrittenRowsNeedNoRepair};
-ghost use Rattle.dp_writer.specs.WriterLaws.{SaidTextsReadBack, WrittenScalesHaveRoom};
+ghost use Rattle.dp_writer.specs.WriterLaws.{SaidTextsReadBack, WrittenModelsReadBack, WrittenScalesHaveRoom};
 
 /// The word that is written of a chance which is a whole multiple of `10^-18` is read as that chance.
 pub fn written_chances_read_back()
@@ -26,4 +26,10 @@ pub fn written_scales_have_room()
 /// names and the same fractions.
 pub fn said_texts_read_back()
     ensures { SaidTextsReadBack }
+{}
+
+/// The text that is written of a model that can be written means that model again: no row is repaired, sizes and names
+/// are equal, and the chances, the discount and the rewards are the same fractions.
+pub fn written_models_read_back()
+    ensures { WrittenModelsReadBack }
 {}

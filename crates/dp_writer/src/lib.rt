@@ -22,8 +22,8 @@ mod table_text;
 
 pub use fault::MakeFault;
 pub use laws::{
-    said_texts_read_back, written_chances_read_back, written_rewards_read_back,
-    written_rows_need_no_repair, written_scales_have_room,
+    said_texts_read_back, written_chances_read_back, written_models_read_back,
+    written_rewards_read_back, written_rows_need_no_repair, written_scales_have_room,
 };
 pub use made::make_model;
 pub use model_text::write_model;
