@@ -149,12 +149,14 @@ row_read states next scale (n ∷ m ∷ cells) (piece ∷ second ∷ pieces) dif
     let shape : is_decimal piece.text ≡ true = ap is_decimal text ∙ each.0.shape in
     let no_uniform = number_says (codes "uniform") piece.text uniform_no_number shape in
     let no_name = number_no_name piece.text shape in
-    let more : (length (second ∷ pieces) == 0) ≡ false = ne_eqb (length (second ∷ pieces)) 0 (λ z. absurd (omega (arith, z))) in
-    (piece.at, rw (no_uniform, no_name, more)
-    (step_done (numbers is_chance next (size_of states) (piece ∷ second ∷ pieces)) (λ row. done (StartRow piece.at row))
-    (chance_decimals scale (n ∷ m ∷ cells))
-    (numbers_read is_chance next (size_of states) (chance_word scale) (λ c. decimal_over 18 (pos c) scale) (n ∷ m ∷ cells)
-    (piece ∷ second ∷ pieces) size each e)))
+    let more : (length (second ∷ pieces) == 0) ≡ false = ne_eqb (length (second ∷ pieces)) 0 (λ z. absurd (omega (arith, z))) in (
+      piece.at,
+      rw (no_uniform, no_name, more)
+          (step_done (numbers is_chance next (size_of states) (piece ∷ second ∷ pieces)) (λ row. done (StartRow piece.at row))
+          (chance_decimals scale (n ∷ m ∷ cells))
+          (numbers_read is_chance next (size_of states) (chance_word scale) (λ c. decimal_over 18 (pos c) scale) (n ∷ m ∷ cells)
+          (piece ∷ second ∷ pieces) size each e)),
+    )
 
 -- the start
 pub start_read : (states : GivenList) (next scale : ℕ) (cells : List ℕ) (pieces : List Piece) → IsWrittenRow scale cells

@@ -163,11 +163,13 @@ module _ (m : NamedModel) (can : IsWritableModel m) where
       let read = start_read states item.next m.model.scales.start (start_row m.model) (value_pieces item)
       (start_written m can)
       (size_given m.names.states m.model.states (states_list m can) ∙ sym (length_each (start_at m.model) m.model.states))
-      (next_value item (codes "start") words e) in
-      (read.0, rw none
-      (step_done (entry (item_at item) entries.states) _ states (ap (entry (item_at item)) some)
-      ∙ step_done (start_of states item.next (value_pieces item)) (λ s. done (record entries { start = Some s }))
-      (said_start read.0 m.model) read.1))
+      (next_value item (codes "start") words e) in (
+        read.0,
+        rw none
+            (step_done (entry (item_at item) entries.states) _ states (ap (entry (item_at item)) some)
+            ∙ step_done (start_of states item.next (value_pieces item)) (λ s. done (record entries { start = Some s }))
+            (said_start read.0 m.model) read.1),
+      )
 
   actions_entry : (item : Item) (entries : Entries) → entries.actions ≡ None → entries.agents ≡ Some agents
       → item_symbols item ≡ word_item (codes "actions") [] (agent_lines m.names.actions m.model.actions)
@@ -236,28 +238,30 @@ module _ (m : NamedModel) (can : IsWritableModel m) where
       let start = start_entry t5.first e4 refl refl t5.first_is in
       let e5 : Entries = record e4 { start = Some (said_start start.0 m.model) } in
       let e6 : Entries = record e5 { actions = Some (given_lists m.names.actions m.model.actions) } in
-      let e7 : Entries = all_entries start.0 in
-      (start.0, t7.others,
-      ap (header_of end no_entries) t1.is
-      ∙ entry_read end Agents t1.first t1.others no_entries e1
-      (entry_kind t1.first Agents _ _ _ t1.first_is refl refl) (agents_entry t1.first no_entries refl t1.first_is)
-      ∙ ap (header_of end e1) t2.is
-      ∙ entry_read end Discount t2.first t2.others e1 e2
-      (entry_kind t2.first Discount _ _ _ t2.first_is refl refl) (discount_entry t2.first e1 refl t2.first_is)
-      ∙ ap (header_of end e2) t3.is
-      ∙ entry_read end Values t3.first t3.others e2 e3
-      (entry_kind t3.first Values _ _ _ t3.first_is refl refl) (values_entry t3.first e2 refl t3.first_is)
-      ∙ ap (header_of end e3) t4.is
-      ∙ entry_read end States t4.first t4.others e3 e4
-      (entry_kind t4.first States _ _ _ t4.first_is refl refl) (states_entry t4.first e3 refl t4.first_is)
-      ∙ ap (header_of end e4) t5.is
-      ∙ entry_read end StartEntry t5.first t5.others e4 e5
-      (entry_kind t5.first StartEntry _ _ _ t5.first_is refl refl) start.1
-      ∙ ap (header_of end e5) t6.is
-      ∙ entry_read end Actions t6.first t6.others e5 e6
-      (entry_kind t6.first Actions _ _ _ t6.first_is refl refl) (actions_entry t6.first e5 refl refl t6.first_is)
-      ∙ ap (header_of end e6) t7.is
-      ∙ entry_read end Observations t7.first t7.others e6 e7
-      (entry_kind t7.first Observations _ _ _ t7.first_is refl refl) (observations_entry t7.first e6 refl refl t7.first_is)
-      ∙ header_done end e7 (said_header start.0 m) t7.others its (λ place. all_come place start.0) t7.others_are each,
-      t7.others_are)
+      let e7 : Entries = all_entries start.0 in (
+        start.0,
+        t7.others,
+        ap (header_of end no_entries) t1.is
+            ∙ entry_read end Agents t1.first t1.others no_entries e1
+            (entry_kind t1.first Agents _ _ _ t1.first_is refl refl) (agents_entry t1.first no_entries refl t1.first_is)
+            ∙ ap (header_of end e1) t2.is
+            ∙ entry_read end Discount t2.first t2.others e1 e2
+            (entry_kind t2.first Discount _ _ _ t2.first_is refl refl) (discount_entry t2.first e1 refl t2.first_is)
+            ∙ ap (header_of end e2) t3.is
+            ∙ entry_read end Values t3.first t3.others e2 e3
+            (entry_kind t3.first Values _ _ _ t3.first_is refl refl) (values_entry t3.first e2 refl t3.first_is)
+            ∙ ap (header_of end e3) t4.is
+            ∙ entry_read end States t4.first t4.others e3 e4
+            (entry_kind t4.first States _ _ _ t4.first_is refl refl) (states_entry t4.first e3 refl t4.first_is)
+            ∙ ap (header_of end e4) t5.is
+            ∙ entry_read end StartEntry t5.first t5.others e4 e5
+            (entry_kind t5.first StartEntry _ _ _ t5.first_is refl refl) start.1
+            ∙ ap (header_of end e5) t6.is
+            ∙ entry_read end Actions t6.first t6.others e5 e6
+            (entry_kind t6.first Actions _ _ _ t6.first_is refl refl) (actions_entry t6.first e5 refl refl t6.first_is)
+            ∙ ap (header_of end e6) t7.is
+            ∙ entry_read end Observations t7.first t7.others e6 e7
+            (entry_kind t7.first Observations _ _ _ t7.first_is refl refl) (observations_entry t7.first e6 refl refl t7.first_is)
+            ∙ header_done end e7 (said_header start.0 m) t7.others its (λ place. all_come place start.0) t7.others_are each,
+        t7.others_are,
+      )

@@ -40,7 +40,7 @@ parts_within [] x = tt
 parts_within (n ∷ ns) x = (
   div-le_self x (product ns),
   each_from (λ p. p ≤ x % product ns) (λ p. p ≤ x) (λ p h. omega (arith, h, mod-le x (product ns)))
-  (parts_of ns (x % product ns)) (parts_within ns (x % product ns)),
+      (parts_of ns (x % product ns)) (parts_within ns (x % product ns)),
 )
 
 indices_run : (ps : List ℕ) → Each (λ p. p < 10 ^ 64) ps → Each IsRun (map decimal ps)
@@ -132,8 +132,11 @@ module _ (m : NamedModel) (can : IsWritableModel m) (a s : ℕ) (action : a < jo
 
   some_rewards : (t : ℕ) → 0 < length (map (reward_word m.model.scales.reward) (reward_row m.model a s t))
   some_rewards t = mapped (reward_row m.model a s t)
-      (omega (arith, length_each (reward_at m.model a s t) (joint_observations m.model),
-      some_joint_observation m.model can.named.model))
+      (omega (
+        arith,
+        length_each (reward_at m.model a s t) (joint_observations m.model),
+        some_joint_observation m.model can.named.model,
+      ))
     where
       mapped : (rs : List ℤ) → 0 < length rs → 0 < length (map (reward_word m.model.scales.reward) rs)
       mapped [] some = some
@@ -169,7 +172,7 @@ module _ (m : NamedModel) (can : IsWritableModel m) (a s : ℕ) (action : a < jo
       by true false = record {
         lines_are = (
           statement_line m.model can.named.model a s action state (codes "R") _ _ letter_run
-          (any_spelled (reward_word m.model.scales.reward (reward_at m.model a s 0 0)) ((reward_number_of m can a s 0 0).run)),
+              (any_spelled (reward_word m.model.scales.reward (reward_at m.model a s 0 0)) ((reward_number_of m can a s 0 0).run)),
           tt,
         );
         items_are = (record { first = refl; more = tt }, tt);
@@ -178,7 +181,7 @@ module _ (m : NamedModel) (can : IsWritableModel m) (a s : ℕ) (action : a < jo
         lines_are = (
           fields_line m.model can.named.model a s action state (codes "R") letter_run,
           subst (AreLinesOf (matrix_lines m.model a s))
-          (sym (append-nil (map (map run_symbol) (matrix_lines m.model a s)))) matrix_read,
+              (sym (append-nil (map (map run_symbol) (matrix_lines m.model a s)))) matrix_read,
         );
         items_are = (record { first = refl; more = none_begin (matrix_lines m.model a s) }, tt);
       }

@@ -138,14 +138,16 @@ module _ (header : Header) (m : Model) (sizes : HasSizes m header) (a s : ℕ) (
         let pieces = line.rest ++ flat_map pieces_of item.more in
         let fields = said_fields m a s ++ parts in
         let of_symbols : of_fields line ≡ record {
-        fields = map run_symbol (map decimal (parts_of m.actions a)) ∷ (run_symbol (decimal s) ∷ []) ∷ is.fields;
-        rest = is.left; }
+          fields = map run_symbol (map decimal (parts_of m.actions a)) ∷ (run_symbol (decimal s) ∷ []) ∷ is.fields;
+          rest = is.left;
+        }
         = fields_symbols (after_colon item)
         ∙ ap symbol_fields (after_colon_symbols item ∙ ap (λ (i : SymbolItem). drop 2 i.first) e)
         ∙ fields_front (parts_of m.actions a) s rest
         ∙ ap (λ (f : SymbolFields). record {
           fields = map run_symbol (map decimal (parts_of m.actions a)) ∷ (run_symbol (decimal s) ∷ []) ∷ f.fields;
-          rest = f.rest; }) is.fields_are in
+          rest = f.rest;
+        }) is.fields_are in
         let all : all_parts (axes_of header table) line.fields ≡ done fields
         = ap (λ l. all_parts l line.fields) is.axes_are
         ∙ (said_read axes is.fields parts is.read).read line.fields (ap (λ (f : SymbolFields). f.fields) of_symbols) in
@@ -161,10 +163,13 @@ module _ (header : Header) (m : Model) (sizes : HasSizes m header) (a s : ℕ) (
         let said : Statement = record { at = item_at item; table = table; fields = fields; value = value } in
         let what : kind_of item ≡ StatementOf table
         = kind_is item (run_symbol word) (colon_symbol ∷ (field_symbols (parts_of m.actions a) s ++ rest))
-        (ap (λ (i : SymbolItem). i.first) e) ∙ kind in
-        (said, ap (statement_of_kind header item) what
-        ∙ step_done (all_parts (axes_of header table) line.fields) _ fields all
-        ∙ step_done (unless_too_few (least_fields table) fields item.first.ends) _ tt
-        (ap (λ b. cond b (fault why.Expected item.first.ends) (done tt)) enough)
-        ∙ step_done (value_of table (drop (length fields) (axes_of header table)) item.next pieces) _ value given, refl);
+        (ap (λ (i : SymbolItem). i.first) e) ∙ kind in (
+          said,
+          ap (statement_of_kind header item) what
+              ∙ step_done (all_parts (axes_of header table) line.fields) _ fields all
+              ∙ step_done (unless_too_few (least_fields table) fields item.first.ends) _ tt
+              (ap (λ b. cond b (fault why.Expected item.first.ends) (done tt)) enough)
+              ∙ step_done (value_of table (drop (length fields) (axes_of header table)) item.next pieces) _ value given,
+          refl,
+        );
   }

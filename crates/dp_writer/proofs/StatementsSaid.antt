@@ -178,34 +178,34 @@ module _ (m : NamedModel) (can : IsWritableModel m) (header : Header) (sizes : H
         → Alongside (SaysItem header) (chance_items m.model table a s) (chance_said m.model table a s)
     chance_says Next = (
       item_says header m.model sizes a s action state can.named.model.sizes.joint_actions_limit
-      can.named.model.sizes.states_limit (codes "T") Trans ((header.states ∷ []) ∷ []) []
-      (row_words (scale_of_table m.model Next) (chance_row m.model Next a s) ∷ []) []
-      (row_value (scale_of_table m.model Next) (chance_row m.model Next a s)) refl (record {
-        axes_are = refl;
-        least = omega arith;
-        fields = [];
-        left = [];
-        fields_are = refl;
-        read = none_read ((header.states ∷ []) ∷ []);
-        value_read = a_row Next (header.states ∷ [])
-            (states_size ∙ sym (length_each (cell_at m.model Next a s) m.model.states));
-      }),
+          can.named.model.sizes.states_limit (codes "T") Trans ((header.states ∷ []) ∷ []) []
+          (row_words (scale_of_table m.model Next) (chance_row m.model Next a s) ∷ []) []
+          (row_value (scale_of_table m.model Next) (chance_row m.model Next a s)) refl (record {
+            axes_are = refl;
+            least = omega arith;
+            fields = [];
+            left = [];
+            fields_are = refl;
+            read = none_read ((header.states ∷ []) ∷ []);
+            value_read = a_row Next (header.states ∷ [])
+                (states_size ∙ sym (length_each (cell_at m.model Next a s) m.model.states));
+          }),
       tt,
     )
     chance_says Seen = (
       item_says header m.model sizes a s action state can.named.model.sizes.joint_actions_limit
-      can.named.model.sizes.states_limit (codes "O") Obs (header.observations ∷ []) []
-      (row_words (scale_of_table m.model Seen) (chance_row m.model Seen a s) ∷ []) []
-      (row_value (scale_of_table m.model Seen) (chance_row m.model Seen a s)) refl (record {
-        axes_are = refl;
-        least = omega arith;
-        fields = [];
-        left = [];
-        fields_are = refl;
-        read = none_read (header.observations ∷ []);
-        value_read = a_row Seen header.observations
-            (observations_size ∙ sym (length_each (cell_at m.model Seen a s) (joint_observations m.model)));
-      }),
+          can.named.model.sizes.states_limit (codes "O") Obs (header.observations ∷ []) []
+          (row_words (scale_of_table m.model Seen) (chance_row m.model Seen a s) ∷ []) []
+          (row_value (scale_of_table m.model Seen) (chance_row m.model Seen a s)) refl (record {
+            axes_are = refl;
+            least = omega arith;
+            fields = [];
+            left = [];
+            fields_are = refl;
+            read = none_read (header.observations ∷ []);
+            value_read = a_row Seen header.observations
+                (observations_size ∙ sym (length_each (cell_at m.model Seen a s) (joint_observations m.model)));
+          }),
       tt,
     )
 
@@ -232,16 +232,16 @@ module _ (m : NamedModel) (can : IsWritableModel m) (header : Header) (sizes : H
         by true true r number = tt
         by true false r number = (
           item_says header m.model sizes a s action state can.named.model.sizes.joint_actions_limit
-          can.named.model.sizes.states_limit (codes "R") Reward ((header.states ∷ []) ∷ header.observations ∷ [])
-          (any_symbols (reward_word scale r)) [] ((Any ∷ []) ∷ map (λ _. Any) m.model.observations ∷ [])
-          (Numbers (decimal_over 9 r scale ∷ [])) refl (one_reward r number),
+              can.named.model.sizes.states_limit (codes "R") Reward ((header.states ∷ []) ∷ header.observations ∷ [])
+              (any_symbols (reward_word scale r)) [] ((Any ∷ []) ∷ map (λ _. Any) m.model.observations ∷ [])
+              (Numbers (decimal_over 9 r scale ∷ [])) refl (one_reward r number),
           tt,
         )
         by false none r number = (
           item_says header m.model sizes a s action state can.named.model.sizes.joint_actions_limit
-          can.named.model.sizes.states_limit (codes "R") Reward ((header.states ∷ []) ∷ header.observations ∷ []) []
-          (matrix_lines m.model a s) [] (Numbers (flat_map (reward_decimals scale) (reward_rows m.model a s))) refl
-          all_rewards,
+              can.named.model.sizes.states_limit (codes "R") Reward ((header.states ∷ []) ∷ header.observations ∷ []) []
+              (matrix_lines m.model a s) [] (Numbers (flat_map (reward_decimals scale) (reward_rows m.model a s))) refl
+              all_rewards,
           tt,
         )
 
@@ -282,8 +282,9 @@ statements_read header (item ∷ items) (it ∷ its) (said ∷ saids) say e =
     let same : item_symbols item ≡ it = cc in
     let others : map item_symbols items ≡ its = cc in
     let first = say.0.read item same in
-    let rest = statements_read header items its saids say.1 others in
-    (first.0 ∷ rest.0,
-    step_done (statement_of_kind header item (kind_of item)) _ first.0 first.1
-    ∙ step_done (statements_of header items) _ rest.0 rest.1,
-    (λ i. first.2 i ∷ rest.2 i))
+    let rest = statements_read header items its saids say.1 others in (
+      first.0 ∷ rest.0,
+      step_done (statement_of_kind header item (kind_of item)) _ first.0 first.1
+          ∙ step_done (statements_of header items) _ rest.0 rest.1,
+      (λ i. first.2 i ∷ rest.2 i),
+    )

@@ -61,9 +61,15 @@ factor_within [] i below some = absurd (omega (arith, below))
 factor_within (n ∷ ns) zero below some =
     (positive_left n (product ns) 0 some, omega (arith, le-mul_of_pos_right n (positive_right n (product ns) 0 some)))
 factor_within (n ∷ ns) (suc i) below some =
-    let rest = factor_within ns i (omega (arith, below)) (positive_right n (product ns) 0 some) in
-    (rest.0, omega (arith, rest.1, le-mul_of_pos_right (product ns) (positive_left n (product ns) 0 some),
-    mul_comm n (product ns)))
+    let rest = factor_within ns i (omega (arith, below)) (positive_right n (product ns) 0 some) in (
+      rest.0,
+      omega (
+        arith,
+        rest.1,
+        le-mul_of_pos_right (product ns) (positive_left n (product ns) 0 some),
+        mul_comm n (product ns),
+      ),
+    )
 
 -- a number over a power of ten that is not too large
 whole_tens : (a scale k most : ℕ) → k ≤ most → scale ≡ 10 ^ k → a * 10 ^ most % scale ≡ 0

@@ -165,7 +165,7 @@ module _ (m : NamedModel) (can : IsWritableModel m) where
       (λ i below. (
         list_words_some (names_of m.names.actions i) (slice_index m.model.actions i),
         list_runs (names_of m.names.actions i) (slice_index m.model.actions i)
-        (actions_list m can i (omega (arith, below))),
+            (actions_list m can i (omega (arith, below))),
       )))
 
   observations_lines : AreLinesOf (agent_lines m.names.observations m.model.observations)
@@ -177,7 +177,7 @@ module _ (m : NamedModel) (can : IsWritableModel m) where
       (λ i below. (
         list_words_some (names_of m.names.observations i) (slice_index m.model.observations i),
         list_runs (names_of m.names.observations i) (slice_index m.model.observations i)
-        (observations_list m can i (omega (arith, below))),
+            (observations_list m can i (omega (arith, below))),
       )))
 
   pub header_read : AreItemLines (header_lines m) (header_items m)
@@ -185,32 +185,62 @@ module _ (m : NamedModel) (can : IsWritableModel m) where
   header_read = record {
     lines_are = (
       labelled_line (codes "agents") (list_words m.names.agents (length m.model.actions))
-      (record { some = omega arith; named = refl })
-      (list_runs m.names.agents (length m.model.actions) (agents_list m can)), (
-      labelled_line (codes "discount") (chance_word m.model.scales.discount m.model.scales.gain ∷ [])
-      (record { some = omega arith; named = refl })
-      ((discount_number m can).run, tt), (
-      labelled_line (codes "values") (codes "reward" ∷ []) (record { some = omega arith; named = refl })
-      (record { some = omega arith; named = refl }, tt), (
-      labelled_line (codes "states") (list_words m.names.states m.model.states)
-      (record { some = omega arith; named = refl })
-      (list_runs m.names.states m.model.states (states_list m can)), (
-      labelled_line (codes "start") [] (record { some = omega arith; named = refl }) tt, (
-      runs_line (row_words m.model.scales.start (start_row m.model))
-      (row_runs m.model.scales.start (start_row m.model) (start_written m can)).0
-      (row_runs m.model.scales.start (start_row m.model) (start_written m can)).1, (
-      labelled_line (codes "actions") [] (record { some = omega arith; named = refl }) tt,
-      lines_append (agent_lines m.names.actions m.model.actions)
-      ((codes "observations:" ∷ []) ∷ agent_lines m.names.observations m.model.observations)
-      (map (map run_symbol) (agent_lines m.names.actions m.model.actions)) _ actions_lines
-      (labelled_line (codes "observations") [] (record { some = omega arith; named = refl }) tt,
-      subst (AreLinesOf (agent_lines m.names.observations m.model.observations))
-      (sym (append-nil (map (map run_symbol) (agent_lines m.names.observations m.model.observations))))
-      observations_lines)
-      )))))));
+          (record { some = omega arith; named = refl })
+          (list_runs m.names.agents (length m.model.actions) (agents_list m can)),
+      (
+        labelled_line (codes "discount") (chance_word m.model.scales.discount m.model.scales.gain ∷ [])
+            (record { some = omega arith; named = refl })
+            ((discount_number m can).run, tt),
+        (
+          labelled_line (codes "values") (codes "reward" ∷ []) (record { some = omega arith; named = refl })
+              (record { some = omega arith; named = refl }, tt),
+          (
+            labelled_line (codes "states") (list_words m.names.states m.model.states)
+                (record { some = omega arith; named = refl })
+                (list_runs m.names.states m.model.states (states_list m can)),
+            (
+              labelled_line (codes "start") [] (record { some = omega arith; named = refl }) tt,
+              (
+                runs_line (row_words m.model.scales.start (start_row m.model))
+                    (row_runs m.model.scales.start (start_row m.model) (start_written m can)).0
+                    (row_runs m.model.scales.start (start_row m.model) (start_written m can)).1,
+                (
+                  labelled_line (codes "actions") [] (record { some = omega arith; named = refl }) tt,
+                  lines_append (agent_lines m.names.actions m.model.actions)
+                      ((codes "observations:" ∷ []) ∷ agent_lines m.names.observations m.model.observations)
+                      (map (map run_symbol) (agent_lines m.names.actions m.model.actions)) _ actions_lines (
+                        labelled_line (codes "observations") [] (record { some = omega arith; named = refl }) tt,
+                        subst (AreLinesOf (agent_lines m.names.observations m.model.observations))
+                            (sym (append-nil (map (map run_symbol) (agent_lines m.names.observations m.model.observations))))
+                            observations_lines,
+                      ),
+                ),
+              ),
+            ),
+          ),
+        ),
+      ),
+    );
     items_are = (
-      record { first = refl; more = tt }, (record { first = refl; more = tt }, (record { first = refl; more = tt }, (
-      record { first = refl; more = tt }, (record { first = refl; more = none_begin (row_words m.model.scales.start (start_row m.model) ∷ []) }, (
-      record { first = refl; more = none_begin (agent_lines m.names.actions m.model.actions) }, (
-      record { first = refl; more = none_begin (agent_lines m.names.observations m.model.observations) }, tt)))))));
+      record { first = refl; more = tt },
+      (
+        record { first = refl; more = tt },
+        (
+          record { first = refl; more = tt },
+          (
+            record { first = refl; more = tt },
+            (
+              record { first = refl; more = none_begin (row_words m.model.scales.start (start_row m.model) ∷ []) },
+              (
+                record { first = refl; more = none_begin (agent_lines m.names.actions m.model.actions) },
+                (
+                  record { first = refl; more = none_begin (agent_lines m.names.observations m.model.observations) },
+                  tt,
+                ),
+              ),
+            ),
+          ),
+        ),
+      ),
+    );
   }
