@@ -29,7 +29,7 @@ use Rattle.dp_cluster.specs.AgentParts.{OwnPart}
 use Rattle.dp_cluster.specs.KeptFronts.{IsFrontOf, IsStored, KeptFront, kept_front, kept_weight, part_fronts}
 use Rattle.dp_cluster.specs.KeptFronts.{part_observations, part_past}
 use Rattle.dp_cluster.specs.PastClasses.{PastClasses, past_after, past_counts}
-use Rattle.dp_cluster.specs.Rewards.{IsRewardable}
+use Rattle.dp_value.specs.Rewards.{IsRewardable}
 use Rattle.dp_laws.proofs.AdvancedSpans.{advanced_earned_in, pair_weight_in}
 use Rattle.dp_spec.specs.Wide.{has_room}
 use Rattle.dp_laws.proofs.TrueFits.{room_is_within}

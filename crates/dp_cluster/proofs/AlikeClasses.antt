@@ -1,11 +1,7 @@
 -- Equivalent classes by their vectors: classes are a pair exactly where what is kept of the two is alike.
-use Rattle.std.proofs.Common.{◌≡◌, inl, inr, ℕ, zero, suc, ◌+◌, ◌<◌, List, [], ◌∷◌, ◌++◌, Bool, true, false, Option}
+use Rattle.std.proofs.Common.{◌≡◌, inl, inr, ℕ, zero, suc, ◌+◌, ◌<◌, ◌≤◌, List, [], ◌∷◌, ◌++◌, Bool, true, false, Option}
 use Rattle.std.proofs.Common.{Some, None, map, length, get_or, ℤ, pos, unsigned_abs, refl, sym, ap, ◌∙◌, subst, arith}
-use Rattle.std.specs.Prelude.{◌↔◌, is_none, IfSome, IsTrue, MatchOption, Vec}
-use Rattle.std.specs.Cmp.Rules.{signed_items}
-use Rattle.std.specs.Ordering.{int_eq}
-use Rattle.std.specs.declared.alloc.Global.{Global}
-use lib.Pointwise.{pointwise}
+use Rattle.std.specs.Prelude.{is_none, IfOk, IfSome, MatchOption, Result, Ok, Err}
 use Rattle.std.proofs.lemmas.Bool.{cases_lt}
 use Rattle.std.proofs.lemmas.List.{length_push}
 use Rattle.dp_num.proofs.VectorLaws.{unsigned_pos}
@@ -25,17 +21,11 @@ use Rattle.dp_cluster.proofs.FrontParts.{unassigned_in}
 same_pos : (us vs : List ℕ) → map pos us ≡ map pos vs → us ≡ vs
 same_pos us vs e = sym (unsigned_pos us) ∙ ap (map unsigned_abs) e ∙ unsigned_pos vs
 
--- the test of two vectors
-pub weighted_alike : (v w : OwnVector) (x y : Vec ℤ Global) → v ≡ Weighted x → w ≡ Weighted y → (r : Bool)
-    → r ≡ pointwise int_eq x.items y.items → IsTrue r ↔ AreAlike v w
-weighted_alike v w x y ev ew r is =
-    let told = signed_items x.items y.items in (
-      λ yes. subst (λ z. AreAlike z w) (sym ev) (subst (AreAlike (Weighted x)) (sym ew)
-          (told.0 (sym is ∙ yes))),
-      λ alike. is ∙ told.1 (subst (AreAlike (Weighted x)) ew (subst (λ z. AreAlike z w) ev alike)),
-    )
+-- what follows from what holds of a value holds of it
+pub if_ok : {X E : Type 0} (r : Result X E) (P Q : X → Type 0) → IfOk r P → ((x : X) → P x → Q x) → IfOk r Q
+if_ok (Ok x) P Q holds weaker = weaker x holds
+if_ok (Err e) P Q holds weaker = tt
 
--- what holds of what is found holds of what is answered
 pub if_found : (r : Option (ℕ × ℕ)) (A : Type 0) (P Q : ℕ × ℕ → Type 0) → MatchOption r A P
     → ((p : ℕ × ℕ) → P p → Q p) → IfSome r Q
 if_found None A P Q found weaker = tt
@@ -102,29 +92,33 @@ module _ (m : Model) (h : ℕ) (F : Front) (front : IsFront m h F) (i : ℕ) (ag
         (record { first = pair.first; second = pair.second; equivalent = pair.equivalent })
 
     -- the least places that are alike are the least pair
-    pub least_is : (a b : ℕ) → AreLeastAlike vs a b → IsLeastPair m F i a b
+    pub least_is : (a b : ℕ) → AreLeastAlike vs 0 a b → IsLeastPair m F i a b
     least_is a b least =
         let size = are.one_each in
         let range = least.pair.range in
+        let after = least.pair.from in
         record {
-          pair = pair_of a b least.pair.order (omega arith) least.pair.alike;
+          pair = pair_of a b (omega arith) (omega arith) least.pair.holds;
           least = λ d d' pair.
               let alike = alike_of d d' pair in
               let inside = unassigned_below d' pair.second in
-              let at_least = least.least d d' pair.order (omega arith) alike in
+              let below : d' < length vs = omega arith in
+              let at_least = least.least d d' (omega arith) pair.order below alike in
               elim (cases_lt a d) [
                 | inl less ↦ inl less
                 | inr more ↦
                     let same : a ≡ d = omega arith in
                     let there : AlikeAt vs a d' = subst (λ x. AlikeAt vs x d') (sym same) alike in
-                    let order : a < d' = let later = pair.order in omega arith in
-                    inr (same, least.pair.first d' order there)
+                    let order : suc a ≤ d' = let later = pair.order in omega arith in
+                    inr (same, least.pair.first d' order below there)
               ];
         }
 
-    pub no_pair : ((c d : ℕ) → c < d → d < n → ¬ AlikeAt vs c d) → HasNoPair m F i
+    pub no_pair : ((c d : ℕ) → 0 ≤ c → c < d → d < length vs → ¬ AlikeAt vs c d) → HasNoPair m F i
     no_pair none c d order first second equivalent =
-        none c d order (unassigned_below d second)
+        let below = unassigned_below d second in
+        let size = are.one_each in
+        none c d (omega arith) order (omega arith)
         (alike_of c d (record { order = order; first = first; second = second; equivalent = equivalent }))
 
   -- what is kept of one class more

@@ -8,6 +8,7 @@ pub mod JoinedWeights
 pub mod KeptFronts
 pub mod KeyPairs
 pub mod AlikeClasses
+pub mod LeastAlike
 pub mod MergeFaults
 pub mod Modes
 pub mod ChosenActions
@@ -16,7 +17,6 @@ pub mod AdvancedParts
 pub mod Advances
 pub mod Pairs
 pub mod PastTrees
-pub mod Rewards
 pub mod StageRows
 pub mod OwnNumbers
 pub mod OwnPlaces

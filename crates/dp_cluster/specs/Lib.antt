@@ -11,4 +11,3 @@ pub mod OwnPlaces
 pub mod OwnWeights
 pub mod Pairs
 pub mod PastClasses
-pub mod Rewards

@@ -18,12 +18,11 @@ ghost use Rattle.dp_cluster.specs.PastClasses.{past_after};
 
 use crate::Front;
 use crate::part::AgentPart;
-use crate::reward::weighted_reward;
 use dp_base::Memory;
 use dp_model::Model;
 use dp_num::{Arith, Exact, Outward, add_spans};
 use dp_spec::Span;
-use dp_value::next_weight;
+use dp_value::{next_weight, weighted_reward};
 use std::alloc::Global;
 use std::rc::Rc;
 

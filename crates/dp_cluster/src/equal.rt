@@ -1,11 +1,11 @@
 //! Equivalent classes.
-ghost use Rattle.std.specs.Prelude.{◌≡◌, ◌↔◌, ℕ, ◌^◌, ◌<◌, true, false, length, get_or, IfOk, IfSome, IsTrue};
-ghost use Rattle.std.specs.Prelude.{MatchOption, None};
+ghost use Rattle.std.specs.Prelude.{◌≡◌, ℕ, suc, ◌^◌, ◌<◌, true, false, List, length, get_or, IfOk, IfSome};
+ghost use Rattle.std.specs.Prelude.{None};
 ghost use Rattle.dp_spec.specs.Front.{class_counts};
 ghost use Rattle.dp_spec.specs.Model.{Model as PlainModel};
 ghost use Rattle.dp_spec.specs.Pairs.{HasNoPair, IsLeastPair};
-ghost use Rattle.dp_cluster.specs.EqualClasses.{AlikeAt, AreAlike, AreLeastAlike, AreVectorsOf, IsFirstAlike};
-ghost use Rattle.dp_cluster.specs.EqualClasses.{IsVectorOf};
+ghost use Rattle.dp_cluster.specs.EqualClasses.{AlikeAt, AreVectorsOf, IsFirstFrom, IsFoundFrom, IsLaterOf};
+ghost use Rattle.dp_cluster.specs.EqualClasses.{IsVectorOf, earlier, vector_at};
 ghost use Rattle.dp_cluster.specs.Joins.{own_count};
 ghost use Rattle.dp_cluster.specs.KeptFronts.{IsFrontOf};
 ghost use Rattle.dp_cluster.specs.OwnPlaces.{ArePlacesOf};
@@ -15,6 +15,7 @@ use crate::runs::Places;
 use dp_base::Memory;
 use dp_num::primitive;
 use std::alloc::Global;
+use std::collections::BTreeMap;
 
 // What is kept of a class to tell its equivalent classes.
 #[derive(Drop)]
@@ -44,7 +45,7 @@ impl Front {
             return Ok(None);
         }
         let vectors = self.own_vectors(alloc, agent)?;
-        Ok(least_alike(&vectors, self.classes(agent)))
+        least_alike(alloc, vectors)
     }
 
     // What is kept of each class of an agent, in exact mode.
@@ -53,9 +54,10 @@ impl Front {
         requires exact { self.now.is_exact ≡ true }
         requires stage { self.now.front.stage < self.now.horizon }
         requires agent { agent < length self.now.front.agents }
-        ensures { IfOk result (λ v.
+        ensures vectors { IfOk result (λ v.
             (m : PlainModel) → IsFrontOf m self.now →
             AreVectorsOf m self.now.front agent (own_count self.now agent) v.items) }
+        ensures few { IfOk result (λ v. length v.items < 2 ^ 32) }
     {
         let places = self.places(agent);
         let mut vectors = Vec::new(alloc);
@@ -94,44 +96,69 @@ impl Front {
     }
 }
 
-// The least of so many places with items that are alike, by the first and then by the second.
-fn least_alike(vectors: &[OwnVector], count: u32) -> Option<(u32, u32)>
-    requires { length vectors.now ≡ count }
-    ensures { MatchOption result
-        ((c d : ℕ) → c < d → d < count → ¬ AlikeAt vectors.now c d)
-        (λ (p : ℕ × ℕ). AreLeastAlike vectors.now p.0 p.1) }
-{
-    for first in 0..count {
-        if let Some(second) = first_alike(vectors, count, first) {
-            return Some((first, second));
-        }
-    }
-    None
+// What is known of the classes from one on: the first that has no action, the first of these that has no
+// weight, and the first with each vector.
+#[derive(Drop)]
+struct Later {
+    unassigned: Option<u32>,
+    weightless: Option<u32>,
+    weighted: BTreeMap<Vec<i128>, u32>,
 }
 
-// The first place after another whose item is alike.
-fn first_alike(vectors: &[OwnVector], count: u32, first: u32) -> Option<u32>
-    requires count { length vectors.now ≡ count }
-    requires first { first < count }
-    ensures { MatchOption result
-        ((d : ℕ) → first < d → d < count → ¬ AlikeAt vectors.now first d)
-        (IsFirstAlike vectors.now first) }
-{
-    for second in first + 1..count {
-        if are_alike(&vectors[first as usize], &vectors[second as usize]) {
-            return Some(second);
+impl Later {
+    // Takes the class before them, and finds the first of them that is alike.
+    fn add(&mut self, class: u32, vector: OwnVector) -> Result<Option<u32>, Memory>
+        ensures later { IfOk result (λ _. (vs : List OwnVector) → class < length vs →
+            vector_at vs class ≡ vector → IsLaterOf vs (suc class) self.old → IsLaterOf vs class self.new) }
+        ensures alike { IfOk result (λ o. (vs : List OwnVector) → class < length vs →
+            vector_at vs class ≡ vector → IsLaterOf vs (suc class) self.old →
+            IsFirstFrom (AlikeAt vs class) (suc class) (length vs) o) }
+    {
+        match vector {
+            OwnVector::Assigned => Ok(None),
+            OwnVector::Weightless => {
+                let alike = self.unassigned;
+                self.unassigned = Some(class);
+                self.weightless = Some(class);
+                Ok(alike)
+            }
+            OwnVector::Weighted(weights) => {
+                let same = self.weighted.insert(weights, class)?;
+                self.unassigned = Some(class);
+                Ok(earlier(same, self.weightless))
+            }
         }
     }
-    None
 }
 
-// Whether two classes are unassigned and equivalent.
-fn are_alike(one: &OwnVector, other: &OwnVector) -> bool
-    ensures { IsTrue result ↔ AreAlike one.now other.now }
+// The lesser of two numbers that may not be there.
+fn earlier(one: Option<u32>, other: Option<u32>) -> Option<u32>
+    ensures { result ≡ earlier one other }
 {
     match (one, other) {
-        (OwnVector::Assigned, _) | (_, OwnVector::Assigned) => false,
-        (OwnVector::Weightless, _) | (_, OwnVector::Weightless) => true,
-        (OwnVector::Weighted(x), OwnVector::Weighted(y)) => x == y,
+        (Some(x), Some(y)) => Some(if x <= y { x } else { y }),
+        (None, found) | (found, None) => found,
     }
+}
+
+// The least two places with items that are alike, by the first and then by the second. Each item is looked
+// at once.
+fn least_alike(alloc: Global, vectors: Vec<OwnVector>) -> Result<Option<(u32, u32)>, Memory>
+    requires { length vectors.items < 2 ^ 32 }
+    ensures { IfOk result (IsFoundFrom vectors.items 0) }
+{
+    let mut rest = vectors;
+    let mut later = Later {
+        unassigned: None,
+        weightless: None,
+        weighted: BTreeMap::new(alloc),
+    };
+    let mut found = None;
+    while let Some(vector) = rest.pop() {
+        let class = rest.len() as u32;
+        if let Some(other) = later.add(class, vector)? {
+            found = Some((class, other));
+        }
+    }
+    Ok(found)
 }

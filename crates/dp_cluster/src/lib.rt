@@ -11,7 +11,6 @@ mod key;
 mod limits;
 mod merge;
 mod part;
-mod reward;
 mod runs;
 mod shared;
 
