@@ -1,24 +1,22 @@
 -- The values of the header's entries, read from items by their symbols.
-use Rattle.std.proofs.Common.{◌≡◌, ℕ, zero, suc, ◌+◌, ◌<◌, ◌≤◌, Bool, true, false, cond, pos, List, [], ◌∷◌, ◌++◌}
-use Rattle.std.proofs.Common.{length, map, drop, refl, sym, ap, ◌∙◌, arith, subst}
+use Rattle.std.proofs.Common.{◌≡◌, ℕ, zero, suc, ◌+◌, ◌<◌, Bool, true, false, cond, pos, List, [], ◌∷◌, ◌++◌}
+use Rattle.std.proofs.Common.{length, map, drop, refl, sym, ap, ◌∙◌, arith}
 use Rattle.std.specs.Prelude.{codes, not, ◌&&◌, ◌||◌, ◌==◌, if◌then◌else◌}
-use Rattle.std.specs.List.{flat_map, list_all, range_with_len}
+use Rattle.std.specs.List.{flat_map, range_with_len}
 use Rattle.std.specs.Str.{bytes_eq}
 use Rattle.std.proofs.lemmas.Bool.{eq-eqb, ne_eqb}
 use Rattle.std.proofs.lemmas.List.{append-nil}
 use Rattle.dp_base.specs.declared.decimal.Decimal.{Decimal}
-use Rattle.dp_base.specs.Bytes.{is_name_byte}
 use Rattle.dp_base.specs.DecimalShape.{is_decimal}
 use Rattle.dp_base.specs.Names.{is_name, is_word}
 use Rattle.dp_meaning.specs.declared.given_list.GivenList.{GivenList}
-use Rattle.dp_meaning.specs.declared.header.Start.{Start}
-use Rattle.dp_meaning.specs.declared.header.Start.TheVariants.{AnyState, OneState, StartRow}
+use Rattle.dp_meaning.specs.declared.header.Start.TheVariants.{AnyState, StartRow}
 use Rattle.dp_meaning.specs.declared.why.Why.TheVariants.{Expected}
-use Rattle.dp_meaning.specs.Faults.{◌>>=◌, fault}
+use Rattle.dp_meaning.specs.Faults.{fault}
 use Rattle.dp_meaning.specs.Items.{Piece, Line, Item, after_colon, pieces_of, value_pieces}
 use Rattle.dp_meaning.specs.Numbers.{ended, is_chance, number, numbers}
-use Rattle.dp_meaning.specs.NameLists.{find_in, name_list, name_lists, says, size_of}
-use Rattle.dp_meaning.specs.Entries.{discount_of, is_cost, is_one_state, is_state_index, start_of}
+use Rattle.dp_meaning.specs.NameLists.{name_list, name_lists, size_of}
+use Rattle.dp_meaning.specs.Entries.{discount_of, is_cost, start_of}
 use Rattle.dp_meaning.specs.Entries.{agent_lines as entry_lines}
 use Rattle.dp_meaning.proofs.Each.{Each}
 use Rattle.dp_meaning.proofs.FaultSteps.{done}
@@ -28,7 +26,7 @@ use Rattle.dp_writer.specs.WrittenNumbers.{decimal_over}
 use Rattle.dp_writer.specs.WrittenText.{chance_decimals, given_list}
 use Rattle.dp_writer.proofs.ReadPieces.{IsNumberOf, IsWrittenList, list_read, number_read, numbers_read, other_bytes}
 use Rattle.dp_writer.proofs.ReadPieces.{step_done, text_is}
-use Rattle.dp_writer.proofs.Symbols.{Symbol, run_symbol, symbol_of}
+use Rattle.dp_writer.proofs.Symbols.{run_symbol, symbol_of}
 use Rattle.dp_writer.proofs.SymbolItems.{SymbolItem, after_colon_symbols, item_symbols, line_symbols, none_mapped}
 use Rattle.dp_writer.proofs.SymbolItems.{value_symbols}
 use Rattle.dp_writer.proofs.WrittenFacts.{IsWrittenRow}

@@ -1,23 +1,18 @@
 -- The header of the text that is written of a model is read as it is said.
-use Rattle.std.proofs.Common.{◌≡◌, ℕ, ◌+◌, ◌<◌, Bool, true, false, cond, pos, List, [], ◌∷◌, ◌++◌, length, map, refl, sym}
-use Rattle.std.proofs.Common.{Option, Some, None, Ok, Result, ap, ◌∙◌, arith, subst}
-use Rattle.std.specs.Prelude.{codes, if◌then◌else◌, slice_index}
+use Rattle.std.proofs.Common.{◌≡◌, ℕ, false, pos, List, [], ◌∷◌, ◌++◌, length, map, refl, sym}
+use Rattle.std.proofs.Common.{Some, None, ap, ◌∙◌, arith}
+use Rattle.std.specs.Prelude.{codes, slice_index}
 use Rattle.dp_base.specs.declared.decimal.Decimal.{Decimal}
 use Rattle.dp_model.specs.Names.{names_of}
 use Rattle.dp_model.specs.Tables.{NamedModel}
 use Rattle.dp_meaning.specs.declared.given_list.GivenList.{GivenList}
-use Rattle.dp_meaning.specs.declared.header.Start.{Start}
-use Rattle.dp_meaning.specs.declared.header.Start.TheVariants.{AnyState, StartRow}
 use Rattle.dp_meaning.specs.declared.header.Entry.{Entry}
 use Rattle.dp_meaning.specs.declared.header.Entry.TheVariants.{Agents, Discount, Values, States, StartEntry, Actions}
 use Rattle.dp_meaning.specs.declared.header.Entry.TheVariants.{Observations}
 use Rattle.dp_meaning.specs.declared.header.Entries.{Entries}
 use Rattle.dp_meaning.specs.declared.header.Header.{Header}
-use Rattle.dp_meaning.specs.declared.statement.ItemKind.{ItemKind}
-use Rattle.dp_meaning.specs.declared.statement.ItemKind.TheVariants.{HeaderEntry, StatementOf, NoItem}
+use Rattle.dp_meaning.specs.declared.statement.ItemKind.TheVariants.{HeaderEntry, StatementOf}
 use Rattle.dp_meaning.specs.declared.statement.Table.{Table}
-use Rattle.dp_meaning.specs.declared.why.Fault.{Fault}
-use Rattle.dp_meaning.specs.Faults.{◌>>=◌}
 use Rattle.dp_meaning.specs.Items.{Piece, Item, item_at, value_pieces}
 use Rattle.dp_meaning.specs.NameLists.{name_list, name_lists, size_of}
 use Rattle.dp_meaning.specs.Entries.{discount_of, is_cost, start_of}
@@ -27,9 +22,9 @@ use Rattle.dp_meaning.specs.Header.{with_entry}
 use Rattle.dp_meaning.proofs.Each.{Each}
 use Rattle.dp_meaning.proofs.FaultSteps.{done}
 use Rattle.dp_writer.specs.ModelRows.{start_row}
-use Rattle.dp_writer.specs.WrittenModel.{agent_lines, are_equal, chance_word, list_words, row_words}
+use Rattle.dp_writer.specs.WrittenModel.{agent_lines, chance_word, list_words, row_words}
 use Rattle.dp_writer.specs.WrittenNumbers.{decimal_over}
-use Rattle.dp_writer.specs.WrittenText.{chance_decimals, given_list, given_lists, said_header, said_start}
+use Rattle.dp_writer.specs.WrittenText.{given_list, given_lists, said_header, said_start}
 use Rattle.dp_writer.proofs.EntryValues.{below_value, discount_read, lists_read, next_value, own_value, rewards_read}
 use Rattle.dp_writer.proofs.EntryValues.{start_read}
 use Rattle.dp_writer.proofs.ReadPieces.{list_read, size_given, step_done}

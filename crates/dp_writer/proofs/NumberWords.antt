@@ -1,16 +1,14 @@
 -- The words of chances and rewards are read as exactly the decimals that are written, and in range.
-use Rattle.std.proofs.Common.{◌≡◌, ℕ, suc, ◌+◌, ◌*◌, ◌/◌, ◌%◌, ◌^◌, ◌<◌, ◌≤◌, Bool, true, false, ℤ, pos, negsuc, List, []}
+use Rattle.std.proofs.Common.{◌≡◌, ℕ, ◌+◌, ◌*◌, ◌/◌, ◌%◌, ◌^◌, ◌<◌, ◌≤◌, true, ℤ, pos, List, []}
 use Rattle.std.proofs.Common.{◌∷◌}
 use Rattle.std.proofs.Common.{unsigned_abs, Ok, refl, sym, ap, ◌∙◌, arith, subst}
 use Rattle.std.proofs.Common.{length}
 use Rattle.std.specs.Prelude.{nat_le, ◌&&◌}
-use Rattle.std.specs.List.{list_all}
 use Rattle.std.proofs.lemmas.Bool.{le-leb}
 use Rattle.std.proofs.lemmas.Nat.{pow-add}
-use Rattle.std.proofs.Math.Nat.{div-le_of_le-mul, le_of_mul-le-mul_right, mul-le-mul_right, mul_assoc, mul_right_comm}
-use Rattle.std.proofs.Math.Nat.{mul-mod_left, mul_comm}
+use Rattle.std.proofs.Math.Nat.{div-le_of_le-mul, le_of_mul-le-mul_right, mul-le-mul_right, mul_right_comm}
+use Rattle.std.proofs.Math.Nat.{mul_comm}
 use Rattle.dp_base.specs.declared.decimal.Decimal.{Decimal}
-use Rattle.dp_base.specs.Bytes.{is_name_byte}
 use Rattle.dp_base.specs.DecimalShape.{is_decimal}
 use Rattle.dp_base.specs.Decimals.{decimal_of, signed}
 use Rattle.dp_base.proofs.Outcomes.{shortest_form}

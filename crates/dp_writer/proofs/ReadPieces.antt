@@ -1,8 +1,8 @@
 -- What is read of pieces by their symbols: numbers, lists of things, and places in such lists.
-use Rattle.std.proofs.Common.{◌≡◌, ◌≢◌, ℕ, zero, suc, ◌+◌, ◌<◌, ◌≤◌, ◌^◌, Bool, true, false, cond, List, [], ◌∷◌, ◌++◌}
+use Rattle.std.proofs.Common.{◌≡◌, ◌≢◌, ℕ, ◌<◌, ◌≤◌, ◌^◌, Bool, true, false, cond, List, [], ◌∷◌, ◌++◌}
 use Rattle.std.proofs.Common.{length, map, get_or, Ok, refl, sym, ap, ◌∙◌, arith, subst, append_assoc, length-append}
 use Rattle.std.proofs.Common.{inl, inr}
-use Rattle.std.specs.Prelude.{not, ◌&&◌, ◌||◌, nat_le, All, AllPairs, Result}
+use Rattle.std.specs.Prelude.{not, ◌&&◌, nat_le, All, AllPairs, Result}
 use Rattle.std.specs.Fmt.{decimal}
 use Rattle.std.specs.Str.{bytes_eq}
 use Rattle.std.specs.Str.Parse.{digits_value}
@@ -23,15 +23,15 @@ use Rattle.dp_meaning.specs.declared.given_list.GivenList.TheVariants.{Counted, 
 use Rattle.dp_meaning.specs.Faults.{◌>>=◌, fault}
 use Rattle.dp_meaning.specs.Items.{Piece}
 use Rattle.dp_meaning.specs.Numbers.{number_in, number, numbers, ended}
-use Rattle.dp_meaning.specs.NameLists.{size_of, names_in, index, names_after, count, name_list, name_lists, if_below}
-use Rattle.dp_meaning.specs.NameLists.{place_in, found_at, find_in}
+use Rattle.dp_meaning.specs.NameLists.{size_of, index, names_after, count, name_list}
+use Rattle.dp_meaning.specs.NameLists.{find_in}
 use Rattle.dp_meaning.proofs.Each.{Each}
 use Rattle.dp_meaning.proofs.FaultSteps.{done}
 use Rattle.dp_model.specs.Tables.{NamesAllOrNone}
 use Rattle.dp_writer.specs.WrittenModel.{list_words}
 use Rattle.dp_writer.specs.WrittenText.{given_list}
 use Rattle.dp_writer.proofs.Symbols.{Symbol, symbol_of, run_symbol, IsRun}
-use Rattle.dp_writer.proofs.WordShapes.{IsIndexOf, IsNameWord, index_written, name_word}
+use Rattle.dp_writer.proofs.WordShapes.{IsNameWord, index_written}
 
 -- a step that does not fail is followed by the next
 pub step_done : {A B : Type 0} (x : Result A Fault) (f : A → Result B Fault) (a : A) → x ≡ done a → (x >>= f) ≡ f a

@@ -1,16 +1,12 @@
 -- Lines of words, and the symbols with which their text is read.
 use Rattle.std.proofs.Common.{◌≡◌, ℕ, zero, suc, ◌+◌, ◌<◌, Bool, true, false, cond, List, [], ◌∷◌, ◌++◌, length, map}
 use Rattle.std.proofs.Common.{refl, sym, ap, ◌∙◌, arith, append_assoc, subst}
-use Rattle.std.specs.Prelude.{codes}
 use Rattle.std.specs.List.{flat_map, range_with_len}
-use Rattle.std.proofs.lemmas.Grind.{flat_map-append}
-use Rattle.std.proofs.lemmas.List.{append-nil, length-append}
-use Rattle.dp_base.specs.Bytes.{is_name_byte}
+use Rattle.std.proofs.lemmas.List.{length-append}
 use Rattle.dp_base.specs.DecimalShape.{is_decimal}
 use Rattle.dp_lexer.specs.declared.Kind.{Kind}
-use Rattle.dp_lexer.specs.declared.Kind.TheVariants.{Word, Number, Colon, Star, LineEnd}
+use Rattle.dp_lexer.specs.declared.Kind.TheVariants.{Word, Number, LineEnd}
 use Rattle.dp_meaning.proofs.Each.{Each, each_append}
-use Rattle.dp_writer.specs.ModelRows.{each_below}
 use Rattle.dp_writer.specs.WrittenLines.{Words, line_text, lines_text, words_text}
 use Rattle.dp_writer.proofs.WordTexts.{words_behind}
 use Rattle.dp_writer.proofs.Symbols.{Symbol, run_symbol, colon_symbol, star_symbol, line_end_symbol, ReadsAs, Ends, IsRun}

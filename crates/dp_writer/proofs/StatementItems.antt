@@ -1,7 +1,7 @@
 -- The lines of the statements that are written of a model, and all lines, are read as their items.
-use Rattle.std.proofs.Common.{◌≡◌, ℕ, zero, suc, ◌+◌, ◌<◌, ◌≤◌, ◌^◌, ◌%◌, Bool, true, false, cond, ℤ, pos, List, []}
-use Rattle.std.proofs.Common.{◌∷◌, ◌++◌, length, map, refl, sym, ap, ◌∙◌, arith, subst}
-use Rattle.std.specs.Prelude.{codes, if◌then◌else◌}
+use Rattle.std.proofs.Common.{ℕ, ◌<◌, ◌≤◌, ◌^◌, ◌%◌, Bool, true, false, cond, ℤ, pos, List, []}
+use Rattle.std.proofs.Common.{◌∷◌, ◌++◌, length, map, refl, sym, arith, subst}
+use Rattle.std.specs.Prelude.{codes}
 use Rattle.std.specs.Fmt.{decimal}
 use Rattle.std.specs.List.{flat_map, range_with_len}
 use Rattle.std.specs.Ordering.{int_eq}
@@ -14,23 +14,23 @@ use Rattle.dp_model.specs.Tables.{NamedModel}
 use Rattle.dp_meaning.proofs.Each.{Each, each_from}
 use Rattle.dp_writer.specs.declared.rows.ChanceTable.{ChanceTable}
 use Rattle.dp_writer.specs.declared.rows.ChanceTable.TheVariants.{Next, Seen}
-use Rattle.dp_writer.specs.ModelRows.{each_below, scale_of_table, chance_row, reward_row, reward_rows}
-use Rattle.dp_writer.specs.WrittenLines.{Words, lines_text}
+use Rattle.dp_writer.specs.ModelRows.{scale_of_table, chance_row, reward_row, reward_rows}
+use Rattle.dp_writer.specs.WrittenLines.{Words}
 use Rattle.dp_writer.specs.WrittenModel.{chance_lines, header_lines, is_only_reward, lines_by_state, matrix_lines}
-use Rattle.dp_writer.specs.WrittenModel.{one_reward_lines, reward_lines, reward_word, row_words, statement_words}
-use Rattle.dp_writer.specs.WrittenModel.{table_word, written_lines, written_model}
+use Rattle.dp_writer.specs.WrittenModel.{reward_lines, reward_word, row_words, statement_words}
+use Rattle.dp_writer.specs.WrittenModel.{written_lines, written_model}
 use Rattle.dp_writer.proofs.Ranges.{IsJoined, each_range, over_range}
 use Rattle.dp_writer.proofs.RowCells.{length_each}
 use Rattle.dp_writer.proofs.SpelledLines.{AreLinesOf, AreSpelled, IsLineOf, colon_spelled, labelled_spelled}
 use Rattle.dp_writer.proofs.SpelledLines.{line_spelled, none_spelled, run_spelled, runs_line, runs_spelled}
 use Rattle.dp_writer.proofs.SpelledLines.{star_spelled, word_spelled, words_spelled}
 use Rattle.dp_writer.proofs.Symbols.{IsRun, Symbol, colon_symbol, run_symbol, star_symbol}
-use Rattle.dp_writer.proofs.SymbolItems.{HasItems, SymbolItem, item_lines, items_read}
+use Rattle.dp_writer.proofs.SymbolItems.{HasItems, items_read}
 use Rattle.dp_writer.proofs.WordShapes.{index_written}
 use Rattle.dp_writer.proofs.WrittenFacts.{IsWritableModel, reward_number_of, row_runs, row_written}
 use Rattle.dp_writer.proofs.WrittenItems.{AreItemLines, any_symbols, by_state, chance_items, field_symbols, header_items}
-use Rattle.dp_writer.proofs.WrittenItems.{header_read, items_joined, none_begin, one_reward_items, reward_items, run_lines}
-use Rattle.dp_writer.proofs.WrittenItems.{statement_item, statement_items, table_letter}
+use Rattle.dp_writer.proofs.WrittenItems.{header_read, items_joined, none_begin, reward_items, run_lines}
+use Rattle.dp_writer.proofs.WrittenItems.{statement_item, statement_items}
 
 -- ---- fields
 

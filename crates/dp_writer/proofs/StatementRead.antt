@@ -1,61 +1,45 @@
 -- The statements that are written of a model are read as they are said.
-use Rattle.std.proofs.Common.{◌≡◌, ℕ, zero, suc, ◌+◌, ◌*◌, ◌<◌, ◌≤◌, ◌^◌, Bool, true, false, cond, ℤ, pos, List, [], ◌∷◌}
-use Rattle.std.proofs.Common.{◌++◌, length, get_or, map, drop, refl, sym, ap, ◌∙◌, arith, subst, append_assoc}
-use Rattle.std.specs.Prelude.{codes, nat_lt, if◌then◌else◌}
+use Rattle.std.proofs.Common.{◌≡◌, ℕ, ◌<◌, ◌≤◌, ◌^◌, false, cond, List, [], ◌∷◌}
+use Rattle.std.proofs.Common.{◌++◌, length, map, drop, refl, sym, ap, ◌∙◌, arith, subst, append_assoc}
+use Rattle.std.specs.Prelude.{nat_lt}
 use Rattle.std.specs.Fmt.{decimal}
-use Rattle.std.specs.List.{flat_map, range_with_len}
-use Rattle.std.specs.Ordering.{int_eq}
+use Rattle.std.specs.List.{flat_map}
 use Rattle.std.proofs.lemmas.Bool.{le-ltb}
-use Rattle.std.proofs.lemmas.List.{append-nil, map-append}
-use Rattle.std.proofs.lemmas.List.FromFn.{length-range_with_len}
-use Rattle.dp_spec.specs.JointNumbers.{parts_of, product}
-use Rattle.dp_spec.specs.Model.{Model, joint_actions, joint_observations, reward_at}
+use Rattle.std.proofs.lemmas.List.{map-append}
+use Rattle.dp_spec.specs.JointNumbers.{parts_of}
+use Rattle.dp_spec.specs.Model.{Model, joint_actions}
 use Rattle.dp_spec.proofs.JointNumberLaws.{AreBelow, parts_below}
-use Rattle.dp_spec.proofs.ModelLaws.{some_joint_observation, some_state}
-use Rattle.dp_model.specs.Tables.{NamedModel}
 use Rattle.dp_meaning.specs.declared.header.Header.{Header}
 use Rattle.dp_meaning.specs.declared.statement.ItemKind.TheVariants.{StatementOf}
 use Rattle.dp_meaning.specs.declared.statement.Part.{Part}
-use Rattle.dp_meaning.specs.declared.statement.Part.TheVariants.{Any, Only}
+use Rattle.dp_meaning.specs.declared.statement.Part.TheVariants.{Only}
 use Rattle.dp_meaning.specs.declared.statement.Statement.{Statement}
 use Rattle.dp_meaning.specs.declared.statement.Table.{Table}
-use Rattle.dp_meaning.specs.declared.statement.Table.TheVariants.{Trans, Obs, Reward}
 use Rattle.dp_meaning.specs.declared.statement.Value.{Value}
-use Rattle.dp_meaning.specs.declared.statement.Value.TheVariants.{Numbers}
 use Rattle.dp_meaning.specs.declared.why.Why.TheVariants as why
-use Rattle.dp_meaning.specs.Faults.{◌>>=◌, fault}
+use Rattle.dp_meaning.specs.Faults.{fault}
 use Rattle.dp_meaning.specs.Items.{Item, Piece, after_colon, item_at, pieces_of}
 use Rattle.dp_meaning.specs.NameLists.{size_of}
 use Rattle.dp_meaning.specs.Header.{item_words, kind_in, kind_of}
 use Rattle.dp_meaning.specs.Fields.{Axis, all_parts, fields_of}
-use Rattle.dp_meaning.specs.Statements.{axes_of, axis_size, least_fields, statement, statement_of_kind, statements_of}
+use Rattle.dp_meaning.specs.Statements.{axes_of, least_fields, statement, statement_of_kind}
 use Rattle.dp_meaning.specs.Statements.{unless_too_few, value_of}
 use Rattle.dp_meaning.proofs.Each.{Each, each_from}
 use Rattle.dp_meaning.proofs.FaultSteps.{done}
-use Rattle.dp_writer.specs.declared.rows.ChanceTable.{ChanceTable}
-use Rattle.dp_writer.specs.declared.rows.ChanceTable.TheVariants.{Next, Seen}
-use Rattle.dp_writer.specs.ModelRows.{cell_at, chance_row, each_below, reward_row, reward_rows, row_length, scale_of_table}
 use Rattle.dp_writer.specs.WrittenLines.{Words}
-use Rattle.dp_writer.specs.WrittenModel.{is_only_reward, matrix_lines, reward_word, row_words}
-use Rattle.dp_writer.specs.WrittenNumbers.{decimal_over}
-use Rattle.dp_writer.specs.WrittenText.{Said, chance_said, one_reward_said, reward_decimals, reward_said, rewards_said}
-use Rattle.dp_writer.specs.WrittenText.{row_value, said_by_state, said_fields, said_of, said_statements, said_table}
+use Rattle.dp_writer.specs.WrittenText.{Said}
+use Rattle.dp_writer.specs.WrittenText.{said_fields, said_of}
 use Rattle.dp_writer.proofs.FieldSymbols.{FieldsRead, SymbolFields, field_ends, field_read, fields_symbols, indices_read}
-use Rattle.dp_writer.proofs.FieldSymbols.{no_field, none_read, of_field, of_fields, run_in_field, runs_in_field}
-use Rattle.dp_writer.proofs.FieldSymbols.{star_field_read, symbol_fields}
+use Rattle.dp_writer.proofs.FieldSymbols.{of_fields, run_in_field, runs_in_field}
+use Rattle.dp_writer.proofs.FieldSymbols.{symbol_fields}
 use Rattle.dp_writer.proofs.HeaderRead.{IsStatementItem, kind_is}
-use Rattle.dp_writer.proofs.Ranges.{Alongside, alongside_joined, each_lists, each_range}
-use Rattle.dp_writer.proofs.ReadLists.{length_alike, map-map, map_flat}
-use Rattle.dp_writer.proofs.ReadPieces.{IsNumberOf, step_done}
-use Rattle.dp_writer.proofs.RowCells.{length_each}
+use Rattle.dp_writer.proofs.ReadPieces.{step_done}
 use Rattle.dp_writer.proofs.SaidHeaders.{HasSizes}
-use Rattle.dp_writer.proofs.StatementItems.{over_states, parts_within}
-use Rattle.dp_writer.proofs.StatementValues.{rewards_value_read, row_value_read}
-use Rattle.dp_writer.proofs.Symbols.{Symbol, colon_symbol, run_symbol, star_symbol, symbol_of}
-use Rattle.dp_writer.proofs.SymbolItems.{SymbolItem, after_colon_symbols, item_symbols, line_symbols, more_symbols}
-use Rattle.dp_writer.proofs.WrittenFacts.{IsWritableModel, reward_number_of, row_written}
-use Rattle.dp_writer.proofs.WrittenItems.{any_symbols, by_state, chance_items, field_symbols, one_reward_items}
-use Rattle.dp_writer.proofs.WrittenItems.{reward_items, statement_item, statement_items, table_letter}
+use Rattle.dp_writer.proofs.StatementItems.{parts_within}
+use Rattle.dp_writer.proofs.Symbols.{Symbol, colon_symbol, run_symbol, symbol_of}
+use Rattle.dp_writer.proofs.SymbolItems.{SymbolItem, after_colon_symbols, item_symbols, more_symbols}
+use Rattle.dp_writer.proofs.WrittenItems.{field_symbols}
+use Rattle.dp_writer.proofs.WrittenItems.{statement_item}
 
 -- ---- a statement
 

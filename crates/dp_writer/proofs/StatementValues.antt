@@ -1,19 +1,16 @@
 -- The values of statements, read from pieces by their symbols.
-use Rattle.std.proofs.Common.{◌≡◌, ℕ, zero, suc, ◌+◌, ◌*◌, ◌<◌, Bool, true, false, cond, ℤ, pos, List, [], ◌∷◌, ◌++◌}
-use Rattle.std.proofs.Common.{length, map, refl, sym, ap, ◌∙◌, arith, subst}
-use Rattle.std.specs.Prelude.{codes, if◌then◌else◌}
+use Rattle.std.proofs.Common.{◌≡◌, ℕ, ◌<◌, Bool, true, false, cond, ℤ, pos, List, [], ◌∷◌}
+use Rattle.std.proofs.Common.{length, map, refl, ap, ◌∙◌, arith}
+use Rattle.std.specs.Prelude.{codes}
 use Rattle.std.specs.Str.{bytes_eq}
-use Rattle.dp_base.specs.declared.decimal.Decimal.{Decimal}
 use Rattle.dp_base.specs.DecimalShape.{is_decimal}
 use Rattle.dp_spec.specs.JointNumbers.{product}
-use Rattle.dp_meaning.specs.declared.statement.Table.{Table}
-use Rattle.dp_meaning.specs.declared.statement.Table.TheVariants.{Trans, Obs, Reward}
-use Rattle.dp_meaning.specs.declared.statement.Value.{Value}
-use Rattle.dp_meaning.specs.declared.statement.Value.TheVariants.{Uniform, Identity, Numbers}
+use Rattle.dp_meaning.specs.declared.statement.Table.TheVariants.{Reward}
+use Rattle.dp_meaning.specs.declared.statement.Value.TheVariants.{Uniform, Numbers}
 use Rattle.dp_meaning.specs.Items.{Piece}
 use Rattle.dp_meaning.specs.Numbers.{is_chance, is_reward, numbers}
 use Rattle.dp_meaning.specs.Fields.{Axis}
-use Rattle.dp_meaning.specs.Statements.{axis_size, is_number_of, value_of}
+use Rattle.dp_meaning.specs.Statements.{axis_size, value_of}
 use Rattle.dp_meaning.proofs.Each.{Each}
 use Rattle.dp_meaning.proofs.FaultSteps.{done}
 use Rattle.dp_writer.specs.declared.rows.ChanceTable.{ChanceTable}
@@ -23,7 +20,7 @@ use Rattle.dp_writer.specs.WrittenNumbers.{decimal_over}
 use Rattle.dp_writer.specs.WrittenText.{chance_decimals, reward_decimals, row_value, said_table}
 use Rattle.dp_writer.proofs.EntryValues.{number_says, uniform_no_number}
 use Rattle.dp_writer.proofs.ReadPieces.{IsNumberOf, numbers_read, step_done, text_is}
-use Rattle.dp_writer.proofs.Symbols.{Symbol, run_symbol, symbol_of}
+use Rattle.dp_writer.proofs.Symbols.{run_symbol, symbol_of}
 use Rattle.dp_writer.proofs.WrittenFacts.{IsWrittenRow}
 
 -- ---- rows of chances

@@ -1,7 +1,7 @@
 -- The statements that are written of a model say its rows of chances and its rewards.
-use Rattle.std.proofs.Common.{◌≡◌, ℕ, zero, suc, ◌+◌, ◌*◌, ◌<◌, ◌≤◌, Bool, true, false, cond, ℤ, pos, List, [], ◌∷◌, ◌++◌}
-use Rattle.std.proofs.Common.{length, get_or, map, refl, sym, ap, ◌∙◌, arith, subst}
-use Rattle.std.specs.Prelude.{codes, if◌then◌else◌}
+use Rattle.std.proofs.Common.{◌≡◌, ℕ, ◌*◌, ◌<◌, Bool, true, false, cond, ℤ, pos, List, [], ◌∷◌, ◌++◌}
+use Rattle.std.proofs.Common.{length, get_or, map, refl, sym, ap, ◌∙◌, arith}
+use Rattle.std.specs.Prelude.{codes}
 use Rattle.std.specs.List.{flat_map, range_with_len}
 use Rattle.std.specs.Ordering.{int_eq}
 use Rattle.std.proofs.lemmas.List.{append-nil}
@@ -9,7 +9,7 @@ use Rattle.std.proofs.lemmas.List.Folds.{flat_map-map}
 use Rattle.std.proofs.lemmas.List.FromFn.{length-range_with_len}
 use Rattle.std.proofs.Math.Nat.{le-mul_of_pos_right}
 use Rattle.dp_spec.specs.JointNumbers.{product}
-use Rattle.dp_spec.specs.Model.{Model, joint_actions, joint_observations, reward_at}
+use Rattle.dp_spec.specs.Model.{joint_actions, joint_observations, reward_at}
 use Rattle.dp_spec.proofs.ModelLaws.{some_joint_observation, some_state}
 use Rattle.dp_model.specs.Tables.{NamedModel}
 use Rattle.dp_meaning.specs.declared.header.Header.{Header}
@@ -28,16 +28,15 @@ use Rattle.dp_meaning.proofs.Each.{Each}
 use Rattle.dp_meaning.proofs.FaultSteps.{done}
 use Rattle.dp_writer.specs.declared.rows.ChanceTable.{ChanceTable}
 use Rattle.dp_writer.specs.declared.rows.ChanceTable.TheVariants.{Next, Seen}
-use Rattle.dp_writer.specs.ModelRows.{cell_at, chance_row, each_below, reward_row, reward_rows, scale_of_table}
-use Rattle.dp_writer.specs.WrittenLines.{Words}
+use Rattle.dp_writer.specs.ModelRows.{cell_at, chance_row, reward_row, reward_rows, scale_of_table}
 use Rattle.dp_writer.specs.WrittenModel.{is_only_reward, matrix_lines, reward_word, row_words}
 use Rattle.dp_writer.specs.WrittenNumbers.{decimal_over}
 use Rattle.dp_writer.specs.WrittenText.{Said, chance_said, reward_decimals, reward_said, row_value, said_fields, said_of}
 use Rattle.dp_writer.specs.WrittenText.{said_statements, said_table}
-use Rattle.dp_writer.proofs.FieldSymbols.{FieldsRead, SymbolFields, field_ends, field_read, no_field, none_read}
+use Rattle.dp_writer.proofs.FieldSymbols.{SymbolFields, field_ends, field_read, no_field, none_read}
 use Rattle.dp_writer.proofs.FieldSymbols.{run_in_field, star_field_read, symbol_fields}
 use Rattle.dp_writer.proofs.HeaderRead.{IsStatementItem}
-use Rattle.dp_writer.proofs.Ranges.{Alongside, IsJoined, alongside_joined, each_lists, each_range}
+use Rattle.dp_writer.proofs.Ranges.{Alongside, alongside_joined, each_lists, each_range}
 use Rattle.dp_writer.proofs.ReadLists.{length_alike, map-map, map_flat}
 use Rattle.dp_writer.proofs.ReadPieces.{IsNumberOf, step_done}
 use Rattle.dp_writer.proofs.RowCells.{length_each}
@@ -45,7 +44,7 @@ use Rattle.dp_writer.proofs.SaidHeaders.{HasSizes}
 use Rattle.dp_writer.proofs.StatementItems.{over_states}
 use Rattle.dp_writer.proofs.StatementRead.{IsRest, SaysItem, item_says}
 use Rattle.dp_writer.proofs.StatementValues.{rewards_value_read, row_value_read}
-use Rattle.dp_writer.proofs.Symbols.{Symbol, colon_symbol, run_symbol, star_symbol, symbol_of}
+use Rattle.dp_writer.proofs.Symbols.{colon_symbol, run_symbol, star_symbol, symbol_of}
 use Rattle.dp_writer.proofs.SymbolItems.{SymbolItem, item_symbols}
 use Rattle.dp_writer.proofs.WrittenFacts.{IsWritableModel, reward_number_of, row_written}
 use Rattle.dp_writer.proofs.WrittenItems.{any_symbols, by_state, chance_items, reward_items, statement_items}

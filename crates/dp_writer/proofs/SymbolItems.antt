@@ -1,20 +1,19 @@
 -- The lines and the items of a text, by their symbols.
-use Rattle.std.proofs.Common.{◌≡◌, ℕ, zero, suc, ◌+◌, ◌<◌, Bool, true, false, cond, List, [], ◌∷◌, ◌++◌, length, map}
-use Rattle.std.proofs.Common.{Ok, refl, sym, ap, ◌∙◌, arith, append_assoc, subst, drop}
+use Rattle.std.proofs.Common.{◌≡◌, ℕ, zero, suc, Bool, true, false, cond, List, [], ◌∷◌, ◌++◌, length, map}
+use Rattle.std.proofs.Common.{Ok, refl, ap, ◌∙◌, append_assoc, subst, drop}
 use Rattle.std.specs.Prelude.{filter, nat_lt}
 use Rattle.std.specs.List.{flat_map}
 use Rattle.std.proofs.lemmas.Bool.{lt-ltb}
-use Rattle.std.proofs.lemmas.List.{append-nil}
 use Rattle.dp_lexer.specs.declared.Kind.{Kind}
 use Rattle.dp_lexer.specs.declared.Kind.TheVariants.{Word, Number, Colon, Star, LineEnd}
 use Rattle.dp_lexer.specs.Tokens.{tokens_of}
 use Rattle.dp_meaning.specs.Items.{Piece, piece_of, is_colon, Line, pieces_of, with_piece, lines_of, has_pieces}
-use Rattle.dp_meaning.specs.Items.{Item, Items, begins_item, with_line, items_of, items_of_pieces, after_colon}
+use Rattle.dp_meaning.specs.Items.{Item, Items, begins_item, items_of, items_of_pieces, after_colon}
 use Rattle.dp_meaning.specs.Items.{value_pieces}
 use Rattle.dp_meaning.specs.Meaning.{pieces_of_tokens}
-use Rattle.dp_meaning.proofs.Each.{Each, each_append}
+use Rattle.dp_meaning.proofs.Each.{Each}
 use Rattle.dp_writer.specs.WrittenLines.{Words, lines_text}
-use Rattle.dp_writer.proofs.Symbols.{Symbol, symbol_of, line_end_symbol, ReadsAs}
+use Rattle.dp_writer.proofs.Symbols.{Symbol, symbol_of, line_end_symbol}
 use Rattle.dp_writer.proofs.SpelledLines.{is_line_end, IsWithinLine, IsTextLine, ended, AreLinesOf, text_lines}
 use Rattle.dp_writer.proofs.SpelledLines.{lines_read}
 

@@ -1,10 +1,10 @@
 -- The tokens of a text that is written word by word, each by its kind and its bytes, without its place.
-use Rattle.std.proofs.Common.{◌≡◌, ℕ, zero, suc, ◌+◌, ◌-◌, ◌<◌, Bool, true, false, List, [], ◌∷◌, ◌++◌, length, get_or}
-use Rattle.std.proofs.Common.{map, take, drop, Option, Some, None, Ok, refl, sym, ap, ◌∙◌, arith, append_assoc, subst}
+use Rattle.std.proofs.Common.{◌≡◌, ℕ, suc, ◌+◌, ◌-◌, ◌<◌, true, false, List, [], ◌∷◌, ◌++◌, length, get_or}
+use Rattle.std.proofs.Common.{map, take, drop, Option, Some, None, Ok, refl, sym, ap, ◌∙◌, arith, subst}
 use Rattle.std.specs.Prelude.{slice_range, if◌then◌else◌}
-use Rattle.std.specs.List.{list_all, prefix_len, flat_map}
+use Rattle.std.specs.List.{list_all, prefix_len}
 use Rattle.std.proofs.lemmas.Bool.{and_parts}
-use Rattle.std.proofs.lemmas.List.{append-nil, drop-drop, length-drop}
+use Rattle.std.proofs.lemmas.List.{drop-drop, length-drop}
 use Rattle.std.proofs.Math.Seq.{drop-append_seam, take-append_seam}
 use Rattle.dp_base.specs.Bytes.{is_name_byte}
 use Rattle.dp_base.specs.DecimalShape.{first, is_decimal}
@@ -12,12 +12,9 @@ use Rattle.dp_lexer.specs.declared.Kind.{Kind}
 use Rattle.dp_lexer.specs.declared.Kind.TheVariants.{Word, Number, Colon, Star, LineEnd}
 use Rattle.dp_lexer.specs.declared.Token.{Token}
 use Rattle.dp_lexer.specs.Bytes.{line_at}
-use Rattle.dp_lexer.specs.Tokens.{class_of, more_of, kind_of, with_token, tokens_from}
+use Rattle.dp_lexer.specs.Tokens.{class_of, with_token, tokens_from}
 use Rattle.dp_lexer.proofs.Lexeme.{tokens_at, cut, moves}
 use Rattle.dp_meaning.specs.Items.{Piece, piece_of}
-use Rattle.dp_meaning.proofs.Each.{Each, each_append}
-use Rattle.dp_writer.specs.WrittenLines.{Words, line_text, lines_text, words_text}
-use Rattle.dp_writer.proofs.WordTexts.{words_behind}
 
 -- ---- symbols
 

@@ -1,20 +1,19 @@
 -- What is known of a model that can be written: its lists, its rows of chances and its rewards.
-use Rattle.std.proofs.Common.{◌≡◌, ◌≢◌, ℕ, zero, suc, ◌+◌, ◌*◌, ◌%◌, ◌^◌, ◌<◌, ◌≤◌, ◌-◌, Bool, true, false, pos, List}
+use Rattle.std.proofs.Common.{◌≡◌, ℕ, zero, suc, ◌+◌, ◌*◌, ◌%◌, ◌^◌, ◌<◌, ◌≤◌, ◌-◌, Bool, true, false, pos, List}
 use Rattle.std.proofs.Common.{[]}
-use Rattle.std.proofs.Common.{◌∷◌, cond, length, get_or, map, refl, sym, ap, ◌∙◌, arith, subst, inl, inr}
-use Rattle.std.specs.Prelude.{All, codes, ◌||◌, ◌&&◌, nat_le, IsTrue, slice_index, ◌==◌}
-use Rattle.std.specs.List.{list_all, range_with_len}
+use Rattle.std.proofs.Common.{◌∷◌, cond, length, get_or, map, refl, sym, ap, ◌∙◌, arith}
+use Rattle.std.specs.Prelude.{codes, ◌||◌, ◌&&◌, nat_le, IsTrue, slice_index}
+use Rattle.std.specs.List.{list_all}
 use Rattle.std.proofs.lemmas.Bool.{and_parts, eqb-true}
 use Rattle.std.proofs.Math.Nat.{le-mul_of_pos_right, mul-mod_left, mul_assoc, mul_comm}
 use Rattle.std.proofs.lemmas.Nat.{pow-add}
-use Rattle.dp_base.specs.Names.{is_name}
 use Rattle.dp_spec.specs.JointNumbers.{product}
 use Rattle.dp_spec.specs.Model.{Model, IsModel, joint_actions, joint_observations, reward_at}
 use Rattle.dp_spec.specs.Model.{start_at}
 use Rattle.dp_spec.proofs.JointNumberLaws.{positive_left, positive_right}
 use Rattle.dp_spec.proofs.ModelLaws.{some_state, some_joint_observation}
 use Rattle.dp_model.specs.Names.{AreNames, IsNameList, names_of}
-use Rattle.dp_model.specs.Tables.{AreNamesOf, IsNamedModel, NamedModel, NamesAllOrNone}
+use Rattle.dp_model.specs.Tables.{IsNamedModel, NamedModel, NamesAllOrNone}
 use Rattle.dp_meaning.specs.Numbers.{is_chance, is_reward}
 use Rattle.dp_meaning.proofs.Each.{Each}
 use Rattle.dp_writer.specs.declared.rows.ChanceRow.{ChanceRow}
@@ -31,7 +30,7 @@ use Rattle.dp_writer.specs.WrittenNumbers.{decimal_over}
 use Rattle.dp_writer.proofs.NumberWords.{chance_number, reward_number}
 use Rattle.dp_writer.proofs.Ranges.{each_all, each_range, lists_pass, range_passes}
 use Rattle.dp_writer.proofs.ReadPieces.{IsNumberOf, IsWrittenList}
-use Rattle.dp_writer.proofs.RowCells.{each_at, length_each, reward_within, some_cell, some_in_table}
+use Rattle.dp_writer.proofs.RowCells.{each_at, length_each, reward_within, some_in_table}
 use Rattle.dp_writer.proofs.RowCells.{some_scale, within_scale}
 use Rattle.dp_writer.proofs.Symbols.{IsRun}
 use Rattle.dp_writer.proofs.WordShapes.{IsNameWord, name_word}

@@ -1,38 +1,34 @@
 -- The items of the text that is written of a model, by their symbols.
-use Rattle.std.proofs.Common.{◌≡◌, ℕ, zero, suc, ◌+◌, ◌<◌, ◌≤◌, ◌^◌, Bool, true, false, cond, ℤ, pos, List, [], ◌∷◌}
-use Rattle.std.proofs.Common.{◌++◌, length, map, refl, sym, ap, ◌∙◌, arith, subst}
+use Rattle.std.proofs.Common.{◌≡◌, ℕ, ◌<◌, Bool, true, false, cond, ℤ, pos, List, [], ◌∷◌}
+use Rattle.std.proofs.Common.{◌++◌, length, map, refl, sym, arith, subst}
 use Rattle.std.specs.Prelude.{codes, if◌then◌else◌, slice_index}
 use Rattle.std.specs.Fmt.{decimal}
 use Rattle.std.specs.List.{flat_map, range_with_len}
 use Rattle.std.specs.Ordering.{int_eq}
 use Rattle.std.proofs.lemmas.Grind.{flat_map-append}
 use Rattle.std.proofs.lemmas.List.{append-nil}
-use Rattle.std.proofs.Math.Nat.{div-le_self, mod-le}
 use Rattle.dp_base.specs.DecimalShape.{is_decimal}
 use Rattle.dp_lexer.specs.declared.Kind.TheVariants.{Word, Number}
-use Rattle.dp_spec.specs.JointNumbers.{parts_of, product}
-use Rattle.dp_spec.specs.Model.{Model, joint_actions, joint_observations, reward_at}
+use Rattle.dp_spec.specs.JointNumbers.{parts_of}
+use Rattle.dp_spec.specs.Model.{Model, joint_actions, reward_at}
 use Rattle.dp_model.specs.Names.{names_of}
 use Rattle.dp_model.specs.Tables.{NamedModel}
 use Rattle.dp_meaning.specs.Items.{is_colon}
 use Rattle.dp_meaning.proofs.Each.{Each, each_append}
 use Rattle.dp_writer.specs.declared.rows.ChanceTable.{ChanceTable}
 use Rattle.dp_writer.specs.declared.rows.ChanceTable.TheVariants.{Next, Seen}
-use Rattle.dp_writer.specs.ModelRows.{each_below, start_row, scale_of_table, chance_row, reward_row, reward_rows}
+use Rattle.dp_writer.specs.ModelRows.{start_row, scale_of_table, chance_row, reward_rows}
 use Rattle.dp_writer.specs.WrittenLines.{Words}
-use Rattle.dp_writer.specs.WrittenModel.{agent_lines, chance_lines, chance_word, header_lines, is_only_reward, lines_by_state}
-use Rattle.dp_writer.specs.WrittenModel.{list_words, matrix_lines, one_reward_lines, reward_lines, reward_word, row_words}
-use Rattle.dp_writer.specs.WrittenModel.{statement_words, table_word, written_lines}
-use Rattle.dp_writer.proofs.Ranges.{IsJoined, each_lists, each_range, over_range}
-use Rattle.dp_writer.proofs.ReadPieces.{IsNumberOf, list_runs}
-use Rattle.dp_writer.proofs.SpelledLines.{AreLinesOf, AreSpelled, IsLineOf, IsSpelled, colon_spelled, labelled_line}
-use Rattle.dp_writer.proofs.SpelledLines.{labelled_spelled, line_spelled, lines_append, none_spelled, run_spelled, runs_line}
-use Rattle.dp_writer.proofs.SpelledLines.{runs_spelled, same_line, star_spelled, word_spelled, words_spelled}
+use Rattle.dp_writer.specs.WrittenModel.{agent_lines, chance_word, header_lines, is_only_reward}
+use Rattle.dp_writer.specs.WrittenModel.{list_words, matrix_lines, reward_word, row_words}
+use Rattle.dp_writer.proofs.Ranges.{IsJoined, each_range}
+use Rattle.dp_writer.proofs.ReadPieces.{list_runs}
+use Rattle.dp_writer.proofs.SpelledLines.{AreLinesOf, IsLineOf, labelled_line}
+use Rattle.dp_writer.proofs.SpelledLines.{lines_append, runs_line}
 use Rattle.dp_writer.proofs.Symbols.{IsRun, Symbol, colon_symbol, run_symbol, star_symbol}
 use Rattle.dp_writer.proofs.SymbolItems.{IsSymbolItem, SymbolItem, begins, item_lines}
-use Rattle.dp_writer.proofs.WordShapes.{index_written}
-use Rattle.dp_writer.proofs.WrittenFacts.{IsWritableModel, IsWrittenRow, actions_list, agents_list, discount_number}
-use Rattle.dp_writer.proofs.WrittenFacts.{observations_list, reward_number_of, row_runs, row_written, start_written}
+use Rattle.dp_writer.proofs.WrittenFacts.{IsWritableModel, actions_list, agents_list, discount_number}
+use Rattle.dp_writer.proofs.WrittenFacts.{observations_list, row_runs, start_written}
 use Rattle.dp_writer.proofs.WrittenFacts.{states_list}
 
 -- ---- items

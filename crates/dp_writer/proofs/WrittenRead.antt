@@ -1,5 +1,5 @@
 -- The text that is written of a model is read as the text that says it.
-use Rattle.std.proofs.Common.{◌≡◌, ℕ, List, [], length, Ok, refl, ap, sym, subst, true, ◌∙◌}
+use Rattle.std.proofs.Common.{◌≡◌, ℕ, List, length, Result, Ok, Err, IfOk, refl, ap, sym, subst, true, ◌∙◌}
 use Rattle.dp_model.specs.Names.{AreNames}
 use Rattle.dp_model.specs.Tables.{IsNamedModel, NamedModel}
 use Rattle.dp_lexer.specs.Tokens.{tokens_of}
@@ -60,3 +60,10 @@ pub means_again : (m : NamedModel) (bytes : List ℕ) → IsNamedModel m → Are
     → bytes ≡ written_model m → MeansAgain m bytes
 means_again m bytes named names writable is =
     subst (MeansAgain m) (sym is) (written_models_read_back m named names writable)
+
+-- the same of an answer, which may be another one
+pub again_where : {A E : Type 0} (m : NamedModel) → IsNamedModel m → AreNames m.names → is_writable m.model ≡ true
+    → (bytes : A → List ℕ) (answer : Result A E) → IfOk answer (λ x. bytes x ≡ written_model m)
+    → IfOk answer (λ x. MeansAgain m (bytes x))
+again_where m named names writable bytes (Ok x) is = means_again m (bytes x) named names writable is
+again_where m named names writable bytes (Err e) is = tt
