@@ -68,7 +68,8 @@ pub discount_read : (next : ℕ) (pieces : List Piece) (text : List ℕ) (d : De
 discount_read next [] text d e is = absurd cc
 discount_read next (piece ∷ []) text d e is =
     let same : symbol_of piece ≡ run_symbol text = cc in
-    step_done (number is_chance piece) (λ n. ended n []) d (number_read is_chance piece text d (text_is piece text same) is)
+    step_done (number is_chance piece) (λ n. ended n []) d
+    (number_read is_chance piece text d (text_is piece text same) is)
 discount_read next (piece ∷ more ∷ pieces) text d e is = absurd cc
 
 -- what is read are rewards
@@ -147,17 +148,21 @@ row_read states next scale (n ∷ m ∷ cells) (piece ∷ second ∷ pieces) dif
     let shape : is_decimal piece.text ≡ true = ap is_decimal text ∙ each.0.shape in
     let no_uniform = number_says (codes "uniform") piece.text uniform_no_number shape in
     let no_name = number_no_name piece.text shape in
-    let more : (length (second ∷ pieces) == 0) ≡ false = ne_eqb (length (second ∷ pieces)) 0 (λ z. absurd (omega (arith, z))) in (
+    let more : (length (second ∷ pieces) == 0) ≡ false =
+    ne_eqb (length (second ∷ pieces)) 0 (λ z. absurd (omega (arith, z))) in (
       piece.at,
       rw (no_uniform, no_name, more)
-          (step_done (numbers is_chance next (size_of states) (piece ∷ second ∷ pieces)) (λ row. done (StartRow piece.at row))
+          (step_done (numbers is_chance next (size_of states) (piece ∷ second ∷ pieces))
+          (λ row. done (StartRow piece.at row))
           (chance_decimals scale (n ∷ m ∷ cells))
-          (numbers_read is_chance next (size_of states) (chance_word scale) (λ c. decimal_over 18 (pos c) scale) (n ∷ m ∷ cells)
+          (numbers_read is_chance next (size_of states) (chance_word scale) (λ c. decimal_over 18 (pos c) scale)
+          (n ∷ m ∷ cells)
           (piece ∷ second ∷ pieces) size each e)),
     )
 
 -- the start
-pub start_read : (states : GivenList) (next scale : ℕ) (cells : List ℕ) (pieces : List Piece) → IsWrittenRow scale cells
+pub start_read : (states : GivenList) (next scale : ℕ) (cells : List ℕ) (pieces : List Piece) →
+    IsWrittenRow scale cells
     → size_of states ≡ length cells → map symbol_of pieces ≡ map run_symbol (row_words scale cells)
     → (at : ℕ) × (start_of states next pieces
     ≡ done (if are_equal cells then AnyState else StartRow at (chance_decimals scale cells)))

@@ -11,7 +11,8 @@ use Rattle.dp_meaning.specs.declared.statement.Part.TheVariants.{Any, Only}
 use Rattle.dp_meaning.specs.Faults.{◌>>=◌}
 use Rattle.dp_meaning.specs.Items.{Piece, is_colon, is_star}
 use Rattle.dp_meaning.specs.NameLists.{find_in, size_of}
-use Rattle.dp_meaning.specs.Fields.{Axis, Field, Fields, all_parts, field_parts, fields_of, in_first_field, is_one_star}
+use Rattle.dp_meaning.specs.Fields.{Axis, Field, Fields, all_parts, field_parts, fields_of, in_first_field}
+use Rattle.dp_meaning.specs.Fields.{is_one_star}
 use Rattle.dp_meaning.specs.Fields.{part_of, parts_in, with_field_piece}
 use Rattle.dp_meaning.proofs.Each.{Each}
 use Rattle.dp_meaning.proofs.FaultSteps.{done}
@@ -47,7 +48,8 @@ symbol_fields [] = record { fields = []; rest = [] }
 symbol_fields (symbol ∷ symbols) = with_field (is_colon symbol.kind) symbol (symbol_fields symbols)
 
 first_symbols : (piece : Piece) (fields : List Field) (rest : List Piece)
-    → of_fields (in_first_field piece fields rest) ≡ in_first (symbol_of piece) (map of_field fields) (map symbol_of rest)
+    → of_fields (in_first_field piece fields rest)
+    ≡ in_first (symbol_of piece) (map of_field fields) (map symbol_of rest)
 first_symbols piece [] rest = refl
 first_symbols piece (field ∷ fields) rest = refl
 
@@ -82,7 +84,8 @@ pub no_field : (symbols : List Symbol) → Each IsInField symbols
     → symbol_fields symbols ≡ record { fields = []; rest = symbols }
 no_field [] each = refl
 no_field (symbol ∷ symbols) each =
-    ap (λ b. with_field b symbol (symbol_fields symbols)) each.0 ∙ ap (with_field false symbol) (no_field symbols each.1)
+    ap (λ b. with_field b symbol (symbol_fields symbols)) each.0
+    ∙ ap (with_field false symbol) (no_field symbols each.1)
 
 pub run_in_field : (text : List ℕ) → IsInField (run_symbol text)
 run_in_field text = by (is_decimal text)
@@ -172,7 +175,8 @@ none_read axes = record { read = by }
     by (field ∷ fields) e = absurd cc
 
 -- one field more in front
-pub field_read : (axis : Axis) (axes : List Axis) (symbols : List Symbol) (more : List (List Symbol)) (here : List Part)
+pub field_read : (axis : Axis) (axes : List Axis) (symbols : List Symbol) (more : List (List Symbol))
+    (here : List Part)
     (parts : List (List Part))
     → ((field : Field) → of_field field ≡ symbols → field_parts axis field ≡ done here)
     → FieldsRead axes more parts → FieldsRead (axis ∷ axes) (symbols ∷ more) (here ∷ parts)

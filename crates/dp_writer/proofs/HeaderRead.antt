@@ -17,7 +17,8 @@ use Rattle.dp_meaning.specs.Items.{Piece, Item, item_at, value_pieces}
 use Rattle.dp_meaning.specs.NameLists.{name_list, name_lists, size_of}
 use Rattle.dp_meaning.specs.Entries.{discount_of, is_cost, start_of}
 use Rattle.dp_meaning.specs.Entries.{agent_lines as entry_lines}
-use Rattle.dp_meaning.specs.Header.{entry, header_of, header_with, item_words, kind_in, kind_of, kind_of_pieces, no_entries}
+use Rattle.dp_meaning.specs.Header.{entry, header_of, header_with, item_words, kind_in, kind_of, kind_of_pieces}
+use Rattle.dp_meaning.specs.Header.{no_entries}
 use Rattle.dp_meaning.specs.Header.{with_entry}
 use Rattle.dp_meaning.proofs.Each.{Each}
 use Rattle.dp_meaning.proofs.FaultSteps.{done}
@@ -31,7 +32,8 @@ use Rattle.dp_writer.proofs.ReadPieces.{list_read, size_given, step_done}
 use Rattle.dp_writer.proofs.RowCells.{length_each}
 use Rattle.dp_writer.proofs.Symbols.{Symbol, symbol_of}
 use Rattle.dp_writer.proofs.SymbolItems.{SymbolItem, item_symbols}
-use Rattle.dp_writer.proofs.WrittenFacts.{IsWritableModel, actions_list, agents_list, discount_number, observations_list}
+use Rattle.dp_writer.proofs.WrittenFacts.{IsWritableModel, actions_list, agents_list, discount_number}
+use Rattle.dp_writer.proofs.WrittenFacts.{observations_list}
 use Rattle.dp_writer.proofs.WrittenFacts.{start_written, states_list}
 use Rattle.dp_writer.proofs.WrittenItems.{header_items, word_item}
 use Rattle.dp_spec.specs.Model.{start_at}
@@ -96,8 +98,10 @@ header_done end entries header [] its all e each =
 header_done end entries header (item ∷ rest) [] all e each = absurd cc
 header_done end entries header (item ∷ rest) (it ∷ its) all e each =
     let same : item_symbols item ≡ it = cc in
-    let kind = kind_is item each.0.symbol each.0.more (ap (λ (i : SymbolItem). i.first) same ∙ each.0.first) ∙ each.0.kind in
-    rw (kind, header_of) (step_done (header_with (item_at item) entries) (λ h. done (h, item ∷ rest)) header (all (item_at item)))
+    let kind = kind_is item each.0.symbol each.0.more (ap (λ (i : SymbolItem). i.first) same ∙ each.0.first)
+    ∙ each.0.kind in
+    rw (kind, header_of)
+    (step_done (header_with (item_at item) entries) (λ h. done (h, item ∷ rest)) header (all (item_at item)))
 
 module _ (m : NamedModel) (can : IsWritableModel m) where
   -- the values of the entries
@@ -125,7 +129,8 @@ module _ (m : NamedModel) (can : IsWritableModel m) where
       → with_entry Discount item entries ≡ done (record entries { discount = Some discount })
   unfolding with_entry
   discount_entry item entries none e = rw none
-      (step_done (discount_of item.next (value_pieces item)) (λ d. done (record entries { discount = Some d })) discount
+      (step_done (discount_of item.next (value_pieces item)) (λ d. done (record entries { discount = Some d }))
+      discount
       (discount_read item.next (value_pieces item) (chance_word m.model.scales.discount m.model.scales.gain) discount
       (own_value item (codes "discount") (chance_word m.model.scales.discount m.model.scales.gain ∷ []) e)
       (discount_number m can)))
@@ -157,12 +162,14 @@ module _ (m : NamedModel) (can : IsWritableModel m) where
       let words = row_words m.model.scales.start (start_row m.model) in
       let read = start_read states item.next m.model.scales.start (start_row m.model) (value_pieces item)
       (start_written m can)
-      (size_given m.names.states m.model.states (states_list m can) ∙ sym (length_each (start_at m.model) m.model.states))
+      (size_given m.names.states m.model.states (states_list m can)
+      ∙ sym (length_each (start_at m.model) m.model.states))
       (next_value item (codes "start") words e) in (
         read.0,
         rw none
             (step_done (entry (item_at item) entries.states) _ states (ap (entry (item_at item)) some)
-            ∙ step_done (start_of states item.next (value_pieces item)) (λ s. done (record entries { start = Some s }))
+            ∙ step_done (start_of states item.next (value_pieces item))
+            (λ s. done (record entries { start = Some s }))
             (said_start read.0 m.model) read.1),
       )
 
@@ -238,7 +245,8 @@ module _ (m : NamedModel) (can : IsWritableModel m) where
         t7.others,
         ap (header_of end no_entries) t1.is
             ∙ entry_read end Agents t1.first t1.others no_entries e1
-            (entry_kind t1.first Agents _ _ _ t1.first_is refl refl) (agents_entry t1.first no_entries refl t1.first_is)
+            (entry_kind t1.first Agents _ _ _ t1.first_is refl refl)
+            (agents_entry t1.first no_entries refl t1.first_is)
             ∙ ap (header_of end e1) t2.is
             ∙ entry_read end Discount t2.first t2.others e1 e2
             (entry_kind t2.first Discount _ _ _ t2.first_is refl refl) (discount_entry t2.first e1 refl t2.first_is)
@@ -253,10 +261,13 @@ module _ (m : NamedModel) (can : IsWritableModel m) where
             (entry_kind t5.first StartEntry _ _ _ t5.first_is refl refl) start.1
             ∙ ap (header_of end e5) t6.is
             ∙ entry_read end Actions t6.first t6.others e5 e6
-            (entry_kind t6.first Actions _ _ _ t6.first_is refl refl) (actions_entry t6.first e5 refl refl t6.first_is)
+            (entry_kind t6.first Actions _ _ _ t6.first_is refl refl)
+            (actions_entry t6.first e5 refl refl t6.first_is)
             ∙ ap (header_of end e6) t7.is
             ∙ entry_read end Observations t7.first t7.others e6 e7
-            (entry_kind t7.first Observations _ _ _ t7.first_is refl refl) (observations_entry t7.first e6 refl refl t7.first_is)
-            ∙ header_done end e7 (said_header start.0 m) t7.others its (λ place. all_come place start.0) t7.others_are each,
+            (entry_kind t7.first Observations _ _ _ t7.first_is refl refl)
+            (observations_entry t7.first e6 refl refl t7.first_is)
+            ∙ header_done end e7 (said_header start.0 m) t7.others its (λ place. all_come place start.0) t7.others_are
+            each,
         t7.others_are,
       )

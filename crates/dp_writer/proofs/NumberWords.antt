@@ -97,7 +97,8 @@ reward_range d scale n some within fraction few =
     let tens = 10 ^ d.digits in
     let more : n * tens ≤ 10 ^ 8 * scale * tens = mul-le-mul_right tens within in
     let most : unsigned_abs d.units * scale ≤ 10 ^ (8 + d.digits) * scale
-    = omega (arith, fraction, more, ap (λ p. p * scale) (pow-add 10 8 d.digits), mul_right_comm (10 ^ 8) scale tens) in
+    = omega (arith, fraction, more, ap (λ p. p * scale) (pow-add 10 8 d.digits), mul_right_comm (10 ^ 8) scale tens)
+    in
     rw (le-leb (unsigned_abs d.units) (10 ^ (8 + d.digits)) (le_of_mul-le-mul_right most some), le-leb d.digits 9 few)
     refl
 

@@ -58,7 +58,8 @@ number_read fits piece text d e is =
     ∙ ap (λ b. cond b (done d) (fault Number piece.at)) is.in_range
 
 -- the words of the numbers are read as these
-pub numbers_read : {A : Type 0} (fits : Decimal → Bool) (next n : ℕ) (word : A → List ℕ) (d : A → Decimal) (xs : List A)
+pub numbers_read : {A : Type 0} (fits : Decimal → Bool) (next n : ℕ) (word : A → List ℕ) (d : A → Decimal)
+    (xs : List A)
     (pieces : List Piece) → n ≡ length xs → Each (λ x. IsNumberOf fits (word x) (d x)) xs
     → map symbol_of pieces ≡ map run_symbol (map word xs)
     → numbers fits next n pieces ≡ done (map d xs)

@@ -9,7 +9,8 @@ use Rattle.dp_lexer.specs.declared.Kind.TheVariants.{Word, Number, LineEnd}
 use Rattle.dp_meaning.proofs.Each.{Each, each_append}
 use Rattle.dp_writer.specs.WrittenLines.{Words, line_text, lines_text, words_text}
 use Rattle.dp_writer.proofs.WordTexts.{words_behind}
-use Rattle.dp_writer.proofs.Symbols.{Symbol, run_symbol, colon_symbol, star_symbol, line_end_symbol, ReadsAs, Ends, IsRun}
+use Rattle.dp_writer.proofs.Symbols.{Symbol, run_symbol, colon_symbol, star_symbol, line_end_symbol, ReadsAs, Ends}
+use Rattle.dp_writer.proofs.Symbols.{IsRun}
 use Rattle.dp_writer.proofs.Symbols.{same_read, nothing_read}
 use Rattle.dp_writer.proofs.Symbols.{space_read, line_end_read, colon_read, star_read, run_read}
 

@@ -28,7 +28,8 @@ use Rattle.dp_writer.proofs.Symbols.{IsRun, Symbol, colon_symbol, run_symbol, st
 use Rattle.dp_writer.proofs.SymbolItems.{HasItems, items_read}
 use Rattle.dp_writer.proofs.WordShapes.{index_written}
 use Rattle.dp_writer.proofs.WrittenFacts.{IsWritableModel, reward_number_of, row_runs, row_written}
-use Rattle.dp_writer.proofs.WrittenItems.{AreItemLines, any_symbols, by_state, chance_items, field_symbols, header_items}
+use Rattle.dp_writer.proofs.WrittenItems.{AreItemLines, any_symbols, by_state, chance_items, field_symbols}
+use Rattle.dp_writer.proofs.WrittenItems.{header_items}
 use Rattle.dp_writer.proofs.WrittenItems.{header_read, items_joined, none_begin, reward_items, run_lines}
 use Rattle.dp_writer.proofs.WrittenItems.{statement_item, statement_items}
 
@@ -52,7 +53,8 @@ fields_spelled : (parts : List ℕ) (s : ℕ) → Each (λ p. p < 10 ^ 64) parts
     → AreSpelled (map decimal parts ++ codes ":" ∷ decimal s ∷ codes ":" ∷ []) (field_symbols parts s)
 fields_spelled parts s small below =
     words_spelled (map decimal parts) (codes ":" ∷ decimal s ∷ codes ":" ∷ []) (map run_symbol (map decimal parts))
-    (colon_symbol ∷ run_symbol (decimal s) ∷ colon_symbol ∷ []) (runs_spelled (map decimal parts) (indices_run parts small))
+    (colon_symbol ∷ run_symbol (decimal s) ∷ colon_symbol ∷ [])
+    (runs_spelled (map decimal parts) (indices_run parts small))
     (word_spelled (codes ":") (decimal s ∷ codes ":" ∷ []) (colon_symbol ∷ [])
     (run_symbol (decimal s) ∷ colon_symbol ∷ []) colon_spelled
     (word_spelled (decimal s) (codes ":" ∷ []) (run_symbol (decimal s) ∷ []) (colon_symbol ∷ [])
@@ -73,7 +75,8 @@ module _ (m : Model) (is : IsModel m) (a s : ℕ) (action : a < joint_actions m)
   -- the joint action's parts and the state are small
   small_parts : Each (λ p. p < 10 ^ 64) (parts_of m.actions a)
   small_parts = each_from (λ p. p ≤ a) (λ p. p < 10 ^ 64)
-      (λ p h. omega (arith, h, action, is.sizes.joint_actions_limit)) (parts_of m.actions a) (parts_within m.actions a)
+      (λ p h. omega (arith, h, action, is.sizes.joint_actions_limit)) (parts_of m.actions a)
+      (parts_within m.actions a)
 
   -- the first line of a statement
   statement_line : (word : List ℕ) (rest : Words) (more : List Symbol) → IsRun word → AreSpelled rest more
@@ -102,14 +105,16 @@ module _ (m : NamedModel) (can : IsWritableModel m) (a s : ℕ) (action : a < jo
   chance_read_of : (table : ChanceTable) (word : List ℕ) → IsRun word
       → AreItemLines (statement_words m.model (word ++ 58 ∷ []) a s
       ∷ row_words (scale_of_table m.model table) (chance_row m.model table a s) ∷ [])
-      (statement_item m.model word a s [] (row_words (scale_of_table m.model table) (chance_row m.model table a s) ∷ [])
+      (statement_item m.model word a s []
+      (row_words (scale_of_table m.model table) (chance_row m.model table a s) ∷ [])
       ∷ [])
   chance_read_of table word run =
       let words = row_words (scale_of_table m.model table) (chance_row m.model table a s) in
       let runs = row_runs (scale_of_table m.model table) (chance_row m.model table a s)
       (row_written m can table a s action state) in
       record {
-        lines_are = (fields_line m.model can.named.model a s action state word run, (runs_line words runs.0 runs.1, tt));
+        lines_are =
+            (fields_line m.model can.named.model a s action state word run, (runs_line words runs.0 runs.1, tt));
         items_are = (record { first = refl; more = none_begin (words ∷ []) }, tt);
       }
 
@@ -172,7 +177,8 @@ module _ (m : NamedModel) (can : IsWritableModel m) (a s : ℕ) (action : a < jo
       by true false = record {
         lines_are = (
           statement_line m.model can.named.model a s action state (codes "R") _ _ letter_run
-              (any_spelled (reward_word m.model.scales.reward (reward_at m.model a s 0 0)) ((reward_number_of m can a s 0 0).run)),
+              (any_spelled (reward_word m.model.scales.reward (reward_at m.model a s 0 0))
+              ((reward_number_of m can a s 0 0).run)),
           tt,
         );
         items_are = (record { first = refl; more = tt }, tt);
@@ -193,7 +199,8 @@ pub over_states : {X Y : Type 0} (R : List X → List Y → Type 0) (join : IsJo
     (g : ℕ → ℕ → List Y) → ((a s : ℕ) → a < joint_actions m → s < m.states → R (f a s) (g a s))
     → R (by_state m f) (by_state m g)
 over_states R join m f g each =
-    over_range R join (λ a. flat_map (f a) (range_with_len 0 m.states)) (λ a. flat_map (g a) (range_with_len 0 m.states)) 0
+    over_range R join (λ a. flat_map (f a) (range_with_len 0 m.states))
+    (λ a. flat_map (g a) (range_with_len 0 m.states)) 0
     (joint_actions m)
     (λ a action. over_range R join (f a) (g a) 0 m.states
     (λ s state. each a s (omega (arith, action)) (omega (arith, state))))

@@ -29,7 +29,8 @@ use Rattle.dp_meaning.proofs.FaultSteps.{done}
 use Rattle.dp_writer.specs.WrittenLines.{Words}
 use Rattle.dp_writer.specs.WrittenText.{Said}
 use Rattle.dp_writer.specs.WrittenText.{said_fields, said_of}
-use Rattle.dp_writer.proofs.FieldSymbols.{FieldsRead, SymbolFields, field_ends, field_read, fields_symbols, indices_read}
+use Rattle.dp_writer.proofs.FieldSymbols.{FieldsRead, SymbolFields, field_ends, field_read, fields_symbols}
+use Rattle.dp_writer.proofs.FieldSymbols.{indices_read}
 use Rattle.dp_writer.proofs.FieldSymbols.{of_fields, run_in_field, runs_in_field}
 use Rattle.dp_writer.proofs.FieldSymbols.{symbol_fields}
 use Rattle.dp_writer.proofs.HeaderRead.{IsStatementItem, kind_is}
@@ -134,7 +135,8 @@ module _ (header : Header) (m : Model) (sizes : HasSizes m header) (a s : ℕ) (
         }) is.fields_are in
         let all : all_parts (axes_of header table) line.fields ≡ done fields
         = ap (λ l. all_parts l line.fields) is.axes_are
-        ∙ (said_read axes is.fields parts is.read).read line.fields (ap (λ (f : SymbolFields). f.fields) of_symbols) in
+        ∙ (said_read axes is.fields parts is.read).read line.fields (ap (λ (f : SymbolFields). f.fields) of_symbols)
+        in
         let enough : nat_lt (length fields) (least_fields table) ≡ false
         = le-ltb (length fields) (least_fields table) (omega (arith, is.least)) in
         let symbols : map symbol_of pieces ≡ is.left ++ flat_map (λ l. l) (map (map run_symbol) lines)
@@ -153,7 +155,8 @@ module _ (header : Header) (m : Model) (sizes : HasSizes m header) (a s : ℕ) (
               ∙ step_done (all_parts (axes_of header table) line.fields) _ fields all
               ∙ step_done (unless_too_few (least_fields table) fields item.first.ends) _ tt
               (ap (λ b. cond b (fault why.Expected item.first.ends) (done tt)) enough)
-              ∙ step_done (value_of table (drop (length fields) (axes_of header table)) item.next pieces) _ value given,
+              ∙ step_done (value_of table (drop (length fields) (axes_of header table)) item.next pieces) _ value
+              given,
           refl,
         );
   }

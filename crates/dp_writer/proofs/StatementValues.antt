@@ -38,7 +38,8 @@ chances_read table axis next scale [] pieces some each size e = absurd (omega (a
 chances_read table axis next scale (n ∷ cells) [] some each size e = absurd cc
 chances_read table axis next scale (n ∷ cells) (piece ∷ pieces) some each size e =
     let same : symbol_of piece ≡ run_symbol (chance_word scale n) = cc in
-    let shape : is_decimal piece.text ≡ true = ap is_decimal (text_is piece (chance_word scale n) same) ∙ each.0.shape in
+    let shape : is_decimal piece.text ≡ true = ap is_decimal (text_is piece (chance_word scale n) same)
+    ∙ each.0.shape in
     by table (number_says (codes "uniform") piece.text uniform_no_number shape)
   where
     count : product (map axis_size (axis ∷ [])) ≡ length (n ∷ cells)
@@ -103,5 +104,6 @@ rewards_value_read rest next scale (r ∷ rs) [] some count each e = absurd cc
 rewards_value_read rest next scale (r ∷ rs) (piece ∷ pieces) some count each e =
     step_done (numbers is_reward next (product (map axis_size rest)) (piece ∷ pieces)) (λ ns. done (Numbers ns))
     (reward_decimals scale (r ∷ rs))
-    (numbers_read is_reward next (product (map axis_size rest)) (reward_word scale) (λ x. decimal_over 9 x scale) (r ∷ rs)
+    (numbers_read is_reward next (product (map axis_size rest)) (reward_word scale) (λ x. decimal_over 9 x scale)
+    (r ∷ rs)
     (piece ∷ pieces) count each e)

@@ -31,7 +31,8 @@ use Rattle.dp_writer.specs.declared.rows.ChanceTable.TheVariants.{Next, Seen}
 use Rattle.dp_writer.specs.ModelRows.{cell_at, chance_row, reward_row, reward_rows, scale_of_table}
 use Rattle.dp_writer.specs.WrittenModel.{is_only_reward, matrix_lines, reward_word, row_words}
 use Rattle.dp_writer.specs.WrittenNumbers.{decimal_over}
-use Rattle.dp_writer.specs.WrittenText.{Said, chance_said, reward_decimals, reward_said, row_value, said_fields, said_of}
+use Rattle.dp_writer.specs.WrittenText.{Said, chance_said, reward_decimals, reward_said, row_value, said_fields}
+use Rattle.dp_writer.specs.WrittenText.{said_of}
 use Rattle.dp_writer.specs.WrittenText.{said_statements, said_table}
 use Rattle.dp_writer.proofs.FieldSymbols.{SymbolFields, field_ends, field_read, no_field, none_read}
 use Rattle.dp_writer.proofs.FieldSymbols.{run_in_field, star_field_read, symbol_fields}
@@ -63,7 +64,8 @@ any_fields reward =
 module _ (m : NamedModel) (can : IsWritableModel m) (header : Header) (sizes : HasSizes m.model header) where
   -- any joint observation
   any_observation : map {A = _} {B = Part} (λ _. Any) header.observations ≡ map (λ _. Any) m.model.observations
-  any_observation = sym (map-map {B = ℕ} (λ _. Any) size_of header.observations) ∙ ap (map (λ _. Any)) sizes.observations
+  any_observation = sym (map-map {B = ℕ} (λ _. Any) size_of header.observations)
+      ∙ ap (map (λ _. Any)) sizes.observations
 
   -- the numbers of states and of joint observations
   states_size : axis_size (header.states ∷ []) ≡ m.model.states
@@ -125,7 +127,8 @@ module _ (m : NamedModel) (can : IsWritableModel m) (header : Header) (sizes : H
         (λ i. states_size i * one i) ∙ sym reward_count
 
     -- what stands behind the fields of all rewards
-    all_rewards : IsRest header Reward ((header.states ∷ []) ∷ header.observations ∷ []) [] (matrix_lines m.model a s) []
+    all_rewards : IsRest header Reward ((header.states ∷ []) ∷ header.observations ∷ []) [] (matrix_lines m.model a s)
+        []
         (Numbers (flat_map (reward_decimals scale) (reward_rows m.model a s)))
     all_rewards = record {
       axes_are = refl;
@@ -142,7 +145,8 @@ module _ (m : NamedModel) (can : IsWritableModel m) (header : Header) (sizes : H
 
     -- what stands behind the fields of one reward
     one_reward : (r : ℤ) → IsNumberOf is_reward (reward_word scale r) (decimal_over 9 r scale)
-        → IsRest header Reward ((header.states ∷ []) ∷ header.observations ∷ []) (any_symbols (reward_word scale r)) []
+        → IsRest header Reward ((header.states ∷ []) ∷ header.observations ∷ []) (any_symbols (reward_word scale r))
+        []
         ((Any ∷ []) ∷ map (λ _. Any) m.model.observations ∷ []) (Numbers (decimal_over 9 r scale ∷ []))
     one_reward r number = record {
       axes_are = refl;
@@ -239,7 +243,8 @@ module _ (m : NamedModel) (can : IsWritableModel m) (header : Header) (sizes : H
         by false none r number = (
           item_says header m.model sizes a s action state can.named.model.sizes.joint_actions_limit
               can.named.model.sizes.states_limit (codes "R") Reward ((header.states ∷ []) ∷ header.observations ∷ []) []
-              (matrix_lines m.model a s) [] (Numbers (flat_map (reward_decimals scale) (reward_rows m.model a s))) refl
+              (matrix_lines m.model a s) [] (Numbers (flat_map (reward_decimals scale) (reward_rows m.model a s)))
+              refl
               all_rewards,
           tt,
         )
@@ -251,12 +256,16 @@ module _ (m : NamedModel) (can : IsWritableModel m) (header : Header) (sizes : H
       let of = m.model in
       let R = Alongside (SaysItem header) in
       let join = alongside_joined (SaysItem header) in
-      join.joined (by_state of (chance_items of Next)) (by_state of (chance_items of Seen) ++ by_state of (reward_items of))
+      join.joined (by_state of (chance_items of Next))
+      (by_state of (chance_items of Seen) ++ by_state of (reward_items of))
       (by_state of (chance_said of Next)) (by_state of (chance_said of Seen) ++ by_state of (reward_said of))
-      (over_states R join of (chance_items of Next) (chance_said of Next) (λ a s action state. chance_says a s action state Next))
-      (join.joined (by_state of (chance_items of Seen)) (by_state of (reward_items of)) (by_state of (chance_said of Seen))
+      (over_states R join of (chance_items of Next) (chance_said of Next)
+      (λ a s action state. chance_says a s action state Next))
+      (join.joined (by_state of (chance_items of Seen)) (by_state of (reward_items of))
+      (by_state of (chance_said of Seen))
       (by_state of (reward_said of))
-      (over_states R join of (chance_items of Seen) (chance_said of Seen) (λ a s action state. chance_says a s action state Seen))
+      (over_states R join of (chance_items of Seen) (chance_said of Seen)
+      (λ a s action state. chance_says a s action state Seen))
       (over_states R join of (reward_items of) (reward_said of) (λ a s action state. reward_says a s action state)))
 
 -- ---- reading them

@@ -80,7 +80,8 @@ filtered : (lines : List Line)
     → map line_symbols (filter has_pieces lines) ≡ filter some_symbols (map line_symbols lines)
 filtered [] = refl
 filtered (line ∷ lines) =
-    by (has_pieces line) (filtered lines) ∙ ap (λ b. cond b (line_symbols line ∷ filter some_symbols (map line_symbols lines))
+    by (has_pieces line) (filtered lines)
+    ∙ ap (λ b. cond b (line_symbols line ∷ filter some_symbols (map line_symbols lines))
     (filter some_symbols (map line_symbols lines))) (ap (nat_lt 0) (length_symbols line.pieces))
   where
     length_symbols : (pieces : List Piece) → length pieces ≡ length (map symbol_of pieces)
@@ -244,11 +245,13 @@ pub more_symbols : (lines : List Line)
     → map symbol_of (flat_map pieces_of lines) ≡ flat_map (λ line. line) (map line_symbols lines)
 more_symbols [] = refl
 more_symbols (line ∷ lines) =
-    map-append symbol_of line.pieces (flat_map pieces_of lines) ∙ ap (λ l. line_symbols line ++ l) (more_symbols lines)
+    map-append symbol_of line.pieces (flat_map pieces_of lines)
+    ∙ ap (λ l. line_symbols line ++ l) (more_symbols lines)
 
 -- the value of an entry
 pub value_symbols : (item : Item)
-    → map symbol_of (value_pieces item) ≡ drop 2 (item_symbols item).first ++ flat_map (λ line. line) (item_symbols item).more
+    → map symbol_of (value_pieces item) ≡ drop 2 (item_symbols item).first
+    ++ flat_map (λ line. line) (item_symbols item).more
 value_symbols item =
     map-append symbol_of (after_colon item) (flat_map pieces_of item.more)
     ∙ (λ i. after_colon_symbols item i ++ more_symbols item.more i)

@@ -61,7 +61,8 @@ pub record ReadsAs (rest : List ℕ) (symbols : List Symbol) : Type 0 where
 -- the same text is read as the same symbols
 pub same_read : {text other : List ℕ} {symbols others : List Symbol} → text ≡ other → symbols ≡ others
     → ReadsAs text symbols → ReadsAs other others
-same_read {other = other} {symbols = symbols} e f read = subst (ReadsAs other) f (subst (λ l. ReadsAs l symbols) e read)
+same_read {other = other} {symbols = symbols} e f read =
+    subst (ReadsAs other) f (subst (λ l. ReadsAs l symbols) e read)
 
 -- nothing is left
 pub nothing_read : ReadsAs [] []
@@ -161,7 +162,8 @@ run_moves : (b : ℕ) (text rest : List ℕ) (bytes : List ℕ) (at : ℕ) → i
     → tokens_at bytes at ≡ with_token bytes at (suc (length text)) (Some (run_symbol (b ∷ text)).kind)
     (tokens_at bytes (at + suc (length text)))
 run_moves b text rest bytes at named size inside byte_is here others =
-    let moved = rw named at (moves bytes at inside (class_of b) (ap class_of (sym byte_is)) (λ e. cc (rw named at e))) in
+    let moved =
+    rw named at (moves bytes at inside (class_of b) (ap class_of (sym byte_is)) (λ e. cc (rw named at e))) in
     let len : suc (prefix_len is_name_byte (drop (at + 1) bytes)) ≡ suc (length text)
     = ap (λ l. suc (prefix_len is_name_byte l)) others ∙ ap (λ n. suc n) size in
     let word : take (suc (length text)) (drop at bytes) ≡ b ∷ text

@@ -117,7 +117,8 @@ module _ (m : NamedModel) (can : IsWritableModel m) where
       chance_number m.model.scales.discount m.model.scales.gain model.scales.discount model.scales.gain
       (whole_tens m.model.scales.gain m.model.scales.discount digits.0 18 digits.1 digits.2)
 
-  pub reward_number_of : (a s t o : ℕ) → IsNumberOf is_reward (reward_word m.model.scales.reward (reward_at m.model a s t o))
+  pub reward_number_of : (a s t o : ℕ) →
+      IsNumberOf is_reward (reward_word m.model.scales.reward (reward_at m.model a s t o))
       (decimal_over 9 (reward_at m.model a s t o) m.model.scales.reward)
   reward_number_of a s t o =
       let digits = model.scales.reward_digits in
@@ -138,7 +139,8 @@ pub row_runs : (scale : ℕ) (cells : List ℕ) → IsWrittenRow scale cells
 unfolding row_words
 row_runs scale cells is = by (are_equal cells) refl
   where
-    runs : (cells : List ℕ) → Each (λ n. IsNumberOf is_chance (chance_word scale n) (decimal_over 18 (pos n) scale)) cells
+    runs : (cells : List ℕ) →
+        Each (λ n. IsNumberOf is_chance (chance_word scale n) (decimal_over 18 (pos n) scale)) cells
         → Each IsRun (map (chance_word scale) cells)
     runs [] each = tt
     runs (n ∷ ns) each = (each.0.run, runs ns each.1)
@@ -158,7 +160,8 @@ written_row : (scale : ℕ) (f : ℕ → ℕ) (n : ℕ) → 0 < n → 0 < scale
     → is_writable_row scale (each_below f n) ≡ true → IsWrittenRow scale (each_below f n)
 written_row scale f n some_cells some within writable = record {
   some = omega (arith, length_each f n, some_cells);
-  numbers = λ differ. each_range (λ c. IsNumberOf is_chance (chance_word scale c) (decimal_over 18 (pos c) scale)) f 0 n
+  numbers =
+      λ differ. each_range (λ c. IsNumberOf is_chance (chance_word scale c) (decimal_over 18 (pos c) scale)) f 0 n
       (number differ);
 }
   where
@@ -185,7 +188,8 @@ row_of m (Of table a s) is of writable =
     (some_scale m (Of table a s) is) (λ k below. within_scale m (Of table a s) k is of below) writable
 
 table_writable : (m : Model) → is_writable m ≡ true
-    → (is_writable_row m.scales.start (start_row m) ≡ true) × ((table : ChanceTable) → is_writable_table m table ≡ true)
+    → (is_writable_row m.scales.start (start_row m) ≡ true)
+    × ((table : ChanceTable) → is_writable_table m table ≡ true)
 unfolding is_writable
 table_writable m writable =
     let tables = is_writable_table m Next && is_writable_table m Seen in
@@ -213,7 +217,8 @@ module _ (m : NamedModel) (can : IsWritableModel m) where
       let all = and_parts (list_all (is_writable_row scale) (table_rows m.model table))
       (nat_le (written_scale scale (row_length m.model table) (table_rows m.model table)) (2 ^ 62))
       ((table_writable m.model can.writable).1 table) in
-      let rows = lists_pass (is_writable_row scale) (action_rows m.model table) 0 (joint_actions m.model) a (omega arith)
+      let rows =
+      lists_pass (is_writable_row scale) (action_rows m.model table) 0 (joint_actions m.model) a (omega arith)
       (omega (arith, action)) all.0 in
       row_of m.model (Of table a s) can.named.model (action, state)
       (range_passes (is_writable_row scale) (chance_row m.model table a) 0 m.model.states s (omega arith)

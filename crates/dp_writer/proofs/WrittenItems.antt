@@ -207,7 +207,8 @@ module _ (m : NamedModel) (can : IsWritableModel m) where
                       (map (map run_symbol) (agent_lines m.names.actions m.model.actions)) _ actions_lines (
                         labelled_line (codes "observations") [] (record { some = omega arith; named = refl }) tt,
                         subst (AreLinesOf (agent_lines m.names.observations m.model.observations))
-                            (sym (append-nil (map (map run_symbol) (agent_lines m.names.observations m.model.observations))))
+                            (sym (append-nil
+                            (map (map run_symbol) (agent_lines m.names.observations m.model.observations))))
                             observations_lines,
                       ),
                 ),

@@ -38,7 +38,8 @@ written_text_says m can =
     let kinds = statement_kinds (said_header 0 m) (statement_items m.model) (said_statements m.model)
     (statements_say m can (said_header 0 m) (said_sizes 0 m can.named)) in
     let header = header_said m can end items.items (statement_items m.model) kinds has.items in
-    let statements = statements_read (said_header header.0 m) header.1 (statement_items m.model) (said_statements m.model)
+    let statements =
+    statements_read (said_header header.0 m) header.1 (statement_items m.model) (said_statements m.model)
     (statements_say m can (said_header header.0 m) (said_sizes header.0 m can.named)) header.3 in
     record {
       text = record { header = said_header header.0 m; statements = statements.0 };
