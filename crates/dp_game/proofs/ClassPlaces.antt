@@ -2,6 +2,7 @@
 use Rattle.std.proofs.Common.{◌≡◌, ◌≢◌, ℕ, zero, suc, ◌+◌, ◌*◌, ◌/◌, ◌%◌, ◌<◌, ◌≤◌, Bool, true, false, cond, eqb, inl}
 use Rattle.std.proofs.Common.{inr, ℤ, pos, ◌+ℤ◌, ◌-ℤ◌, unsigned_abs, List, [], ◌∷◌, length, get_or, drop, take, refl}
 use Rattle.std.proofs.Common.{sym, ap, ◌∙◌, arith}
+use Rattle.std.proofs.Math.Nat.{div-eq_of_lt, mod-eq_of_lt}
 use Rattle.std.proofs.lemmas.Int.{ints}
 use Rattle.std.proofs.lemmas.Bool.{cases_eq}
 use Rattle.std.proofs.lemmas.Bool.Decides.{nat_tests}
@@ -148,6 +149,34 @@ module _ (i : ℕ) (ns : List ℕ) (hi : i < length ns) where
         (λ j. cond (sym here j) (pos 0) (class_sum g c))
     | inr ne ↦ ap (λ x. cond (eqb b c) (pos 0) x) (int_sum_ext others _ _ (λ y q. same c y p q ne))
   ])
+
+-- ---- places that need no division
+
+-- in the first row
+pub place_in_first : (other n class width : ℕ) → other < width
+    → (other / width * n + class) * width + other % width ≡ class * width + other
+place_in_first other n class width lt =
+    (λ j. (div-eq_of_lt lt j * n + class) * width + mod-eq_of_lt lt j)
+    ∙ ap (λ (z : ℕ). z * width + other) none
+  where
+    none : 0 * n + class ≡ class
+    none = omega arith
+
+-- in rows of one
+pub place_in_last : (other n class width : ℕ) → width ≡ 1
+    → (other / width * n + class) * width + other % width ≡ other * n + class
+place_in_last other n class width one =
+    (λ j. (other / one j * n + class) * one j + other % one j) ∙ (λ j. (whole j * n + class) * 1 + rest j)
+    ∙ last
+  where
+    whole : other / 1 ≡ other
+    whole = omega arith
+
+    rest : other % 1 ≡ 0
+    rest = omega arith
+
+    last : (other * n + class) * 1 + 0 ≡ other * n + class
+    last = omega arith
 
 -- ---- a sum after a change
 

@@ -2,23 +2,20 @@
 use Rattle.std.proofs.Common.{◌≡◌, ℕ, suc, ◌-◌, ◌*◌, ◌^◌, ◌<◌, ◌≤◌, Bool, false, ℤ, pos, List, map, length}
 use Rattle.std.proofs.Common.{refl, sym, ap, ◌∙◌, subst, arith}
 use Rattle.std.specs.List.{range_with_len}
-use Rattle.std.proofs.lemmas.List.FromFn.{length-map-range_with_len}
 use Rattle.dp_spec.specs.declared.span.Span.{Span}
-use Rattle.dp_spec.specs.Arithmetic.{Arithmetic, arithmetic, point}
+use Rattle.dp_spec.specs.Arithmetic.{Arithmetic, arithmetic}
 use Rattle.dp_spec.specs.Calls.{Calls, calls_in}
 use Rattle.dp_spec.specs.Front.{class_counts}
-use Rattle.dp_spec.specs.JointNumbers.{joint_number, parts_of, product}
+use Rattle.dp_spec.specs.JointNumbers.{product}
 use Rattle.dp_spec.specs.Mode.{IsTrueFit, is_exact_mode}
-use Rattle.dp_spec.proofs.JointNumberLaws.{below_at, joint_number-parts_of, length-below, parts_below}
 use Rattle.dp_spec.specs.Model.{IsModel, Model, joint_actions, joint_observations}
 use Rattle.dp_spec.specs.Quantities.{action_look_ahead_in, class_weight_in}
 use Rattle.dp_spec.specs.Sizes.{AreWeights}
 use Rattle.dp_spec.specs.Zeros.{nothing}
 use Rattle.dp_laws.proofs.EqualWeights.{action_look_ahead_in_ext, weights_same}
 use Rattle.dp_laws.proofs.SizeLaws.{arithmetic_is_exact, mode_can_refine}
-use Rattle.dp_model.specs.Parts.{AreParts}
 use Rattle.dp_cluster.specs.KeptFronts.{IsFrontOf, KeptFront, kept_weight}
-use Rattle.dp_cluster.proofs.OwnParts.{made_at, same_map}
+use Rattle.dp_cluster.proofs.OwnParts.{same_map}
 use Rattle.dp_pomdp.specs.Looking.{AreZero, IsLooking, weights_of}
 use Rattle.dp_pomdp.proofs.Cuts.{none, none_action}
 use Rattle.dp_pomdp.proofs.Modes.{mode_looking}
@@ -56,21 +53,20 @@ same_mode m k b is bo same = is.mode ∙ ap (is_exact_mode m) same ∙ sym bo.fi
 module _ (m : Model) (k : KeptFront) (b : KeptBounder) (is : IsFrontOf m k) (bo : IsBounderOf m b)
     (same : k.horizon ≡ b.horizon) (lt : k.front.stage < k.horizon)
     (cells : k.is_exact ≡ false → m.states * joint_observations m ^ k.front.stage ≤ 2 ^ 22) (C : ℕ)
-    (hC : C < product (class_counts k.front.agents)) (n : ℕ) (all : n ≡ m.states) (ws : List Span)
-    (are : ws ≡ map (kept_weight k C) (range_with_len 0 n)) where
+    (hC : C < product (class_counts k.front.agents)) (ws : List Span) (many : length ws ≡ k.states)
+    (are : (s : ℕ) → s < k.states → weights_of ws s ≡ kept_weight k C s) where
   abbrev A : Arithmetic
   A = arithmetic b.is_exact m.scales
 
   pub one_each : length ws ≡ m.states
-  one_each = ap (λ l. length l) are ∙ length-map-range_with_len (kept_weight k C) 0 n ∙ all
+  one_each = many ∙ is.states
 
   one_mode : k.is_exact ≡ b.is_exact
   one_mode = same_mode m k b is bo same
 
   weights_are : (s : ℕ) → s < m.states → weights_of ws s ≡ class_weight_in A m k.front C s
   weights_are s p =
-      ap (λ l. weights_of l s) are ∙ made_at n s (point (pos 0)) (kept_weight k C) (rw all p)
-      ∙ is.weights lt C s hC p
+      are s (rw is.states p) ∙ is.weights lt C s hC p
       ∙ ap (λ (e : Bool). class_weight_in (arithmetic e m.scales) m k.front C s) one_mode
 
   pub row_weights : AreWeights b.is_exact m k.front.stage (weights_of ws)
@@ -90,18 +86,3 @@ module _ (m : Model) (k : KeptFront) (b : KeptBounder) (is : IsFrontOf m k) (bo 
       same_map (joint_actions m) (pos 0) _ _ (λ a p.
       action_look_ahead_in_ext A m (b.horizon - k.front.stage - 1) b.look (weights_of ws) (class_weight_in A m k.front C) a
       weights_are)
-
--- ---- the classes of a joint class
-
-pub are_parts : (ns : List ℕ) (C : ℕ) (ps : List ℕ) → C < product ns → ps ≡ parts_of ns C → AreParts ns ps
-are_parts ns C ps lt is =
-    let below = parts_below ns C lt in
-    subst (AreParts ns) (sym is) (record {
-      alike = length-below ns (parts_of ns C) below;
-      below = λ i p. below_at i
-          ns (parts_of ns C) p below;
-    })
-
-pub number_is : (ns : List ℕ) (C : ℕ) (ps : List ℕ) → C < product ns → ps ≡ parts_of ns C
-    → joint_number ns ps ≡ C
-number_is ns C ps lt is = ap (joint_number ns) is ∙ joint_number-parts_of ns C lt

@@ -85,10 +85,6 @@ no_more [] (suc j) le = refl
 no_more (x ∷ xs) zero le = absurd (omega arith)
 no_more (x ∷ xs) (suc j) le = no_more xs j (omega arith)
 
-pub no_parts : (oss : List (List (Option ℕ))) (j rest : ℕ) → length oss ≤ j → parts_of (own_counts (drop j oss))
-    rest ≡ []
-no_parts oss j rest le = ap (λ l. parts_of (own_counts l) rest) (no_more oss j le)
-
 pub no_choices : (oss : List (List (Option ℕ))) (j : ℕ) (cs : List ℕ) → length oss ≤ j
     → choices_for (drop j oss) cs
     ≡ []

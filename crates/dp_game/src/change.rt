@@ -1,5 +1,5 @@
 // The greatest entries of the joint classes, and what becomes of them where a choice changes.
-ghost use Rattle.std.specs.Prelude.{◌≡◌, ◌<◌, ◌≤◌, ◌+◌, ◌*◌, ◌^◌, ℕ, ℤ, pos, ◌+ℤ◌, ◌-ℤ◌, [], map, set, length};
+ghost use Rattle.std.specs.Prelude.{◌≡◌, ◌<◌, ◌≤◌, ◌+◌, ◌*◌, ◌/◌, ◌%◌, ◌^◌, ℕ, ℤ, pos, ◌+ℤ◌, ◌-ℤ◌, [], map, set, length};
 ghost use Rattle.std.specs.Prelude.{get_or, drop, take, unsigned_abs, IfOk};
 ghost use Rattle.std.specs.List.{range_with_len};
 ghost use Rattle.dp_base.specs.Sums.{int_sum};
@@ -129,21 +129,28 @@ pub(crate) fn change_class(
     let width = width_from(choices, agent + 1);
     let mut change = Change { gone: 0, come: 0 };
     for other in 0..greatest.len() / count {
-        let joint = place_of(other / width, count, class, width, other % width);
+        let joint = place_of(other, count, class, width);
         let at = change_place(actions, table, joint, agent, choice, wanted, greatest);
         change = added(change, at);
     }
     change
 }
 
-// The joint class with class `class` of an agent, in a row of `count` classes, each `width` wide.
+// The joint class in place `other` of those that hold a class: they stand in rows of `width`, one in each block
+// of `count` rows. The first agent and the last one need no division.
 #[inline]
-fn place_of(row: usize, count: usize, class: usize, width: usize, place: usize) -> usize
+fn place_of(other: usize, count: usize, class: usize, width: usize) -> usize
     requires some { 0 < width }
-    requires room { (row * count + class) * width + place < 2 ^ 24 }
-    ensures { result ≡ (row * count + class) * width + place }
+    requires room { (other / width * count + class) * width + other % width < 2 ^ 24 }
+    ensures { result ≡ (other / width * count + class) * width + other % width }
 {
-    (row * count + class) * width + place
+    if other < width {
+        class * width + other
+    } else if width == 1 {
+        other * count + class
+    } else {
+        (other / width * count + class) * width + other % width
+    }
 }
 
 // The same in what is kept for one joint class.

@@ -103,7 +103,7 @@ impl Game {
         let actions = JointActions::of(alloc, model)?;
         let choices = choices_of(alloc, front, model.agents())?;
         let count = joint_count(&choices);
-        let table = look_ahead_table(alloc, model, front, bounder, &choices, count, room)?;
+        let table = look_ahead_table(alloc, model, front, bounder, count, room)?;
         let wanted = wanted_choices(alloc, &choices, count)?;
         let greatest = greatest_entries(alloc, &actions, &table, &wanted, count)?;
         let earned = front.earned().high;

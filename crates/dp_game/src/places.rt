@@ -1,6 +1,6 @@
-// Joint classes: their number, and the class of each agent in one.
+// Joint classes: their number, and the choices for the classes in one.
 ghost use Rattle.std.specs.Prelude.{◌≡◌, ◌<◌, ◌≤◌, ◌^◌, ◌++◌, length, drop, IfOk};
-ghost use Rattle.dp_spec.specs.JointNumbers.{parts_of, product};
+ghost use Rattle.dp_spec.specs.JointNumbers.{product};
 ghost use Rattle.dp_game.specs.Games.{choices_in, own_counts};
 ghost use Rattle.dp_game.specs.Kept.{rows_of};
 
@@ -29,29 +29,6 @@ pub(crate) fn width_from(choices: &[AgentChoices], first: usize) -> usize
         width *= choices[agent].count();
     }
     width
-}
-
-// The class of each agent in a joint class, of `count` joint classes.
-pub(crate) fn class_parts(
-    choices: &[AgentChoices],
-    count: usize,
-    joint: usize,
-    classes: &mut Vec<u32>,
-) -> Result<(), Memory>
-    requires count { count ≡ product (own_counts choices.now) }
-    requires few { count ≤ 2 ^ 24 }
-    requires joint { joint < count }
-    ensures { IfOk result (λ _. classes.new.items ≡ parts_of (own_counts choices.now) joint) }
-{
-    let mut left = count;
-    let mut rest = joint;
-    classes.clear();
-    for own in choices {
-        left = left / own.count();
-        classes.push((rest / left) as u32)?;
-        rest = rest % left;
-    }
-    Ok(())
 }
 
 // Joint class by joint class, the choice of each agent's class.

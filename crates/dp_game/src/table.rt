@@ -1,22 +1,19 @@
 // What each joint class of a front can earn by each joint action.
-ghost use Rattle.std.specs.Prelude.{◌≡◌, ◌<◌, ◌≤◌, ◌-◌, ◌^◌, ◌++◌, map, length, IfOk};
+ghost use Rattle.std.specs.Prelude.{◌≡◌, ◌<◌, ◌≤◌, ◌-◌, ◌++◌, map, length, IfOk};
 ghost use Rattle.std.specs.List.{range_with_len};
 ghost use Rattle.dp_spec.specs.Arithmetic.{arithmetic};
-ghost use Rattle.dp_spec.specs.Front.{AgentFront, class_counts};
-ghost use Rattle.dp_spec.specs.JointNumbers.{joint_number, product};
+ghost use Rattle.dp_spec.specs.Front.{class_counts};
+ghost use Rattle.dp_spec.specs.JointNumbers.{product};
 ghost use Rattle.dp_spec.specs.Model.{joint_actions};
 ghost use Rattle.dp_spec.specs.Quantities.{action_look_ahead_in};
 ghost use Rattle.dp_spec.specs.Sizes.{AreWeights};
-ghost use Rattle.dp_model.specs.Parts.{AreParts};
-ghost use Rattle.dp_cluster.specs.KeptFronts.{IsFrontOf, kept_weight};
+ghost use Rattle.dp_cluster.specs.KeptFronts.{IsFrontOf};
 ghost use Rattle.dp_pomdp.specs.Looking.{weights_of};
 ghost use Rattle.dp_pomdp.specs.Rooms.{IsRoomFor};
 ghost use Rattle.dp_game.specs.Bounders.{IsBounderOf};
 ghost use Rattle.dp_game.specs.Kept.{IsWithinCells, class_row, rows_of};
 
 use crate::Bounder;
-use crate::choices::AgentChoices;
-use crate::places::class_parts;
 use dp_base::Memory;
 use dp_cluster::Front;
 use dp_model::Model;
@@ -24,21 +21,12 @@ use dp_pomdp::LookRoom;
 use dp_spec::Span;
 use std::alloc::Global;
 
-// What the rows share: the classes and the weights of a joint class.
-#[derive(Drop)]
-struct Scratch {
-    classes: Vec<u32>,
-    weights: Vec<Span>,
-}
-
-// Joint class by joint class, the look-ahead of each joint action, for the choices of the front and its
-// `count` joint classes.
+// Joint class by joint class, the look-ahead of each joint action, for the `count` joint classes of the front.
 pub(crate) fn look_ahead_table(
     alloc: Global,
     model: &Model,
     front: &Front,
     bounder: &Bounder,
-    choices: &[AgentChoices],
     count: usize,
     room: &mut LookRoom,
 ) -> Result<Vec<i128>, Memory>
@@ -47,30 +35,14 @@ pub(crate) fn look_ahead_table(
     requires horizon { front.now.horizon ≡ bounder.now.horizon }
     requires stage { front.now.front.stage < front.now.horizon }
     requires cells { IsWithinCells model.now.model front.now }
-    requires choices { choices.now ≡ map (λ (d : AgentFront). d.chosen) front.now.front.agents }
     requires count { count ≡ product (class_counts front.now.front.agents) }
-    requires few { count ≤ 2 ^ 24 }
     requires room { IsRoomFor bounder.now.is_exact model.now.model bounder.now.look room.old }
     ensures rows { IfOk result (λ v. v.items ≡ rows_of (class_row model.now.model front.now bounder.now) count) }
     ensures room { IsRoomFor bounder.now.is_exact model.now.model bounder.now.look room.new }
 {
-    let mut scratch = Scratch {
-        classes: Vec::new(alloc),
-        weights: Vec::new(alloc),
-    };
     let mut table = Vec::new(alloc);
     for joint in 0..count {
-        push_class(
-            model,
-            front,
-            bounder,
-            choices,
-            count,
-            joint,
-            &mut scratch,
-            room,
-            &mut table,
-        )?;
+        push_class(model, front, bounder, joint, room, &mut table)?;
     }
     Ok(table)
 }
@@ -80,10 +52,7 @@ fn push_class(
     model: &Model,
     front: &Front,
     bounder: &Bounder,
-    choices: &[AgentChoices],
-    count: usize,
     joint: usize,
-    scratch: &mut Scratch,
     room: &mut LookRoom,
     table: &mut Vec<i128>,
 ) -> Result<(), Memory>
@@ -92,44 +61,14 @@ fn push_class(
     requires horizon { front.now.horizon ≡ bounder.now.horizon }
     requires stage { front.now.front.stage < front.now.horizon }
     requires cells { IsWithinCells model.now.model front.now }
-    requires choices { choices.now ≡ map (λ (d : AgentFront). d.chosen) front.now.front.agents }
-    requires count { count ≡ product (class_counts front.now.front.agents) }
-    requires few { count ≤ 2 ^ 24 }
-    requires joint { joint < count }
+    requires joint { joint < product (class_counts front.now.front.agents) }
     requires room { IsRoomFor bounder.now.is_exact model.now.model bounder.now.look room.old }
     ensures row { IfOk result (λ _. table.new.items ≡ table.old.items ++ class_row model.now.model front.now
         bounder.now joint) }
     ensures room { IsRoomFor bounder.now.is_exact model.now.model bounder.now.look room.new }
 {
-    class_parts(choices, count, joint, &mut scratch.classes)?;
-    fill_weights(
-        front,
-        model.states(),
-        &scratch.classes,
-        &mut scratch.weights,
-    )?;
-    push_row(model, front.stage(), bounder, &scratch.weights, room, table)?;
-    Ok(())
-}
-
-// The weights of a joint class, one for each of so many states.
-fn fill_weights(
-    front: &Front,
-    states: u32,
-    classes: &[u32],
-    weights: &mut Vec<Span>,
-) -> Result<(), Memory>
-    requires stage { front.now.front.stage < front.now.horizon }
-    requires classes { AreParts (class_counts front.now.front.agents) classes.now }
-    requires states { states ≡ front.now.states }
-    ensures { IfOk result (λ _. weights.new.items
-        ≡ map (kept_weight front.now (joint_number (class_counts front.now.front.agents) classes.now))
-        (range_with_len 0 states)) }
-{
-    weights.clear();
-    for state in 0..states {
-        weights.push(front.weight(classes, state))?;
-    }
+    let weights = front.class_weights(joint);
+    push_row(model, front.stage(), bounder, weights, room, table)?;
     Ok(())
 }
 

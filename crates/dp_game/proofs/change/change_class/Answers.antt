@@ -253,19 +253,3 @@ returns-clause-come c =
     (with_own_choice (game_with c.args.actions.now c.args.choices.now c.args.table.now (pos 0)) c.args.agent
     c.args.class c.args.choice) (placed_number c.args.agent (own_counts c.args.choices.now) c.args.class x)))
     all
-
-pub nonzero_div-other : goal.nonzero_div-other
-nonzero_div-other c =
-    some_width (game_with c.args.actions.now c.args.choices.now c.args.table.now (pos 0))
-    c.args.agent c.args.class
-    c.args.choice c.requires.agent c.requires.class c.requires.of_front c.requires.after c.count-count.result
-    c.width_from-width.result (c.count-count.ensures ∙ count_at c.args.choices.now c.args.agent
-    c.index-choices-agent.result c.requires.agent c.index-choices-agent.is) c.width_from-width.ensures
-
-pub nonzero_rem-other : goal.nonzero_rem-other
-nonzero_rem-other c =
-    some_width (game_with c.args.actions.now c.args.choices.now c.args.table.now (pos 0))
-    c.args.agent c.args.class
-    c.args.choice c.requires.agent c.requires.class c.requires.of_front c.requires.after c.count-count.result
-    c.width_from-width.result (c.count-count.ensures ∙ count_at c.args.choices.now c.args.agent
-    c.index-choices-agent.result c.requires.agent c.index-choices-agent.is) c.width_from-width.ensures

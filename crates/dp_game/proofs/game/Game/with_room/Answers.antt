@@ -49,13 +49,6 @@ look_ahead_table-requires-clause-count c =
 few_of : (n m : ℕ) → n ≡ m → m ≤ 2 ^ 24 → n ≤ 2 ^ 24
 few_of n m e le = omega arith
 
-pub look_ahead_table-requires-clause-few : goal.look_ahead_table-requires-clause-few
-look_ahead_table-requires-clause-few c =
-    few_of _ _ (c.joint_count-count.ensures ∙ ap (λ oss. product (own_counts oss))
-    (c.deref.ensures.value ∙ c.in_ok-choices.ensures) ∙ ap product (counts_of c.args.front.now.front.agents))
-    (few_front c.args.model.now.model c.args.front.now c.args.bounder.now c.requires.of_model c.requires.bounder
-    c.requires.horizon c.requires.stage c.requires.room)
-
 pub wanted_choices-requires-clause-few : goal.wanted_choices-requires-clause-few
 wanted_choices-requires-clause-few c =
     few_of _ _ (c.joint_count-count.ensures ∙ ap (λ oss. product (own_counts oss))
@@ -72,23 +65,23 @@ greatest_entries-requires-clause-few c =
 
 pub greatest_entries-requires-clause-table : goal.greatest_entries-requires-clause-table
 greatest_entries-requires-clause-table c =
-    ap (λ (l : List ℤ). length l) c.deref-4.ensures.value
+    ap (λ (l : List ℤ). length l) c.deref-3.ensures.value
     ∙ table_rows _ c.args.model.now.model _ _ c.joint_count-count.result _ c.in_ok-actions.actions
     c.in_ok-table.table.items c.in_ok-actions.ensures c.in_ok-table.ensures.rows
 
 pub greatest_entries-requires-clause-wanted : goal.greatest_entries-requires-clause-wanted
 greatest_entries-requires-clause-wanted c =
-    ap (λ (l : List (Option ℕ)). length l) c.deref-5.ensures.value
+    ap (λ (l : List (Option ℕ)). length l) c.deref-4.ensures.value
     ∙ wanted_rows c.args.model.now.model c.args.front.now c.requires.of_model c.in_ok-actions.actions
     c.in_ok-choices.choices.items c.in_ok-wanted.wanted.items c.joint_count-count.result
     c.in_ok-actions.ensures c.in_ok-choices.ensures
     (c.in_ok-wanted.ensures ∙ ap (λ oss. rows_of (choices_in oss) c.joint_count-count.result)
-    c.deref-3.ensures.value)
+    c.deref-2.ensures.value)
 
 pub bound_with-bound-requires : goal.bound_with-bound-requires
 bound_with-bound-requires c = λ n le.
     let fits-earned : SFits w128 c.earned-earned.result.high = search rules in
-    let e = c.deref-6.ensures.value in
+    let e = c.deref-5.ensures.value in
     let within : n ≤ length c.in_ok-greatest.greatest.items = subst (λ (l : List ℤ). n ≤ length l) e le in
     subst (λ (x : ℤ). unsigned_abs x < 2 ^ 127) (λ j. sym (to_z-of_z w128 _ fits-earned) j +ℤ int_sum n
     (λ C. get_or (sym e j) C (pos 0)))
@@ -99,15 +92,15 @@ bound_with-bound-requires c = λ n le.
     c.deref.ensures.value) c.in_ok-table.ensures.rows
     (c.earned-earned.ensures.is c.args.model.now.model c.requires.of_model) c.in_ok-wanted.wanted.items
     (c.in_ok-wanted.ensures ∙ ap (λ oss. rows_of (choices_in oss) c.joint_count-count.result)
-    c.deref-3.ensures.value) c.in_ok-greatest.greatest.items (pos 0)
-    (c.in_ok-greatest.ensures ∙ (λ j. map (greatest_in c.in_ok-actions.actions (c.deref-4.ensures.value j)
-    (c.deref-5.ensures.value j)) (range_with_len 0 c.joint_count-count.result))) n within)
+    c.deref-2.ensures.value) c.in_ok-greatest.greatest.items (pos 0)
+    (c.in_ok-greatest.ensures ∙ (λ j. map (greatest_in c.in_ok-actions.actions (c.deref-3.ensures.value j)
+    (c.deref-4.ensures.value j)) (range_with_len 0 c.joint_count-count.result))) n within)
 
 pub invariant_of-result : goal.invariant_of-result
 invariant_of-result c =
     let fits-earned : SFits w128 c.earned-earned.result.high = search rules in
     let fits-bound : SFits w128 c.bound_with-bound.result = search rules in
-    let e = c.deref-6.ensures.value in
+    let e = c.deref-5.ensures.value in
     let bound = to_z-of_z w128 _ fits-bound ∙ c.bound_with-bound.ensures
     ∙ (λ j. to_z-of_z w128 _ fits-earned j +ℤ int_sum (length (e j)) (λ C. get_or (e j) C (pos 0))) in
     subst (λ (x : ℤ). IsKept (game_with c.in_ok-actions.actions c.in_ok-choices.choices.items
@@ -121,9 +114,9 @@ invariant_of-result c =
     c.deref.ensures.value) c.in_ok-table.ensures.rows
     (c.earned-earned.ensures.is c.args.model.now.model c.requires.of_model) c.in_ok-wanted.wanted.items
     (c.in_ok-wanted.ensures ∙ ap (λ oss. rows_of (choices_in oss) c.joint_count-count.result)
-    c.deref-3.ensures.value) c.in_ok-greatest.greatest.items _
-    (c.in_ok-greatest.ensures ∙ (λ j. map (greatest_in c.in_ok-actions.actions (c.deref-4.ensures.value j)
-    (c.deref-5.ensures.value j)) (range_with_len 0 c.joint_count-count.result))) bound)
+    c.deref-2.ensures.value) c.in_ok-greatest.greatest.items _
+    (c.in_ok-greatest.ensures ∙ (λ j. map (greatest_in c.in_ok-actions.actions (c.deref-3.ensures.value j)
+    (c.deref-4.ensures.value j)) (range_with_len 0 c.joint_count-count.result))) bound)
 
 pub returns-clause-is : goal.returns-clause-is
 returns-clause-is c =
