@@ -84,5 +84,5 @@ module _ (m : Model) (k : KeptFront) (b : KeptBounder) (is : IsFrontOf m k) (bo 
       ≡ look_ahead_row A m (b.horizon - k.front.stage - 1) k.front b.look C
   row_is =
       same_map (joint_actions m) (pos 0) _ _ (λ a p.
-      action_look_ahead_in_ext A m (b.horizon - k.front.stage - 1) b.look (weights_of ws) (class_weight_in A m k.front C) a
-      weights_are)
+      action_look_ahead_in_ext A m (b.horizon - k.front.stage - 1) b.look (weights_of ws)
+      (class_weight_in A m k.front C) a weights_are)

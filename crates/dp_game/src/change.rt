@@ -1,6 +1,6 @@
 // The greatest entries of the joint classes, and what becomes of them where a choice changes.
-ghost use Rattle.std.specs.Prelude.{◌≡◌, ◌<◌, ◌≤◌, ◌+◌, ◌*◌, ◌/◌, ◌%◌, ◌^◌, ℕ, ℤ, pos, ◌+ℤ◌, ◌-ℤ◌, [], map, set, length};
-ghost use Rattle.std.specs.Prelude.{get_or, drop, take, unsigned_abs, IfOk};
+ghost use Rattle.std.specs.Prelude.{◌≡◌, ◌<◌, ◌≤◌, ◌+◌, ◌*◌, ◌/◌, ◌%◌, ◌^◌, ℕ, ℤ, pos, ◌+ℤ◌, ◌-ℤ◌, [], map};
+ghost use Rattle.std.specs.Prelude.{set, length, get_or, drop, take, unsigned_abs, IfOk};
 ghost use Rattle.std.specs.List.{range_with_len};
 ghost use Rattle.dp_base.specs.Sums.{int_sum};
 ghost use Rattle.dp_spec.specs.JointNumbers.{product};
