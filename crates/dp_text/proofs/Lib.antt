@@ -3,7 +3,6 @@ pub mod Continuing
 pub mod Saturating
 pub mod FirstFields
 pub mod FieldLemmas
-pub mod EntryLemmas
 pub mod HeaderLemmas
 pub mod NameListLemmas
 pub mod NumberLemmas

@@ -2,7 +2,6 @@
 ghost use Rattle.std.specs.Prelude.{◌≡◌, List, drop};
 ghost use Rattle.dp_meaning.specs.Header as spec;
 ghost use Rattle.dp_meaning.specs.Items as spec_items;
-ghost use Rattle.dp_text.specs.HeaderSteps as steps;
 ghost use Rattle.dp_text.specs.HeaderSteps.{ReadsHeader, header_and};
 ghost use Rattle.dp_text.specs.Reading.{Reads};
 
@@ -11,8 +10,7 @@ use crate::fault::{TextFault, fault};
 use crate::name_lists::{name_list, name_lists};
 use crate::words::says;
 use dp_items::{Document, Item, Piece};
-use dp_meaning::{Entries, Entry, Fault, GivenList, Header, ItemKind, Start, Table, Why};
-use dp_model::Sequence;
+use dp_meaning::{Entries, Entry, Fault, Header, ItemKind, Table, Why};
 use std::alloc::Global;
 
 /// The header, and how many items of the text it takes: those before the first statement.
@@ -129,7 +127,7 @@ pub(crate) fn header_with(at: u32, entries: Entries) -> Result<Header, Fault>
 
 /// The entries, with one more of them. A list of actions or observations comes behind the agents,
 /// and the start behind the states.
-#[tactic(auto, using(crate::proofs::EntryLemmas::once, crate::proofs::EntryLemmas::twice))]
+#[tactic(auto, unfolding(dp_meaning::specs::Header::with_entry))]
 pub(crate) fn with_entry(
     alloc: Global,
     entry: Entry,
@@ -138,68 +136,137 @@ pub(crate) fn with_entry(
 ) -> Result<Entries, TextFault>
     ensures { Reads (spec.with_entry entry item.now entries) result }
 {
-    if has_come(entry, &entries) {
+    match entry {
+        Entry::Agents => with_agents(alloc, item, entries),
+        Entry::Discount => with_discount(item, entries),
+        Entry::Values => with_values(item, entries),
+        Entry::States => with_states(alloc, item, entries),
+        Entry::StartEntry => with_start(alloc, item, entries),
+        Entry::Actions => with_actions(alloc, item, entries),
+        Entry::Observations => with_observations(alloc, item, entries),
+    }
+}
+
+#[tactic(auto, unfolding(dp_meaning::specs::Header::with_entry))]
+fn with_agents(alloc: Global, item: &Item, entries: Entries) -> Result<Entries, TextFault>
+    ensures { Reads (spec.with_entry Entry.Agents item.now entries) result }
+{
+    if entries.agents.is_some() {
         return Err(TextFault::At(fault(Why::Header, item.at())));
     }
-    with_new_entry(alloc, entry, item, entries)
-}
-
-fn has_come(entry: Entry, entries: &Entries) -> bool
-    ensures { result ≡ steps.has_come entry entries.now }
-{
-    match entry {
-        Entry::Agents => entries.agents.is_some(),
-        Entry::Discount => entries.discount.is_some(),
-        Entry::Values => entries.cost.is_some(),
-        Entry::States => entries.states.is_some(),
-        Entry::StartEntry => entries.start.is_some(),
-        Entry::Actions => entries.actions.is_some(),
-        Entry::Observations => entries.observations.is_some(),
+    match name_list(alloc, item.next(), &item.value()) {
+        Ok(agents) => Ok(Entries {
+            agents: Some(agents),
+            ..entries
+        }),
+        Err(fault) => Err(fault),
     }
 }
 
-/// The same of an entry that has not come.
-fn with_new_entry(
-    alloc: Global,
-    entry: Entry,
-    item: &Item,
-    mut entries: Entries,
-) -> Result<Entries, TextFault>
-    ensures { Reads (steps.with_new_entry entry item.now entries) result }
+#[tactic(auto, unfolding(dp_meaning::specs::Header::with_entry))]
+fn with_discount(item: &Item, entries: Entries) -> Result<Entries, TextFault>
+    ensures { Reads (spec.with_entry Entry.Discount item.now entries) result }
 {
-    let value = item.value();
-    match entry {
-        Entry::Agents => entries.agents = Some(name_list(alloc, item.next(), &value)?),
-        Entry::Discount => entries.discount = Some(discount_of(item.next(), &value)?),
-        Entry::Values => entries.cost = Some(is_cost(item.next(), &value)?),
-        Entry::States => entries.states = Some(name_list(alloc, item.next(), &value)?),
-        Entry::StartEntry => entries.start = Some(start_among(alloc, item, &entries.states)?),
-        Entry::Actions => entries.actions = Some(lists_of(alloc, item, &entries.agents)?),
-        Entry::Observations => entries.observations = Some(lists_of(alloc, item, &entries.agents)?),
+    if entries.discount.is_some() {
+        return Err(TextFault::At(fault(Why::Header, item.at())));
     }
-    Ok(entries)
-}
-
-/// The start, which comes behind the states.
-fn start_among(alloc: Global, item: &Item, states: &Option<GivenList>) -> Result<Start, TextFault>
-    ensures { Reads (steps.start_among item.now states.now) result }
-{
-    match states {
-        Some(states) => start_of(alloc, states, item.next(), &item.value()),
-        None => Err(TextFault::At(fault(Why::Header, item.at()))),
+    match discount_of(item.next(), &item.value()) {
+        Ok(discount) => Ok(Entries {
+            discount: Some(discount),
+            ..entries
+        }),
+        Err(fault) => Err(TextFault::At(fault)),
     }
 }
 
-/// A list for each agent, which come behind the agents.
-fn lists_of(
-    alloc: Global,
-    item: &Item,
-    agents: &Option<GivenList>,
-) -> Result<Sequence<GivenList>, TextFault>
-    ensures { Reads (steps.lists_of item.now agents.now) result }
+#[tactic(auto, unfolding(dp_meaning::specs::Header::with_entry))]
+fn with_values(item: &Item, entries: Entries) -> Result<Entries, TextFault>
+    ensures { Reads (spec.with_entry Entry.Values item.now entries) result }
 {
-    match agents {
-        Some(agents) => name_lists(alloc, agents.size(), item),
-        None => Err(TextFault::At(fault(Why::Header, item.at()))),
+    if entries.cost.is_some() {
+        return Err(TextFault::At(fault(Why::Header, item.at())));
+    }
+    match is_cost(item.next(), &item.value()) {
+        Ok(cost) => Ok(Entries {
+            cost: Some(cost),
+            ..entries
+        }),
+        Err(fault) => Err(TextFault::At(fault)),
+    }
+}
+
+#[tactic(auto, unfolding(dp_meaning::specs::Header::with_entry))]
+fn with_states(alloc: Global, item: &Item, entries: Entries) -> Result<Entries, TextFault>
+    ensures { Reads (spec.with_entry Entry.States item.now entries) result }
+{
+    if entries.states.is_some() {
+        return Err(TextFault::At(fault(Why::Header, item.at())));
+    }
+    match name_list(alloc, item.next(), &item.value()) {
+        Ok(states) => Ok(Entries {
+            states: Some(states),
+            ..entries
+        }),
+        Err(fault) => Err(fault),
+    }
+}
+
+#[tactic(auto, unfolding(dp_meaning::specs::Header::with_entry))]
+fn with_start(alloc: Global, item: &Item, entries: Entries) -> Result<Entries, TextFault>
+    ensures { Reads (spec.with_entry Entry.StartEntry item.now entries) result }
+{
+    if entries.start.is_some() {
+        return Err(TextFault::At(fault(Why::Header, item.at())));
+    }
+    let states = match &entries.states {
+        Some(states) => states,
+        None => return Err(TextFault::At(fault(Why::Header, item.at()))),
+    };
+    match start_of(alloc, states, item.next(), &item.value()) {
+        Ok(start) => Ok(Entries {
+            start: Some(start),
+            ..entries
+        }),
+        Err(fault) => Err(fault),
+    }
+}
+
+#[tactic(auto, unfolding(dp_meaning::specs::Header::with_entry))]
+fn with_actions(alloc: Global, item: &Item, entries: Entries) -> Result<Entries, TextFault>
+    ensures { Reads (spec.with_entry Entry.Actions item.now entries) result }
+{
+    if entries.actions.is_some() {
+        return Err(TextFault::At(fault(Why::Header, item.at())));
+    }
+    let agents = match &entries.agents {
+        Some(agents) => agents.size(),
+        None => return Err(TextFault::At(fault(Why::Header, item.at()))),
+    };
+    match name_lists(alloc, agents, item) {
+        Ok(actions) => Ok(Entries {
+            actions: Some(actions),
+            ..entries
+        }),
+        Err(fault) => Err(fault),
+    }
+}
+
+#[tactic(auto, unfolding(dp_meaning::specs::Header::with_entry))]
+fn with_observations(alloc: Global, item: &Item, entries: Entries) -> Result<Entries, TextFault>
+    ensures { Reads (spec.with_entry Entry.Observations item.now entries) result }
+{
+    if entries.observations.is_some() {
+        return Err(TextFault::At(fault(Why::Header, item.at())));
+    }
+    let agents = match &entries.agents {
+        Some(agents) => agents.size(),
+        None => return Err(TextFault::At(fault(Why::Header, item.at()))),
+    };
+    match name_lists(alloc, agents, item) {
+        Ok(observations) => Ok(Entries {
+            observations: Some(observations),
+            ..entries
+        }),
+        Err(fault) => Err(fault),
     }
 }
