@@ -45,13 +45,13 @@ pub fn look_ahead<A: Arith>(
     if rest == 0 || all_zero(weights) {
         return 0;
     }
-    let cap = against_table(arith, model, rest, table.row(rest), weights);
     if look == 0 {
-        return cap;
+        return against_table(arith, model, rest, table.row(rest), weights);
     }
     if let Some(value) = found(memo, rest, look, weights) {
         return value;
     }
+    let cap = against_table(arith, model, rest, table.row(rest), weights);
     let value = greatest_look(
         arith,
         model,
