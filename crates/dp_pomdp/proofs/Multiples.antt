@@ -1,6 +1,7 @@
 -- Weights divided by a common divisor, as loops form them.
 use Rattle.std.proofs.Common.{◌≡◌, ◌≢◌, ℕ, suc, ◌*◌, ◌/◌, ◌^◌, ◌<◌, ◌≤◌, ℤ, pos, negsuc, ◌*ℤ◌, ◌≤ℤ◌, List, length, set}
-use Rattle.std.proofs.Common.{FitsSigned, inl, inr, unsigned_abs, refl, sym, ap, subst, ◌∙◌, arith, get_or-set_other, get_or-set_same}
+use Rattle.std.proofs.Common.{FitsSigned, inl, inr, unsigned_abs, refl, sym, ap, subst, ◌∙◌, arith}
+use Rattle.std.proofs.Common.{get_or-set_other, get_or-set_same}
 use Rattle.std.specs.Int.{◌∣◌, IsGcd, w128}
 use Rattle.std.proofs.Math.Nat.{div-mul_cancel, eq-zero_of_zero-dvd}
 use Rattle.std.proofs.lemmas.Bool.{cases_lt}
@@ -50,7 +51,9 @@ zero_of x e = omega (arith, ints)
 
 -- 0 divides nothing but zeros
 all_zero_by_zero : (k : ℕ) (ws : List Span) → k ≡ 0 → IsDivisorOf k ws → AreZero ws
-all_zero_by_zero k ws none divides s lt = zero_of _ (eq-zero_of_zero-dvd (subst (λ (n : ℕ). n ∣ unsigned_abs (weights_of ws s).high) none (divides s lt)))
+all_zero_by_zero k ws none divides s lt =
+    let zero_divides = subst (λ (n : ℕ). n ∣ unsigned_abs (weights_of ws s).high) none (divides s lt) in
+    zero_of _ (eq-zero_of_zero-dvd zero_divides)
 
 -- so one below 2 is 1, where some upper end is not 0
 pub one_left : (k : ℕ) (ws : List Span) → k < 2 → IsDivisorOf k ws → (AreZero ws → ⊥) → k ≡ 1
