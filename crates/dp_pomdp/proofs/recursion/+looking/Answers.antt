@@ -1,5 +1,5 @@
-use Rattle.std.proofs.Common.{◌≡◌, ℕ, suc, ◌+◌, ◌-◌, length, get_or, ◌<◌, ◌≤◌, ◌^◌, ◌∙◌, ◌≤ℤ◌, to_z, [], ◌∷◌, ℤ, false}
-use Rattle.std.proofs.Common.{unsigned_abs, sym, ap, subst, refl, arith, rules}
+use Rattle.std.proofs.Common.{◌≡◌, ℕ, suc, ◌+◌, ◌-◌, length, get_or, ◌<◌, ◌≤◌, ◌^◌, ◌∙◌, ◌≤ℤ◌, to_z, [], ◌∷◌, ℤ}
+use Rattle.std.proofs.Common.{false, unsigned_abs, sym, ap, subst, refl, arith, rules}
 use Rattle.std.specs.Int.{int_min, w128}
 use Rattle.std.proofs.lemmas.Int.{ints, to_z-of_z}
 use mir.Val.{SFits}
