@@ -29,19 +29,29 @@ skip_nothing k f total e none = rw (e, none, span_add_none (span_sum k f)) refl
 pub skip_zero : (k : ℕ) (f : ℕ → ℤ) (total : ℤ) → total ≡ int_sum k f → f k ≡ pos 0 → total ≡ int_sum (suc k) f
 skip_zero k f total e none = rw (e, none, add_zero (int_sum k f)) refl
 
--- a chance of 0 earns nothing
+-- a next state of chance 0 earns nothing
 none_gained : (A : Arithmetic) → KeepsZero A → (w : Span) (p z : ℕ) (x : ℤ) (r : ℕ) → p ≡ 0
     → A.gain (A.chance w p z) x r ≡ nothing
 none_gained A k w p z x r e = rw (e, k.no_next w z, k.gain x r) refl
 
--- a next state of chance 0 earns nothing
+-- not from any joint observation
 pub no_arrival : (A : Arithmetic) → KeepsZero A → (m : Model) (r : ℕ) (w : Span) (a s t : ℕ)
     → trans_at m a s t ≡ 0
     → arrival_reward A m r w a s t ≡ nothing
 no_arrival A z m r w a s t e = span_sum_none (joint_observations m) (reward_part A m r w a s t)
     (λ o p. none_gained A z w (trans_at m a s t) (obs_at m a t o) (reward_at m a s t o) r e)
 
--- and carries nothing
+-- a joint observation of chance 0 earns nothing
+none_seen : (A : Arithmetic) → KeepsZero A → (w : Span) (p z : ℕ) (x : ℤ) (r : ℕ) → z ≡ 0
+    → A.gain (A.chance w p z) x r ≡ nothing
+none_seen A k w p z x r e = rw (e, k.no_seen w p, k.gain x r) refl
+
+pub none_observed : (A : Arithmetic) → KeepsZero A → (m : Model) (r : ℕ) (w : Span) (a s t o : ℕ)
+    → obs_at m a t o ≡ 0 → reward_part A m r w a s t o ≡ nothing
+none_observed A z m r w a s t o e =
+    none_seen A z w (trans_at m a s t) (obs_at m a t o) (reward_at m a s t o) r e
+
+-- a next state of chance 0 carries nothing
 pub no_carry : (A : Arithmetic) → KeepsZero A → (v : ℤ) (p : ℕ) → p ≡ 0 → A.carry v p ≡ pos 0
 no_carry A z v p e = rw (e, z.carry v) refl
 

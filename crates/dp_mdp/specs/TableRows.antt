@@ -21,7 +21,7 @@ pub record IsRow (A : Arithmetic) (m : Model) (r : ℕ) (row : List ℤ) : Type 
 
 -- The rows of values; for each joint action the reward of the last step from each state; for each number of steps
 -- that are left after a step what its rewards are, as a multiple of those of the last step; and which states follow
--- which.
+-- which, and what may be seen.
 pub record KeptTable : Type 0 where
   pub rows : List (List ℤ)
   pub rewards : List (List ℤ)

@@ -9,7 +9,8 @@ use dp_num::{Arith, add_spans};
 use dp_spec::Span;
 
 /// The reward of joint action `action` from weight `weight` of state `state`, where `rest` steps are
-/// left after this one, computed in an arithmetic. Next states of chance 0 are left out.
+/// left after this one, computed in an arithmetic. Next states of chance 0 are left out, and so are
+/// joint observations of chance 0.
 pub fn state_reward<A: Arith>(
     arith: &A,
     model: &Model,
@@ -47,6 +48,7 @@ fn arrival_reward<A: Arith>(
     next: u32,
     chance: u64,
 ) -> Span
+    requires zero { KeepsZero (A.operations arith.now) }
     requires sizes { AllowsReward (A.operations arith.now) (A.calls arith.now) model.now.model rest weight action
         state }
     requires action { action < joint_actions model.now.model }
@@ -57,9 +59,12 @@ fn arrival_reward<A: Arith>(
 {
     let mut total = Span { low: 0, high: 0 };
     for seen in 0..model.joint_observations() {
-        let reached = arith.chance(weight, chance, model.obs(action, next, seen));
-        let reward = model.reward(action, state, next, seen);
-        total = add_spans(total, arith.gain(reached, reward, rest));
+        let observed = model.obs(action, next, seen);
+        if observed != 0 {
+            let reached = arith.chance(weight, chance, observed);
+            let reward = model.reward(action, state, next, seen);
+            total = add_spans(total, arith.gain(reached, reward, rest));
+        }
     }
     total
 }

@@ -4,7 +4,7 @@ ghost use Rattle.dp_spec.specs.Arithmetic.{arithmetic};
 ghost use Rattle.dp_spec.specs.Mode.{IsTrueFit};
 ghost use Rattle.dp_spec.specs.Model.{joint_actions};
 ghost use Rattle.dp_mdp.specs.Building.{IsTabulating};
-ghost use Rattle.dp_links.specs.Links.{AreLinksOf, linked};
+ghost use Rattle.dp_links.specs.Links.{AreLinksOf, linked, seen_after};
 ghost use Rattle.dp_mdp.specs.TableRows.{BoundsEachValue, IsTable, value_at};
 
 use crate::build::{last_rewards, powers_of, rows_in};
@@ -22,7 +22,7 @@ use std::alloc::Global;
 /// rewards times the step scale to the power `r`, and in outward mode in `10^-9`, from above.
 ///
 /// It also keeps what each step needs: the rewards of the last step, what they are multiplied by where
-/// steps are left, and which states follow which by a chance above 0.
+/// steps are left, which states follow which by a chance above 0, and what may be seen.
 #[derive(Drop)]
 pub struct MdpTable {
     rows: Sequence<Sequence<i128>>,
@@ -108,6 +108,16 @@ impl MdpTable {
         ensures { result.now ≡ linked model.now.model true a t }
     {
         self.links.before(model, a, t)
+    }
+
+    /// The joint observations that may be seen after joint action `a`, in some state, in order.
+    #[inline]
+    pub fn seen(&self, model: &Model, a: u32) -> &[u32]
+        requires links { AreLinksOf model.now.model self.now.links }
+        requires action { a < joint_actions model.now.model }
+        ensures { result.now ≡ seen_after model.now.model a }
+    {
+        self.links.seen(model, a)
     }
 }
 

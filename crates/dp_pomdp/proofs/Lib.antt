@@ -8,6 +8,7 @@ pub mod PushedRows
 pub mod Pushes
 pub mod Rewards
 pub mod Scaled
+pub mod SeenLooks
 pub mod Sound
 pub mod Steps
 pub mod TimesRows

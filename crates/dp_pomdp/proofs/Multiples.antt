@@ -1,15 +1,16 @@
 -- Weights divided by a common divisor, as loops form them.
-use Rattle.std.proofs.Common.{◌≡◌, ◌≢◌, ℕ, suc, ◌*◌, ◌/◌, ◌<◌, ◌≤◌, ℤ, pos, negsuc, ◌*ℤ◌, ◌≤ℤ◌, List, length, set}
-use Rattle.std.proofs.Common.{inl, inr, unsigned_abs, refl, sym, ap, ◌∙◌, arith, get_or-set_other, get_or-set_same}
-use Rattle.std.specs.Int.{◌∣◌, IsGcd}
-use Rattle.std.proofs.Math.Nat.{div-mul_cancel}
+use Rattle.std.proofs.Common.{◌≡◌, ◌≢◌, ℕ, suc, ◌*◌, ◌/◌, ◌^◌, ◌<◌, ◌≤◌, ℤ, pos, negsuc, ◌*ℤ◌, ◌≤ℤ◌, List, length}
+use Rattle.std.proofs.Common.{FitsSigned, set, inl, inr, unsigned_abs, refl, sym, ap, subst, ◌∙◌, arith}
+use Rattle.std.proofs.Common.{get_or-set_other, get_or-set_same}
+use Rattle.std.specs.Int.{◌∣◌, IsGcd, w128}
+use Rattle.std.proofs.Math.Nat.{div-mul_cancel, eq-zero_of_zero-dvd}
 use Rattle.std.proofs.lemmas.Bool.{cases_lt}
 use Rattle.std.proofs.lemmas.Int.{ints}
 use Rattle.std.proofs.lemmas.List.{length-set}
-use Rattle.std.proofs.lemmas.Nat.Gcd.{dvd_trans}
+use Rattle.std.proofs.lemmas.Nat.Gcd.{dvd-zero, dvd_trans, le_of_dvd}
 use Rattle.dp_spec.specs.declared.span.Span.{Span}
 use Rattle.dp_spec.specs.Arithmetic.{point}
-use Rattle.dp_pomdp.specs.Looking.{weights_of}
+use Rattle.dp_pomdp.specs.Looking.{AreZero, weights_of}
 use Rattle.dp_pomdp.specs.Multiples.{AreNumbers, AreTimes, IsDivisorOf}
 
 -- ---- the common divisor
@@ -21,6 +22,44 @@ pub divides_more : (g k r i : ℕ) (ws : List Span) → IsGcd g r k → r ≡ un
 divides_more g k r i ws both is below s lt = elim (cases_lt s i) [
   | inl early ↦ dvd_trans k both.0 (below s early)
   | inr late ↦ let here : s ≡ i = omega arith in rw here (rw (sym is) both.1)
+]
+
+-- and each common divisor divides it
+pub divided_more : (g k r i : ℕ) (ws : List Span) → IsGcd g r k → r ≡ unsigned_abs (weights_of ws i).high
+    → i < length ws → ((d : ℕ) → IsDivisorOf d ws → d ∣ g) → (d : ℕ) → IsDivisorOf d ws → d ∣ k
+divided_more g k r i ws both is inside so_far d divides = both.2 d (so_far d divides) (rw is (divides i inside))
+
+-- it is no greater than they are
+pub small_more : (g k r : ℕ) (x : ℤ) → IsGcd g r k → r ≡ unsigned_abs x → pos 0 ≤ℤ x → FitsSigned w128 x
+    → g < 2 ^ 127 → k < 2 ^ 127
+small_more g k r x both is from fits so_far =
+    let small : r < 2 ^ 127 = omega (arith, ints, is, from, fits) in
+    elim (cases_lt 0 g) [
+      | inl some ↦ let le = le_of_dvd some both.0 in omega (arith, le, so_far)
+      | inr none ↦ elim (cases_lt 0 r) [
+        | inl some ↦ let le = le_of_dvd some both.1 in omega (arith, le, small)
+        | inr nought ↦
+            let left : g ≡ 0 = omega arith in
+            let right : r ≡ 0 = omega arith in
+            let both_zero : k ≡ 0 = eq-zero_of_zero-dvd (both.2 0 (rw left (dvd-zero 0)) (rw right (dvd-zero 0))) in
+            omega (arith, both_zero)
+      ]
+    ]
+
+zero_of : (x : ℤ) → unsigned_abs x ≡ 0 → x ≡ pos 0
+zero_of x e = omega (arith, ints)
+
+-- 0 divides nothing but zeros
+all_zero_by_zero : (k : ℕ) (ws : List Span) → k ≡ 0 → IsDivisorOf k ws → AreZero ws
+all_zero_by_zero k ws none divides s lt =
+    let zero_divides = subst (λ (n : ℕ). n ∣ unsigned_abs (weights_of ws s).high) none (divides s lt) in
+    zero_of _ (eq-zero_of_zero-dvd zero_divides)
+
+-- so one below 2 is 1, where some upper end is not 0
+pub one_left : (k : ℕ) (ws : List Span) → k < 2 → IsDivisorOf k ws → (AreZero ws → ⊥) → k ≡ 1
+one_left k ws less divides some = elim (cases_lt 0 k) [
+  | inl more ↦ omega arith
+  | inr none ↦ absurd (some (all_zero_by_zero k ws (omega arith) divides))
 ]
 
 -- ---- the division

@@ -11,10 +11,10 @@ use Rattle.dp_base.specs.Sums.{int_sum}
 use Rattle.dp_spec.specs.Model.{Model, joint_actions, joint_observations}
 use Rattle.dp_spec.specs.Arithmetic.{Arithmetic}
 use Rattle.dp_spec.specs.Calls.{Calls}
-use Rattle.dp_spec.specs.Quantities.{action_look_ahead_in, look_ahead_in, mdp_table_in, weighted_reward_in}
+use Rattle.dp_spec.specs.Quantities.{look_ahead_in, mdp_table_in}
 use Rattle.dp_spec.specs.Quantities.{weighted_table_in, weights_after_in}
-use Rattle.dp_spec.specs.SizesOfLookAhead.{next_look_size, weighted_table_size}
-use Rattle.dp_laws.proofs.SizeSums.{abs_add, int_sum_part, reward_size_le}
+use Rattle.dp_spec.specs.SizesOfLookAhead.{weighted_table_size}
+use Rattle.dp_laws.proofs.SizeSums.{int_sum_part}
 use Rattle.dp_pomdp.specs.Looking.{AreZero, IsLooking, weights_of}
 use Rattle.dp_laws.proofs.EqualWeights.{look_ahead_in_ext, weights_same}
 use Rattle.dp_mdp.specs.TableRows.{IsTable, KeptTable}
@@ -99,29 +99,6 @@ looking_next A C m r ws next a o is pa po len same = record {
       (λ t p. sym (same t p)) (is.push.updated is.time (weights_of ws) a o (let all = is.left in omega arith)
       is.weights pa po);
 }
-
--- the reward now and the first look-aheads after it
-pub looks_part_fits : (A : Arithmetic) (C : Calls) (m : Model) (r : ℕ) (ws : List Span)
-    → IsLooking A C m (suc r) ws
-    → (a j k : ℕ) → a < joint_actions m → k ≤ joint_observations m →
-    unsigned_abs ((weighted_reward_in A m r (weights_of ws) a).high +ℤ int_sum k
-    (λ o. look_ahead_in A m r (weights_after_in A m (weights_of ws) a o) j)) < 2 ^ 127
-unfolding next_look_size
-looks_part_fits A C m r ws is a j k pa le =
-    let V = λ (o : ℕ). look_ahead_in A m r (weights_after_in A m (weights_of ws) a o) j in
-    let now = reward_size_le A m r (weights_of ws) a in
-    let part = int_sum_part k (joint_observations m) V le in
-    let both = abs_add (weighted_reward_in A m r (weights_of ws) a).high (int_sum k V) in
-    let all = is.look.looks is.time r j (weights_of ws) a is.left is.weights pa in omega arith
-
--- all of them together are the look-ahead of the joint action
-pub looks_are_action : (A : Arithmetic) (m : Model) (r look : ℕ) (ws : ℕ → Span) (a k : ℕ) (total : ℤ)
-    → k ≡ joint_observations m
-    → total ≡ (weighted_reward_in A m r ws a).high +ℤ int_sum k
-    (λ o. look_ahead_in A m r (weights_after_in A m ws a o) (look - 1))
-    → total ≡ action_look_ahead_in A m r ws a look
-unfolding action_look_ahead_in
-looks_are_action A m r look ws a k total all is = rw (is, all) refl
 
 -- ---- the running sum after a first part
 

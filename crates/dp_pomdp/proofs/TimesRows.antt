@@ -8,24 +8,27 @@ use Rattle.dp_spec.specs.declared.span.Span.{Span}
 use Rattle.dp_spec.specs.Arithmetic.{Arithmetic, arithmetic}
 use Rattle.dp_spec.specs.Calls.{Calls, calls_in}
 use Rattle.dp_spec.specs.Mode.{IsTrueFit}
-use Rattle.dp_spec.specs.Model.{IsModel, Model, joint_actions, joint_observations}
+use Rattle.dp_spec.specs.Model.{IsModel, Model, joint_actions}
 use Rattle.dp_spec.specs.Quantities.{action_look_ahead_in}
 use Rattle.dp_spec.specs.Sizes.{AreWeights}
 use Rattle.dp_laws.proofs.SizeLaws.{arithmetic_is_exact}
+use Rattle.dp_links.specs.Links.{seen_after}
 use Rattle.dp_pomdp.specs.Looking.{IsLooking, weights_of}
 use Rattle.dp_pomdp.specs.Memos.{row_of}
 use Rattle.dp_pomdp.specs.Multiples.{AreNumbers, AreTimes}
 use Rattle.dp_pomdp.proofs.Modes.{mode_looking}
 use Rattle.dp_pomdp.proofs.Scaled.{action_of_times, numbers_of, weights_of_times}
-use Rattle.dp_pomdp.proofs.Steps.{looks_part_fits}
+use Rattle.dp_pomdp.proofs.SeenLooks.{looks_are_action, looks_part_fits}
 
 -- the look-ahead of a joint action has 127 bits
 action_fits : (A : Arithmetic) (C : Calls) (m : Model) (r : ℕ) (ws : List Span) → IsLooking A C m (suc r) ws
     → (a look : ℕ) → a < joint_actions m
     → unsigned_abs (action_look_ahead_in A m r (weights_of ws) a look) < 2 ^ 127
-unfolding action_look_ahead_in
 action_fits A C m r ws is a look pa =
-    looks_part_fits A C m r ws is a (look - 1) (joint_observations m) pa (omega arith)
+    let xs = seen_after m a in
+    subst (λ (x : ℤ). unsigned_abs x < 2 ^ 127)
+    (looks_are_action A is.zero m r look (weights_of ws) a (length xs) xs _ refl refl refl)
+    (looks_part_fits A C m r ws is a (look - 1) xs pa refl (length xs) (omega arith))
 
 -- a mapped list is made of what its items give
 mapped_made : {X : Type 0} (f : X → X) (g h : ℕ → X) (n : ℕ) (d : X) → ((a : ℕ) → a < n → f (g a) ≡ h a)

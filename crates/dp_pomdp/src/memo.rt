@@ -53,7 +53,7 @@ impl Entry {
     }
 
     // The bits of its key, spread.
-    fn spread(&self) -> u128 {
+    fn spread(&self) -> usize {
         spread_of(self.rest, self.look, &self.weights)
     }
 
@@ -142,7 +142,7 @@ impl Memo {
     // What is kept of these, where one of the buckets that are tried points to it.
     fn found(
         &self,
-        spread: u128,
+        spread: usize,
         step: usize,
         rest: u32,
         look: u32,
@@ -172,7 +172,7 @@ impl Memo {
     }
 
     // Keeps an entry, and gives its place. Where the memo is full it takes the place of another.
-    fn put(&mut self, spread: u128, entry: Entry) -> usize
+    fn put(&mut self, spread: usize, entry: Entry) -> usize
         ensures { (f : ℕ → ℕ → List PlainSpan → List ℤ) → AreKept f self.old → IsKept f entry →
             AreKept f self.new }
     {
@@ -191,7 +191,7 @@ impl Memo {
     }
 
     // Lets a bucket of a key point to a place.
-    fn point(&mut self, spread: u128, place: usize)
+    fn point(&mut self, spread: usize, place: usize)
         ensures { self.new ≡ self.old }
     {
         point_to(&mut self.buckets, self.entries.len(), spread, place);
@@ -224,14 +224,14 @@ fn buckets_for(alloc: Global, entries: &[Entry]) -> Result<Vec<usize>, Memory> {
 }
 
 // Lets a bucket of a key point to a place, one that points to none of `count` places if there is one.
-fn point_to(buckets: &mut [usize], count: usize, spread: u128, place: usize) {
+fn point_to(buckets: &mut [usize], count: usize, spread: usize, place: usize) {
     if let Some(bucket) = free_bucket(buckets, count, spread) {
         buckets[bucket] = place;
     }
 }
 
 // A bucket to put a key into.
-fn free_bucket(buckets: &[usize], count: usize, spread: u128) -> Option<usize>
+fn free_bucket(buckets: &[usize], count: usize, spread: usize) -> Option<usize>
     ensures { IfSome result (λ b. b < length buckets.now) }
 {
     for step in 0..TRIES {
@@ -244,18 +244,17 @@ fn free_bucket(buckets: &[usize], count: usize, spread: u128) -> Option<usize>
 }
 
 // One of so many buckets for a key, of those that are tried.
-fn bucket_at(count: usize, spread: u128, step: usize) -> Option<usize>
+fn bucket_at(count: usize, spread: usize, step: usize) -> Option<usize>
     ensures { IfSome result (λ b. b < count) }
 {
     if count == 0 {
         return None;
     }
-    let at = spread.wrapping_add(step as u128) % count as u128;
-    Some(at as usize)
+    Some(spread.wrapping_add(step) % count)
 }
 
-// The bits of a key, spread.
-fn spread_of(rest: u32, look: u32, weights: &[Span]) -> u128 {
+// The bits of a key, spread. Buckets are chosen by 64 bits, which divide many times as fast as 128.
+fn spread_of(rest: u32, look: u32, weights: &[Span]) -> usize {
     let mut spread = u128::from(rest)
         .wrapping_mul(64)
         .wrapping_add(u128::from(look));
@@ -263,5 +262,5 @@ fn spread_of(rest: u32, look: u32, weights: &[Span]) -> u128 {
         spread = (spread ^ weight.high.unsigned_abs()).wrapping_mul(SPREAD);
         spread ^= spread >> 64;
     }
-    spread
+    (spread % (1 << 64)) as usize
 }

@@ -45,13 +45,13 @@ pub fn look_ahead<A: Arith>(
     if rest == 0 || all_zero(weights) {
         return 0;
     }
-    let cap = against_table(arith, model, rest, table.row(rest), weights);
     if look == 0 {
-        return cap;
+        return against_table(arith, model, rest, table.row(rest), weights);
     }
     if let Some(value) = found(memo, rest, look, weights) {
         return value;
     }
+    let cap = against_table(arith, model, rest, table.row(rest), weights);
     let value = greatest_look(
         arith,
         model,
@@ -121,7 +121,8 @@ pub fn greatest_look<A: Arith>(
     best.min(cap)
 }
 
-/// The same where a joint action is done now, and `rest` steps are left after it.
+/// The same where a joint action is done now, and `rest` steps are left after it. What may not be seen is
+/// left out.
 #[cycle(looking)]
 pub fn action_look_ahead<A: Arith>(
     arith: &A,
@@ -149,7 +150,9 @@ pub fn action_look_ahead<A: Arith>(
 {
     let mut total = reward_now(arith, model, table, exact, rest, weights, action);
     let (next, deeper) = room.split_at_mut(model.states() as usize);
-    for seen in 0..model.joint_observations() {
+    let observed = table.seen(model, action);
+    for place in 0..observed.len() {
+        let seen = observed[place];
         push_weights(arith, model, table, weights, action, seen, next);
         let factor = reduced(exact, look, next);
         let value = look_ahead(

@@ -1,8 +1,8 @@
 // Weights divided by their greatest common divisor.
-ghost use Rattle.std.specs.Prelude.{◌≡◌, ◌<◌, ℕ, pos, true, false, length, unsigned_abs, ◌/◌, IfOk};
+ghost use Rattle.std.specs.Prelude.{◌≡◌, ◌<◌, ◌≤◌, ◌^◌, ℕ, pos, true, false, length, unsigned_abs, ◌/◌, IfOk};
 ghost use Rattle.std.specs.Int.{◌∣◌};
 ghost use Rattle.dp_spec.specs.Arithmetic.{point};
-ghost use Rattle.dp_pomdp.specs.Looking.{weights_of};
+ghost use Rattle.dp_pomdp.specs.Looking.{AreZero, weights_of};
 ghost use Rattle.dp_pomdp.specs.Multiples.{AreNumbers, AreTimes, IsDivisorOf};
 
 use dp_base::{Memory, gcd, quotient};
@@ -13,6 +13,8 @@ use dp_spec::Span;
 pub fn reduced(exact: bool, look: u32, weights: &mut [Span]) -> i128
     requires numbers { exact ≡ true → AreNumbers weights.old }
     ensures times { (k : ℕ) × (result ≡ pos k) × (AreTimes k weights.new weights.old) }
+    ensures greatest { exact ≡ true → 2 ≤ look → (AreZero weights.old → ⊥) →
+        (d : ℕ) → IsDivisorOf d weights.old → d ∣ unsigned_abs result }
     ensures outward { exact ≡ false → result ≡ pos 1 }
     ensures outward_stay { exact ≡ false → weights.new ≡ weights.old }
 {
@@ -43,7 +45,10 @@ pub fn base_of(exact: bool, weights: &[Span], base: &mut Vec<Span>) -> Result<i1
 
 // The greatest common divisor of the upper ends.
 fn common_divisor(weights: &[Span]) -> u128
-    ensures { IsDivisorOf result weights.now }
+    requires numbers { AreNumbers weights.now }
+    ensures small { result < 2 ^ 127 }
+    ensures divides { IsDivisorOf result weights.now }
+    ensures greatest { (d : ℕ) → IsDivisorOf d weights.now → d ∣ result }
 {
     let mut common = 0;
     for weight in weights {

@@ -224,7 +224,7 @@ pub fn against_table<A: Arith>(
     total
 }
 
-// The part of one state.
+// The part of one state. A weight of 0 earns nothing.
 fn table_part<A: Arith>(
     arith: &A,
     model: &Model,
@@ -239,7 +239,11 @@ fn table_part<A: Arith>(
     ensures { result ≡ (A.operations arith.now).tail (weights_of weights.now state)
         (mdp_table_in (A.operations arith.now) model.now.model rest state) }
 {
-    arith.tail(weights[state as usize], row[state as usize])
+    let weight = weights[state as usize];
+    if weight.high == 0 {
+        return 0;
+    }
+    arith.tail(weight, row[state as usize])
 }
 
 /// Whether the upper end of each weight is 0.
