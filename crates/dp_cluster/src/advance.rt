@@ -5,12 +5,12 @@ ghost use Rattle.dp_spec.specs.Arithmetic.{arithmetic};
 ghost use Rattle.dp_spec.specs.Front.{class_counts, fixed_joint_action};
 ghost use Rattle.dp_spec.specs.JointNumbers.{product};
 ghost use Rattle.dp_spec.specs.Model.{joint_actions, joint_observations};
-ghost use Rattle.dp_spec.specs.Quantities.{class_weight_in, earned_reward_in, weighted_reward_in};
+ghost use Rattle.dp_spec.specs.Quantities.{class_weight_in, earned_reward_in, weighted_reward_in, weights_after_in};
 ghost use Rattle.dp_spec.specs.Steps.{advanced_agents, advanced_front, is_complete};
 ghost use Rattle.dp_spec.specs.WellFormed.{IsFront};
-ghost use Rattle.dp_spec.specs.Zeros.{nothing};
+ghost use Rattle.dp_spec.specs.Zeros.{KeepsZero, nothing};
 ghost use Rattle.dp_spec.specs.ClassSteps.{chosen_joint_action, pair_number};
-ghost use Rattle.dp_value.specs.WeightUpdates.{weights_of};
+ghost use Rattle.dp_value.specs.WeightUpdates.{AreUpdatable, weights_of};
 ghost use Rattle.dp_cluster.specs.Advances.{AreLed, IsAdvanceable, IsLed, weight_rows};
 ghost use Rattle.dp_spec.specs.Wide.{has_room};
 ghost use Rattle.dp_cluster.specs.KeepingPolicies.{KeepsToo};
@@ -244,9 +244,34 @@ fn push_nexts<A: Arith>(
 {
     let before = front.class_weights(class);
     for state in 0..m.states() {
-        weights.push(next_weight(arith, m, before, action, seen, state))?;
+        weights.push(weight_after(arith, m, before, action, seen, state))?;
     }
     Ok(())
+}
+
+// The weight of a state after a joint action and a joint observation. A joint observation of chance 0 takes
+// no sum.
+fn weight_after<A: Arith>(
+    arith: &A,
+    m: &Model,
+    weights: &[Span],
+    action: u32,
+    seen: u32,
+    state: u32,
+) -> Span
+    requires zeros { KeepsZero (A.operations arith.now) }
+    requires one_each { length weights.now ≡ m.now.model.states }
+    requires sizes { AreUpdatable (A.operations arith.now) (A.calls arith.now) m.now.model (weights_of weights.now) }
+    requires action { action < joint_actions m.now.model }
+    requires seen { seen < joint_observations m.now.model }
+    requires state { state < m.now.model.states }
+    ensures { result ≡ weights_after_in (A.operations arith.now) m.now.model (weights_of weights.now) action seen
+        state }
+{
+    if m.obs(action, state, seen) == 0 {
+        return Span { low: 0, high: 0 };
+    }
+    next_weight(arith, m, weights, action, seen, state)
 }
 
 // A joint class, and the joint observation that follows it.

@@ -9,8 +9,8 @@ use Rattle.dp_cluster.proofs.Advances.{act_below, pushable, pushed_is}
 use Rattle.dp_base.proofs.MadeLists.{next_after}
 use Rattle.dp_cluster.proofs.advance.push_nexts.Goals as goal
 
-pub next_weight-requires-clause-sizes : goal.next_weight-requires-clause-sizes
-next_weight-requires-clause-sizes g c =
+pub weight_after-requires-clause-sizes : goal.weight_after-requires-clause-sizes
+weight_after-requires-clause-sizes g c =
     let A = g.A.Arith.operations c.args.arith.now in
     let C = g.A.Arith.calls c.args.arith.now in
     let m = c.args.m.now.model in
@@ -26,7 +26,7 @@ loop-state-preserved g c =
     let m = c.args.m.now.model in
     let k = c.args.front.now in
     let is = c.requires.sizes in
-    let new = c.next_weight.ensures ∙ ap (λ (a : ℕ). weights_after_in A m
+    let new = c.weight_after.ensures ∙ ap (λ (a : ℕ). weights_after_in A m
     (weights_of c.class_weights-before.result.now) a c.args.seen c.loop-state.state)
     c.requires.action
     ∙ pushed_is A C m k is c.args.class c.requires.class (weights_of c.class_weights-before.result.now)
@@ -36,8 +36,8 @@ loop-state-preserved g c =
     c.args.weights.now.items c.loop-state.weights.items _ c.loop-state.state _ new c.in_ok-push.ensures.items
     c.loop-state.invariant
 
-pub next_weight-requires-clause-action : goal.next_weight-requires-clause-action
-next_weight-requires-clause-action g c =
+pub weight_after-requires-clause-action : goal.weight_after-requires-clause-action
+weight_after-requires-clause-action g c =
     let m = c.args.m.now.model in
     subst (λ (a : ℕ). a < joint_actions m) (sym c.requires.action)
     (act_below (g.A.Arith.operations c.args.arith.now) (g.A.Arith.calls c.args.arith.now) m c.args.front.now
