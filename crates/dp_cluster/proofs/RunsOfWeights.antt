@@ -15,7 +15,7 @@ use Rattle.dp_cluster.specs.OwnWeights.{own_total, own_weight}
 
 -- ---- numbers up to a place
 
-map_plus : (f : ℕ → ℤ) (a b : ℕ)
+pub map_plus : {X : Type 0} (f : ℕ → X) (a b : ℕ)
     → map f (range_with_len 0 (a + b)) ≡ map f (range_with_len 0 a) ++ map (λ j. f (a + j)) (range_with_len 0 b)
 map_plus f a zero =
     let none : a + zero ≡ a = omega arith in

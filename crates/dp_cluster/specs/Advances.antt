@@ -1,5 +1,6 @@
 -- What an advance asks of an arithmetic, and the weights that it gives.
-use Rattle.std.specs.Prelude.{ℕ, zero, suc, ◌+◌, ◌^◌, ◌<◌, ◌≡◌, List, [], ◌++◌, map, length, get_or, Option, None, Some}
+use Rattle.std.specs.Prelude.{ℕ, zero, suc, ◌+◌, ◌^◌, ◌<◌, ◌≡◌, List, [], ◌++◌, map, length, get_or, Option}
+use Rattle.std.specs.Prelude.{None, Some}
 use Rattle.std.specs.List.{range_with_len}
 use Rattle.dp_spec.specs.declared.span.Span.{Span}
 use Rattle.dp_spec.specs.Arithmetic.{Arithmetic}

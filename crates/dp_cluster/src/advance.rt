@@ -214,7 +214,8 @@ fn push_weights<A: Arith>(
 
 // Adds weights of 0.
 fn push_nothing(count: u32, weights: &mut Vec<Span>) -> Result<(), Memory>
-    ensures { IfOk result (λ _. weights.new.items ≡ weights.old.items ++ map (λ s. nothing) (range_with_len 0 count)) }
+    ensures { IfOk result (λ _. weights.new.items ≡ weights.old.items ++ map (λ s. nothing) (range_with_len 0
+        count)) }
 {
     for _ in 0..count {
         weights.push(Span { low: 0, high: 0 })?;
