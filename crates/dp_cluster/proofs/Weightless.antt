@@ -3,13 +3,13 @@ use Rattle.std.proofs.Common.{◌≡◌, ℕ, ◌<◌, ◌++◌, List, Option, N
 use Rattle.std.proofs.Common.{subst, arith}
 use Rattle.std.proofs.Common.{inl, inr, [], ◌∷◌, ◌+◌}
 use Rattle.std.specs.List.{range_with_len}
-use Rattle.std.proofs.lemmas.List.{get_or_append_left, get_or_push, length-append}
+use Rattle.std.proofs.lemmas.List.{get_or_append_left, get_or_push}
 use Rattle.dp_base.proofs.Order.{last_or_before}
 use Rattle.dp_spec.specs.declared.span.Span.{Span}
 use Rattle.dp_spec.specs.Arithmetic.{Arithmetic}
 use Rattle.dp_spec.specs.Calls.{Calls}
 use Rattle.dp_spec.specs.ClassSteps.{chosen_joint_action, pair_number}
-use Rattle.dp_spec.specs.Front.{Front, class_counts}
+use Rattle.dp_spec.specs.Front.{class_counts}
 use Rattle.dp_spec.specs.JointNumbers.{product}
 use Rattle.dp_spec.specs.Model.{Model, joint_observations, obs_at, trans_at}
 use Rattle.dp_spec.specs.Quantities.{class_weight_in, weighted_reward_in, weights_after_in}

@@ -1,8 +1,7 @@
-use Rattle.std.proofs.Common.{◌<◌, ℕ, Some, ap, subst, sym, ◌∙◌}
+use Rattle.std.proofs.Common.{◌<◌, ℕ, ap, subst, sym, ◌∙◌}
 use Rattle.dp_spec.specs.Model.{joint_actions}
 use Rattle.dp_spec.specs.Quantities.{weighted_reward_in}
 use Rattle.dp_value.specs.WeightUpdates.{weights_of}
-use Rattle.dp_cluster.specs.Advances.{IsLed}
 use Rattle.dp_cluster.proofs.Advances.{act_below, rewardable, rewarded_is}
 use Rattle.dp_cluster.proofs.Weightless.{led_some, nothing_earned, led_none}
 use Rattle.dp_cluster.proofs.advance.earned_from.Goals as goal
