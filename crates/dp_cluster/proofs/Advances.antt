@@ -23,6 +23,7 @@ use Rattle.dp_laws.proofs.SizeLaws.{mode_can_refine, mode_can_reward, mode_can_u
 use Rattle.dp_laws.proofs.EqualWeights.{weighted_reward_in_ext, weights_after_in_ext, weights_same}
 use Rattle.dp_laws.proofs.SizeSums.{size_add, earned_size_le, reward_size_le, span_sum_part}
 use Rattle.dp_laws.proofs.WellFormedSteps.{advanced_is_front}
+use Rattle.dp_laws.proofs.Zeros.{mode_keeps_zero}
 use Rattle.dp_value.specs.WeightUpdates.{AreUpdatable}
 use Rattle.dp_cluster.specs.Advances.{IsAdvanceable, weight_rows}
 use Rattle.dp_cluster.specs.AgentParts.{OwnPart}
@@ -151,6 +152,7 @@ mode_advanceable m k is stored lt =
     (stage_cells m k is stored lt) in
     record {
       model = is.model;
+      zeros = mode_keeps_zero k.is_exact m.scales;
       states = is.states;
       observations = is.observations;
       front = is.front;

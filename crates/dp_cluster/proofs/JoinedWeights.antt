@@ -1,11 +1,12 @@
 -- The weights of the joint classes after a join, place by place.
 use Rattle.std.proofs.Common.{◌≡◌, ◌≢◌, inl, inr, ℕ, zero, suc, ◌+◌, ◌-◌, ◌*◌, ◌/◌, ◌%◌, ◌^◌, ◌<◌, ◌≤◌, true, false}
-use Rattle.std.proofs.Common.{Bool, List, [], ◌∷◌, Option, Some, None, length, get_or, drop, take, refl, sym, ap, ◌∙◌}
-use Rattle.std.proofs.Common.{subst, arith}
+use Rattle.std.proofs.Common.{Bool, List, [], ◌∷◌, Some, None, length, get_or, drop, take, refl, sym, ap, ◌∙◌}
+use Rattle.std.proofs.Common.{subst, arith, ◌++◌, map, append_assoc}
 use Rattle.std.specs.Prelude.{if◌then◌else◌, ◌==◌}
 use Rattle.std.proofs.lemmas.Bool.{cases_eq}
 use Rattle.std.proofs.lemmas.Bool.Decides.{nat_tests}
-use Rattle.std.proofs.lemmas.Nat.{mod_below}
+use Rattle.std.proofs.lemmas.Nat.{div-mul-add, mod-mul-add, mod_below}
+use Rattle.std.specs.List.{range_with_len}
 use Rattle.dp_spec.specs.declared.span.Span.{Span}
 use Rattle.dp_spec.specs.Arithmetic.{arithmetic, exact, span_add}
 use Rattle.dp_spec.specs.Calls.{size}
@@ -16,17 +17,20 @@ use Rattle.dp_spec.specs.Model.{Model}
 use Rattle.dp_spec.specs.Quantities.{class_weight_in}
 use Rattle.dp_spec.specs.Steps.{IsUnassigned}
 use Rattle.dp_spec.specs.WellFormed.{IsFront}
-use Rattle.dp_spec.proofs.JointNumberLaws.{part_below, positive_left, positive_right, row_below}
+use Rattle.dp_spec.proofs.JointNumberLaws.{part_below, positive_right, row_below}
 use Rattle.dp_laws.proofs.MergedFronts.{as_many_merged, kept_below, kept_low, one_class_less, unassigned_agent}
 use Rattle.dp_laws.proofs.SizeLaws.{mode_can_refine}
 use Rattle.dp_laws.proofs.PlaceWeights.{class_fits}
 use Rattle.dp_laws.proofs.WellFormedSteps.{merged_is_front}
-use Rattle.dp_cluster.specs.Joins.{behind, class_in, joined_weight, merged_weight, old_class, own_count, row_in}
-use Rattle.dp_cluster.specs.KeptFronts.{IsFrontOf, IsStored, KeptFront, kept_weight}
-use Rattle.dp_spec.proofs.ModelLaws.{some_state}
-use Rattle.dp_cluster.proofs.AdvancedParts.{some_class}
-use Rattle.dp_cluster.proofs.FrontParts.{count_most}
-use Rattle.dp_cluster.proofs.Pairs.{divided, most}
+use Rattle.dp_cluster.specs.Advances.{weight_rows}
+use Rattle.dp_cluster.specs.OwnPlaces.{ArePlacesOf}
+use Rattle.dp_cluster.specs.declared.runs.Places.{Places}
+use Rattle.dp_value.specs.WeightUpdates.{weights_of}
+use Rattle.dp_cluster.proofs.RunsOfWeights.{map_alike, map_plus}
+use Rattle.dp_cluster.proofs.WeightRows.{as_map, rows_flat}
+use Rattle.dp_cluster.specs.Joins.{merged_at, behind, class_in, joined_weight, merged_weight, old_class}
+use Rattle.dp_cluster.specs.Joins.{own_count, row_in}
+use Rattle.dp_cluster.specs.KeptFronts.{IsFrontOf, KeptFront, kept_weight}
 use Rattle.dp_laws.proofs.MergedSpans.{joined_span, kept_span, placed_at, product_split, product_without}
 
 -- the other agents' counts stay
@@ -197,106 +201,171 @@ module _ (m : Model) (k : KeptFront) (is : IsFrontOf m k) (e : k.is_exact ≡ tr
           (merged_is_front m k.horizon k.front i a b is.front lt
           ab free_a free_b) lt D s hs)
 
-      pub old_in : (c : ℕ) → c < own_count k i → old_class k i D c < product counts
-      old_in c hc = rw all_before (old_below rows (own_count k i) (behind k i) D c below hc)
+-- ---- run by run
 
-      pub kept_in_range : kept_class b (class_in k i D) < own_count k i
-      kept_in_range = kept_here
+regroup : (x l s L S : ℕ) → x * (L * S) + (l * S + s) ≡ (x * L + l) * S + s
+regroup x l s L S = omega arith
 
--- ---- as the code computes it
+-- where place j of the run of class c in a row stands, for n classes of which each has L joint classes behind
+-- it, each
+-- of S states: the joint class, and the state
+record StandsInRun (n L S row c j D s : ℕ) : Type 0 where
+  class_is : D / L % n ≡ c
+  row_is : D / L / n ≡ row
+  place : (x : ℕ) → (x * L + D % L) * S + s ≡ x * (L * S) + j
 
-module _ (m : Model) (k : KeptFront) (is : IsFrontOf m k) (e : k.is_exact ≡ true) (stored : IsStored k)
+stands_in_run : (n L S row c j p : ℕ) → p ≡ (row * n + c) * (L * S) + j → c < n → j < L * S
+    → StandsInRun n L S row c j (p / S) (p % S)
+stands_in_run n L S row c j p is hc hj =
+    let some : 0 < S = positive_right L S j hj in
+    let l_in : j / S < L = part_below L S j hj in
+    let s_in : j % S < S = mod_below j S some in
+    let split : j / S * S + j % S ≡ j = omega arith in
+    let here : p ≡ ((row * n + c) * L + j / S) * S + j % S =
+    is ∙ ap (λ (x : ℕ). (row * n + c) * (L * S) + x) (sym split) ∙ regroup (row * n + c) (j / S) (j % S) L S in
+    let class : p / S ≡ (row * n + c) * L + j / S =
+    ap (λ (x : ℕ). x / S) here ∙ div-mul-add ((row * n + c) * L + j / S) S (j % S) s_in in
+    let state : p % S ≡ j % S =
+    ap (λ (x : ℕ). x % S) here ∙ mod-mul-add ((row * n + c) * L + j / S) S (j % S) s_in in
+    let upper : p / S / L ≡ row * n + c = ap (λ (x : ℕ). x / L) class ∙ div-mul-add (row * n + c) L (j / S) l_in in
+    let lower : p / S % L ≡ j / S = ap (λ (x : ℕ). x % L) class ∙ mod-mul-add (row * n + c) L (j / S) l_in in
+    record {
+      class_is = ap (λ (x : ℕ). x % n) upper ∙ mod-mul-add row n c hc;
+      row_is = ap (λ (x : ℕ). x / n) upper ∙ div-mul-add row n c hc;
+      place = λ x. (λ i. (x * L + lower i) * S + state i) ∙ sym (regroup x (j / S) (j % S) L S)
+          ∙ ap (λ (y : ℕ). x * (L * S) + y) split;
+    }
+
+module _ (m : Model) (k : KeptFront) (is : IsFrontOf m k) (e : k.is_exact ≡ true)
     (lt : k.front.stage < k.horizon) (i a b : ℕ) (ab : a < b) (free_a : IsUnassigned i a k.front.agents)
-    (free_b : IsUnassigned i b k.front.agents) (joint count width : ℕ)
-    (ej : joint ≡ product (class_counts k.front.agents)) (ec : count ≡ own_count k i)
-    (ew : width ≡ behind k i) where
-  pub some_joint : 0 < product (class_counts k.front.agents)
-  some_joint = some_class m k.horizon k.front is.model is.front
+    (free_b : IsUnassigned i b k.front.agents) (ps : Places) (at : ArePlacesOf k i ps) where
+  pub some_class_left : 1 ≤ ps.classes
+  some_class_left = let b = b_in m k is e lt i a b ab free_a free_b in let e = at.classes in omega arith
 
-  pub few_joint : product (class_counts k.front.agents) ≤ 2 ^ 22
-  few_joint =
-      let states : 0 < k.states = let s = some_state m is.model in let e = is.states in omega arith in
-      count_most (product (class_counts k.front.agents)) k.states (2 ^ 22) states (stored.room lt)
+  module _ (row c : ℕ) (hr : row < ps.rows) (hc : c < ps.classes - 1) where
+    pub second_in : b < ps.classes
+    second_in = let lt = b_in m k is e lt i a b ab free_a free_b in let e = at.classes in omega arith
 
-  abbrev H : ℕ
-  H = product (take i (class_counts k.front.agents))
+    module _ (j : ℕ) (hj : j < ps.width) where
+      abbrev p : ℕ
+      p = (row * (ps.classes - 1) + c) * ps.width + j
 
-  whole : product (class_counts k.front.agents) ≡ own_count k i * behind k i * H
-  whole = all_before m k is e lt i a b ab free_a free_b ∙ turned H (own_count k i) (behind k i)
+      abbrev D : ℕ
+      D = p / k.states
+
+      abbrev s : ℕ
+      s = p % k.states
+
+      here : StandsInRun (own_count k i - 1) (behind k i) k.states row c j D s
+      here = stands_in_run (own_count k i - 1) (behind k i) k.states row c j p
+          (λ x. (row * (at.classes x - 1) + c) * at.width x + j)
+          (rw (sym at.classes) hc) (rw (sym at.width) hj)
+
+      -- the weight of a class at the place
+      read : (x : ℕ) → kept_weight k (old_class k i D x) s
+          ≡ weights_of k.weights ((row * ps.classes + x) * ps.width + j)
+      read x =
+          (λ y. weights_of k.weights (((here.row_is y * own_count k i + x) * behind k i + D % behind k i) *
+          k.states + s))
+          ∙ ap (weights_of k.weights) (here.place (row * own_count k i + x))
+          ∙ sym (λ y. weights_of k.weights ((row * at.classes y + x) * at.width y + j))
+
+      pub copied_is : c ≢ a → weights_of k.weights ((row * ps.classes + kept_class b c) * ps.width + j)
+          ≡ merged_at k i a b p
+      copied_is ne =
+          let no : (c == a) ≡ false = grind (arith, nat_tests) in
+          sym ((λ y. joined_weight k (old_class k i D (kept_class b (here.class_is y)))
+          (if here.class_is y == a then Some (old_class k i D b) else None) s)
+          ∙ (λ y. joined_weight k (old_class k i D (kept_class b c)) (if no y then Some (old_class k i D b) else
+          None) s)
+          ∙ read (kept_class b c))
+
+      pub summed_is : c ≡ a → span_add (weights_of k.weights ((row * ps.classes + kept_class b c) * ps.width + j))
+          (weights_of k.weights ((row * ps.classes + b) * ps.width + j)) ≡ merged_at k i a b p
+      summed_is same =
+          let yes : (c == a) ≡ true = grind (arith, nat_tests) in
+          sym ((λ y. joined_weight k (old_class k i D (kept_class b (here.class_is y)))
+          (if here.class_is y == a then Some (old_class k i D b) else None) s)
+          ∙ (λ y. joined_weight k (old_class k i D (kept_class b c)) (if yes y then Some (old_class k i D b) else
+          None) s)
+          ∙ (λ y. span_add (read (kept_class b c) y) (read b y)))
+
+      pub summed_room : size (merged_at k i a b p) < 2 ^ 127
+      summed_room =
+          let some_state : 0 < k.states = positive_right (behind k i) k.states j (rw (sym at.width) hj) in
+          let few : p < ps.rows * (ps.classes - 1) * ps.width = row_below (row * (ps.classes - 1) + c)
+          (ps.rows * (ps.classes - 1)) ps.width j (row_below row ps.rows (ps.classes - 1) c hr hc) hj in
+          let turned : ps.rows * (ps.classes - 1) * ps.width
+          ≡ product (take i (class_counts k.front.agents)) * (own_count k i - 1) * behind k i * k.states =
+          (λ y. at.rows y * (at.classes y - 1) * at.width y) ∙ factors _ _ _ _ in
+          merged_room m k is e lt i a b ab free_a free_b D (part_below _ k.states p (rw (sym turned) few)) s
+          (subst (λ (n : ℕ). s < n) is.states (mod_below p k.states some_state))
+        where
+          factors : (h n l t : ℕ) → h * n * (l * t) ≡ h * n * l * t
+          factors h n l t = omega arith
+
+    -- the runs that are copied and added
+    pub run_copied : (kept : List Span) → length kept ≡ ps.width → ((j : ℕ) → j < ps.width
+        → weights_of kept j ≡ weights_of k.weights ((row * ps.classes + kept_class b c) * ps.width + j)) → c ≢ a
+        → kept ≡ map (λ j. merged_at k i a b ((row * (ps.classes - 1) + c) * ps.width + j)) (range_with_len 0
+        ps.width)
+    run_copied kept size are ne =
+        as_map kept
+        ∙ ap (λ n. map (weights_of kept) (range_with_len 0 n)) size
+        ∙ map_alike (weights_of kept) _ ps.width (λ j hj. are j hj ∙ copied_is j hj ne)
+
+    pub run_summed : (kept other : List Span) → length kept ≡ ps.width → ((j : ℕ) → j < ps.width
+        → weights_of kept j ≡ weights_of k.weights ((row * ps.classes + kept_class b c) * ps.width + j))
+        → ((j : ℕ) → j < ps.width
+        → weights_of other j ≡ weights_of k.weights ((row * ps.classes + b) * ps.width + j)) → c ≡ a
+        → map (λ j. span_add (weights_of kept j) (weights_of other j)) (range_with_len 0 (length kept))
+        ≡ map (λ j. merged_at k i a b ((row * (ps.classes - 1) + c) * ps.width + j)) (range_with_len 0 ps.width)
+    run_summed kept other size are others same =
+        ap (λ n. map (λ j. span_add (weights_of kept j) (weights_of other j)) (range_with_len 0 n)) size
+        ∙ map_alike _ _ ps.width (λ j hj. (λ y. span_add (are j hj y) (others j hj y)) ∙ summed_is j hj same)
+
+    pub run_room : (kept other : List Span) → length kept ≡ ps.width → ((j : ℕ) → j < ps.width
+        → weights_of kept j ≡ weights_of k.weights ((row * ps.classes + kept_class b c) * ps.width + j))
+        → ((j : ℕ) → j < ps.width
+        → weights_of other j ≡ weights_of k.weights ((row * ps.classes + b) * ps.width + j)) → c ≡ a
+        → (j : ℕ) → j < length kept → size (span_add (weights_of kept j) (weights_of other j)) < 2 ^ 127
+    run_room kept other long are others same j lt =
+        let hj : j < ps.width = rw (sym long) lt in
+        subst (λ (w : Span). size w < 2 ^ 127)
+        (sym ((λ y. span_add (are j hj y) (others j hj y)) ∙ summed_is j hj same)) (summed_room j hj)
+
+  -- the weights of all rows
+  pub rows_are : (row : ℕ) → row ≡ ps.rows
+      → map (merged_at k i a b) (range_with_len 0 (row * ((ps.classes - 1) * ps.width)))
+      ≡ weight_rows (merged_weight k i a b) k.states
+      (product (take i (class_counts k.front.agents)) * (own_count k i - 1) * behind k i)
+  rows_are row all =
+      ap (λ n. map (merged_at k i a b) (range_with_len 0 n))
+      ((λ y. (all ∙ at.rows) y * ((at.classes y - 1) * at.width y)) ∙ factors _ _ _ _)
+      ∙ sym (rows_flat (merged_weight k i a b) k.states _)
     where
-      turned : (h n l : ℕ) → h * n * l ≡ n * l * h
-      turned h n l = omega arith
+      factors : (h n l t : ℕ) → h * (n * (l * t)) ≡ h * n * l * t
+      factors h n l t = omega arith
 
-  some_factor : 0 < own_count k i * behind k i
-  some_factor = let w = whole in let s = some_joint in let all : 0
-      < own_count k i * behind k i * H = omega arith in positive_left (own_count k i * behind k i) H 0 all
+-- one run more in a row, and one row more
+pub run_next : {X : Type 0} (f : ℕ → X) (n w row class : ℕ) (pre all all' : List X)
+    → all ≡ pre ++ map (λ j. f (row * (n * w) + j)) (range_with_len 0 (class * w))
+    → all' ≡ all ++ map (λ j. f ((row * n + class) * w + j)) (range_with_len 0 w)
+    → all' ≡ pre ++ map (λ j. f (row * (n * w) + j)) (range_with_len 0 ((class + 1) * w))
+run_next f n w row class pre all all' before pushed =
+    let both : class * w + w ≡ (class + 1) * w = omega arith in
+    pushed ∙ (λ y. before y ++ map (λ j. f (stands_at row n w class j y)) (range_with_len 0 w))
+    ∙ append_assoc pre _ _
+    ∙ ap (λ l. pre ++ l) (sym (map_plus (λ j. f (row * (n * w) + j)) (class * w) w)
+    ∙ ap (λ x. map (λ j. f (row * (n * w) + j)) (range_with_len 0 x)) both)
+  where
+    stands_at : (row n w class j : ℕ) → (row * n + class) * w + j ≡ row * (n * w) + (class * w + j)
+    stands_at row n w class j = omega arith
 
-  pub some_width : 0 < width
-  some_width = rw ew (positive_right (own_count k i) (behind k i) 0 some_factor)
-
-  pub some_product : 0 < count * width
-  some_product = rw (ec, ew) some_factor
-
-  pub few_product : count * width ≤ 2 ^ 22
-  few_product =
-      let w = whole in let s = some_joint in let few = few_joint in
-      let all : 0 < own_count k i * behind k i * H = omega arith in
-      rw (ec, ew) (most (own_count k i * behind k i) H (2 ^ 22)
-      (positive_right (own_count k i * behind k i) H 0 all) (omega arith))
-
-  pub some_count : 1 ≤ count
-  some_count = let b = b_in m k is e lt i a b ab free_a free_b in omega arith
-
-  pub rows_is : joint / (count * width) ≡ H
-  rows_is = (λ j. joint / (ec j * ew j)) ∙ divided (own_count k i * behind k i) H joint some_factor (ej ∙ whole)
-
-  pub rows_end : joint / (count * width) * (count - 1) * width ≡ H * (own_count k i - 1) * behind k i
-  rows_end = λ j. rows_is j * (ec j - 1) * ew j
-
-  module _ (D : ℕ) (below : D < joint / (count * width) * (count - 1) * width) where
-    pub below' : D < H * (own_count k i - 1) * behind k i
-    below' = let r = rows_end in omega arith
-
-    pub place_is : (c : ℕ) → (D / width / (count - 1) * count + c) * width + D % width ≡ old_class k i D c
-    place_is c = λ j. (D / ew j / (ec j - 1) * ec j + c) * ew j + D % ew j
-
-    pub class_is : D / width % (count - 1) ≡ class_in k i D
-    class_is = λ j. D / ew j % (ec j - 1)
-
-    pub place_room : (c : ℕ) → c < own_count k i → (D / width / (count - 1) * count + c) * width + D % width
-        < 2 ^ 22
-    place_room c hc = let p = place_is c in let inside = old_in m k is e lt i a b ab free_a free_b D below' c
-        hc in
-        let few = few_joint in omega arith
-
-    pub kept_room : kept_class b (D / width % (count - 1)) < own_count k i
-    kept_room = rw class_is (kept_in_range m k is e lt i a b ab free_a free_b D below')
-
-    -- the two joint classes that are put together
-    pub weight_is : (old : ℕ) (other : Option ℕ) (joined : ℕ)
-        → old ≡ (D / width / (count - 1) * count + kept_class b (D / width % (count - 1))) * width + D % width
-        → joined ≡ (D / width / (count - 1) * count + b) * width + D % width
-        → other ≡ (if D / width % (count - 1) == a then Some joined else None)
-        → joined_weight k old other ≡ merged_weight k i a b D
-    weight_is old other joined eo ej' eother =
-        let old_is : old ≡ old_class k i D (kept_class b (class_in k i D)) = eo ∙ place_is _
-        ∙ ap (λ (c : ℕ). old_class k i D (kept_class b c)) class_is in
-        let joined_is : joined ≡ old_class k i D b = ej' ∙ place_is b in
-        let other_is : other ≡ (if class_in k i D == a then Some (old_class k i D b) else None) = eother
-        ∙ (λ j. if class_is j == a then Some (joined_is j) else None) in
-        λ j. joined_weight k (old_is j) (other_is j)
-
-    pub other_in : (other : Option ℕ) (joined C : ℕ) → joined
-        ≡ (D / width / (count - 1) * count + b) * width + D % width
-        → other ≡ (if D / width % (count - 1) == a then Some joined else None) → other ≡ Some C
-        → C < product (class_counts k.front.agents)
-    other_in other joined C ej' eother some =
-        let inside = old_in m k is e lt i a b ab free_a free_b D below' b
-        (b_in m k is e lt i a b ab free_a free_b) in
-        let joined_is : joined ≡ old_class k i D b = ej' ∙ place_is b in
-        let same : joined ≡ C = picked (D / width % (count - 1) == a) joined C (sym eother ∙ some) in
-        omega arith
-      where
-        picked : (t : Bool) (x y : ℕ) → (if t then Some x else None) ≡ Some y → x ≡ y
-        picked true x y h = cc
-        picked false x y h = cc
+pub row_next : {X : Type 0} (f : ℕ → X) (w row : ℕ) (all all' : List X)
+    → all ≡ map f (range_with_len 0 (row * w)) → all' ≡ all ++ map (λ j. f (row * w + j)) (range_with_len 0 w)
+    → all' ≡ map f (range_with_len 0 ((row + 1) * w))
+row_next f w row all all' before pushed =
+    let both : row * w + w ≡ (row + 1) * w = omega arith in
+    pushed ∙ (λ y. before y ++ map (λ j. f (row * w + j)) (range_with_len 0 w)) ∙ sym (map_plus f (row * w) w)
+    ∙ ap (λ x. map f (range_with_len 0 x)) both

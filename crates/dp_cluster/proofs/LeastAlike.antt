@@ -1,15 +1,15 @@
 -- The least two places with items that are alike, as they are found from the last place down.
-use Rattle.std.proofs.Common.{inl, inr, ◌≡◌, ◌⊎◌, ℕ, suc, ◌+◌, ◌<◌, ◌≤◌, ◌++◌, List, [], ◌∷◌, Bool, true, false}
+use Rattle.std.proofs.Common.{inl, inr, ◌≡◌, ◌⊎◌, ℕ, suc, ◌<◌, ◌≤◌, ◌++◌, List, [], ◌∷◌, Bool, true, false}
 use Rattle.std.proofs.Common.{Option}
 use Rattle.std.proofs.Common.{Some, None, length, ℤ, refl, sym, ap, ◌∙◌, subst, arith}
 use Rattle.std.specs.Prelude.{◌↔◌, Vec, cond, nat_le}
-use Rattle.std.specs.BTreeMap.{BTreeMap, get}
-use Rattle.std.specs.Cmp.Lexicographic.{lists_ties, slice_cmp}
+use Rattle.std.specs.BTreeMap.{get}
+use Rattle.std.specs.Cmp.Lexicographic.{lists_ties}
 use Rattle.std.specs.Cmp.Rules.{signed_items}
 use Rattle.std.specs.Ordering.{int_cmp, is_eq}
 use Rattle.std.specs.declared.alloc.Global.{Global}
 use Rattle.std.proofs.lemmas.Bool.{cases_lt, le-leb, leb-true}
-use Rattle.dp_cluster.specs.EqualClasses.{AlikeAt, AreAlike, AreLeastAlike, HasWeights, IsFirstFrom, IsFoundFrom}
+use Rattle.dp_cluster.specs.EqualClasses.{AlikeAt, AreAlike, HasWeights, IsFirstFrom, IsFoundFrom}
 use Rattle.dp_cluster.specs.EqualClasses.{IsFree, IsLaterOf, IsLeastFrom, IsWeightless, earlier, vector_at}
 use Rattle.dp_cluster.specs.EqualClasses.{vector_cmp}
 use Rattle.dp_cluster.specs.declared.equal.Later.{Later}

@@ -25,3 +25,4 @@ pub mod RunsOfWeights
 pub mod WeightRows
 pub mod WideFronts
 pub mod Widening
+pub mod Weightless

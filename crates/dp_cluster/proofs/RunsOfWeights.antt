@@ -15,7 +15,7 @@ use Rattle.dp_cluster.specs.OwnWeights.{own_total, own_weight}
 
 -- ---- numbers up to a place
 
-map_plus : (f : ℕ → ℤ) (a b : ℕ)
+pub map_plus : {X : Type 0} (f : ℕ → X) (a b : ℕ)
     → map f (range_with_len 0 (a + b)) ≡ map f (range_with_len 0 a) ++ map (λ j. f (a + j)) (range_with_len 0 b)
 map_plus f a zero =
     let none : a + zero ≡ a = omega arith in
@@ -31,7 +31,7 @@ map_plus f a (suc b) =
     (omega arith)))
     ∙ ap (λ k. map f (range_with_len 0 a) ++ map (λ j. f (a + j)) (range_with_len 0 k)) next
 
-pub map_alike : (f g : ℕ → ℤ) (n : ℕ) → ((j : ℕ) → j < n → f j ≡ g j)
+pub map_alike : {X : Type 0} (f g : ℕ → X) (n : ℕ) → ((j : ℕ) → j < n → f j ≡ g j)
     → map f (range_with_len 0 n) ≡ map g (range_with_len 0 n)
 map_alike f g zero same = refl
 map_alike f g (suc n) same =

@@ -35,3 +35,7 @@ abbrev pub merged_weight : KeptFront → ℕ → ℕ → ℕ → ℕ → ℕ →
 merged_weight k i a b D =
     joined_weight k (old_class k i D (kept_class b (class_in k i D)))
     (if class_in k i D == a then Some (old_class k i D b) else None)
+
+-- the same in the list of all weights, one for each state: the weight at place p
+abbrev pub merged_at : KeptFront → ℕ → ℕ → ℕ → ℕ → Span
+merged_at k i a b p = merged_weight k i a b (p / k.states) (p % k.states)

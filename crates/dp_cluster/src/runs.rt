@@ -4,6 +4,7 @@ ghost use Rattle.std.specs.List.{range_with_len};
 ghost use Rattle.dp_base.specs.Sums.{nat_sum};
 ghost use Rattle.dp_spec.specs.Front.{class_counts};
 ghost use Rattle.dp_spec.specs.JointNumbers.{product};
+ghost use Rattle.dp_value.specs.WeightUpdates.{weights_of};
 ghost use Rattle.dp_cluster.specs.OwnPlaces.{ArePlacesOf};
 ghost use Rattle.dp_cluster.specs.OwnWeights.{AreInProportion, AreOwnRuns, IsFirstWithout, low_at, low_end, own_low};
 ghost use Rattle.dp_cluster.specs.OwnWeights.{own_total};
@@ -19,9 +20,9 @@ use std::alloc::Global;
 // run of `width` weights, so that the run of class `c` in row `r` begins at `(r * classes + c) * width`.
 #[derive(Clone, Copy)]
 pub(crate) struct Places {
-    rows: usize,
-    classes: usize,
-    width: usize,
+    pub(crate) rows: usize,
+    pub(crate) classes: usize,
+    pub(crate) width: usize,
 }
 
 impl Front {
@@ -45,13 +46,16 @@ impl Front {
 
     // The weights of a class in a row.
     #[inline]
-    fn run(&self, places: Places, class: u32, row: usize) -> &[Span]
+    pub(crate) fn run(&self, places: Places, class: u32, row: usize) -> &[Span]
         requires runs { AreOwnRuns self.now.weights places.rows places.classes places.width }
         requires class { class < places.classes }
         requires row { row < places.rows }
         ensures width { length result.now ≡ places.width }
         ensures are { (j : ℕ) → j < places.width →
             low_end result.now j ≡ low_end self.now.weights ((row * places.classes + class) * places.width + j) }
+        ensures spans { (j : ℕ) → j < places.width →
+            weights_of result.now j ≡ weights_of self.now.weights ((row * places.classes + class) * places.width
+            + j) }
     {
         let weights = self.weights();
         let start = (row * places.classes + class as usize) * places.width;

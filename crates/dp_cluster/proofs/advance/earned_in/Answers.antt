@@ -20,6 +20,7 @@ earned_after-requires c = record {
   sizes = advanceable true c.of.result c.args.m.now.model c.args.front.now
       c.requires.of_model c.invariant.ensures c.requires.stage (c.of.ensures ∙ c.scales.ensures)
       (sym c.is_exact.ensures ∙ c.if-is_exact.true);
+  actions = c.requires.actions;
 }
 
 pub returns-then-is_exact : goal.returns-then-is_exact
@@ -42,6 +43,7 @@ earned_after-requires-else-is_exact c = record {
       c.args.m.now.model c.args.front.now c.requires.of_model c.invariant.ensures c.requires.stage
       (c.of-else-is_exact.ensures ∙ c.scales-else-is_exact.ensures)
       (sym c.is_exact.ensures ∙ c.if-is_exact.false);
+  actions = c.requires.actions;
 }
 
 pub returns-else-is_exact : goal.returns-else-is_exact

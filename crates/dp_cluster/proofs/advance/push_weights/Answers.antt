@@ -1,36 +1,23 @@
-use Rattle.std.proofs.Common.{ℕ, ap, ◌∙◌}
-use Rattle.dp_spec.specs.Front.{class_counts}
-use Rattle.dp_spec.specs.Quantities.{class_weight_in, weights_after_in}
-use Rattle.dp_spec.specs.Steps.{advanced_front}
-use Rattle.dp_spec.specs.ClassSteps.{pair_number}
-use Rattle.dp_value.specs.WeightUpdates.{weights_of}
-use Rattle.dp_cluster.proofs.Advances.{pushable, pushed_is}
-use Rattle.dp_base.proofs.MadeLists.{next_after}
+use Rattle.std.proofs.Common.{◌≡◌, ◌++◌, ℕ, IfOk, List, map, subst}
+use Rattle.std.specs.List.{range_with_len}
+use Rattle.dp_spec.specs.Zeros.{nothing}
+use Rattle.dp_spec.specs.declared.span.Span.{Span}
+use Rattle.dp_cluster.proofs.Weightless.{led_none, led_some, nothing_follows}
 use Rattle.dp_cluster.proofs.advance.push_weights.Goals as goal
 
-pub next_weight-requires-clause-sizes : goal.next_weight-requires-clause-sizes
-next_weight-requires-clause-sizes g c =
-    let A = g.A.Arith.operations c.args.arith.now in
-    let C = g.A.Arith.calls c.args.arith.now in
-    let m = c.args.m.now.model in
-    let k = c.args.front.now in
-    let is = c.requires.sizes in
-    pushable A C m k is c.args.class c.requires.class (weights_of c.class_weights-before.result.now)
-    c.class_weights-before.ensures.are
+pub push_nexts-requires-clause-action : goal.push_nexts-requires-clause-action
+push_nexts-requires-clause-action g c =
+    led_some c.args.m.now.model c.args.front.now c.args.class _ _ c.in-Some.is c.requires.action
 
-pub loop-state-preserved : goal.loop-state-preserved
-loop-state-preserved g c =
-    let A = g.A.Arith.operations c.args.arith.now in
-    let C = g.A.Arith.calls c.args.arith.now in
+pub returns-in-None : goal.returns-in-None
+returns-in-None g c =
     let m = c.args.m.now.model in
     let k = c.args.front.now in
-    let is = c.requires.sizes in
-    let new = c.next_weight.ensures ∙ ap (λ (a : ℕ). weights_after_in A m
-    (weights_of c.class_weights-before.result.now) a c.args.seen c.loop-state.state)
-    c.action_of-action.ensures.is
-    ∙ pushed_is A C m k is c.args.class c.requires.class (weights_of c.class_weights-before.result.now)
-    c.class_weights-before.ensures.are c.args.seen c.loop-state.state c.requires.seen in
-    next_after (class_weight_in A m (advanced_front m k.front)
-    (pair_number (class_counts k.front.agents) m.observations c.args.class c.args.seen))
-    c.args.weights.now.items c.loop-state.weights.items _ c.loop-state.state _ new c.in_ok-push.ensures.items
-    c.loop-state.invariant
+    subst (λ (l : List Span). IfOk c.push_nothing.result (λ x. c.push_nothing.new.weights.items
+    ≡ c.args.weights.now.items ++ l))
+    (nothing_follows (g.A.Arith.operations c.args.arith.now) (g.A.Arith.calls c.args.arith.now) m k
+    c.requires.sizes c.args.class c.requires.class (led_none m k c.args.class _ c.in-None.is c.requires.action)
+    c.args.seen c.requires.seen)
+    (subst (λ (n : ℕ). IfOk c.push_nothing.result (λ x. c.push_nothing.new.weights.items
+    ≡ c.args.weights.now.items ++ map (λ s. nothing) (range_with_len 0 n))) c.states.ensures.is
+    c.push_nothing.ensures)

@@ -4,7 +4,7 @@ use Rattle.dp_spec.specs.Front.{class_counts}
 use Rattle.dp_spec.specs.Quantities.{class_weight_in}
 use Rattle.dp_spec.specs.Steps.{advanced_front}
 use Rattle.dp_spec.specs.ClassSteps.{pair_number}
-use Rattle.dp_cluster.proofs.advance.push_weights.Given as goal
+use Rattle.dp_cluster.proofs.advance.push_nexts.Given as goal
 
 abbrev pub invariant-loop-state : goal.invariant-loop-state
 invariant-loop-state g l =
