@@ -1,4 +1,5 @@
 pub mod ActionParts
+pub mod AdvancedLook
 pub mod Agreement
 pub mod Bounds
 pub mod Callers

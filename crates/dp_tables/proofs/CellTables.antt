@@ -1,16 +1,15 @@
 -- The cells of a table as its statements are written one after the other.
-use Rattle.std.proofs.Common.{◌≡◌, ℕ, zero, suc, ◌+◌, ◌%◌, ◌<◌, ◌≤◌, Bool, true, false, cond, List, [], ◌∷◌, ◌++◌}
+use Rattle.std.proofs.Common.{◌≡◌, ℕ, ◌+◌, ◌%◌, ◌<◌, ◌≤◌, Bool, true, false, cond, List, [], ◌∷◌, ◌++◌}
 use Rattle.std.proofs.Common.{length, get_or, map, take, drop, refl, sym, ap, subst, ◌∙◌, arith}
 use Rattle.std.specs.Prelude.{replicate}
 use Rattle.std.specs.List.{range_with_len}
-use Rattle.std.proofs.lemmas.List.{append-nil, take_more, length-replicate}
+use Rattle.std.proofs.lemmas.List.{append-nil, get_or-replicate, take_more, length-replicate}
 use Rattle.std.proofs.lemmas.List.Elements.{filter-append}
 use Rattle.std.proofs.lemmas.List.FromFn.{fill_by_all}
 use Rattle.dp_spec.specs.JointNumbers.{product, parts_of}
 use Rattle.dp_meaning.specs.declared.given_list.GivenList.{GivenList}
 use Rattle.dp_meaning.specs.declared.statement.Table.{Table}
 use Rattle.dp_meaning.specs.declared.statement.Table.TheVariants.{Trans, Obs, Reward}
-use Rattle.dp_meaning.specs.declared.statement.Part.{Part}
 use Rattle.dp_meaning.specs.declared.statement.Statement.{Statement}
 use Rattle.dp_meaning.specs.declared.text.Text.{Text}
 use Rattle.dp_meaning.specs.NameLists.{size_of}
@@ -23,7 +22,7 @@ use Rattle.dp_meaning.proofs.ModelLaws.{product_above}
 use Rattle.dp_meaning.proofs.ReadFields.{AreFieldsOf, IsStatementOver, Fills, said_statements}
 use Rattle.dp_meaning.proofs.ReadStatements.{AreNumbersOf}
 use Rattle.dp_meaning.proofs.SaidTexts.{said_is, some_states, some_joint_actions, some_joint_observations}
-use Rattle.dp_tables.specs.Writing.{ArePartsWithin, AreWritten, list_sizes, list_parts}
+use Rattle.dp_tables.specs.Writing.{ArePartsWithin, AreWritten, is_covered, list_sizes, list_parts}
 use Rattle.dp_tables.proofs.FlatCells.{product_of_lists, covered_by_lists, parts_within, width_of_parts}
 
 -- ---- the axes of a table
@@ -135,45 +134,11 @@ pub no_cells : (T : Type 0) (none : T) (axes : List Axis) (value : Cell → T) (
     → n ≡ product (list_sizes axes) → ((cell : Cell) → value cell ≡ none) → AreCells T none axes value cells
 no_cells T none axes value cells n e long empty = record {
   count = ap length e ∙ length-replicate n none ∙ long;
-  cell = λ k h. ap (λ ns. get_or ns k none) e ∙ none_at n k ∙ sym (empty (parts_of (map axis_size axes) k));
+  cell = λ k h. ap (λ ns. get_or ns k none) e ∙ get_or-replicate n k none none (subst (λ m. k < m) (sym long) h)
+      ∙ sym (empty (parts_of (map axis_size axes) k));
 }
-  where
-    none_at : (n k : ℕ) → get_or {A = T} (replicate n none) k none ≡ none
-    none_at zero k = refl
-    none_at (suc n) zero = refl
-    none_at (suc n) (suc k) = none_at n k
 
--- one more statement: the cells that it covers have what it gives them, and the others what they had
-more_cells : (T : Type 0) (none : T) (axes : List Axis) (before given after : Cell → T) (fields : List (List Part))
-    (block cells new : List T)
-    → AreFieldsOf axes fields → AreCells T none axes before cells → length new ≡ length cells
-    → AreWritten (list_sizes axes) (list_parts fields) block cells new
-    → ((k : ℕ) → k < product (map axis_size axes) → get_or block (k % length block) none
-    ≡ given (parts_of (map axis_size axes) k))
-    → ((cell : Cell) → covers axes fields cell ≡ true → after cell ≡ given cell)
-    → ((cell : Cell) → covers axes fields cell ≡ false → after cell ≡ before cell)
-    → AreCells T none axes after new
-more_cells T none axes before given after fields block cells new are so_far long written gives covered others =
-    record {
-      count = long ∙ so_far.count;
-      cell = cell;
-    }
-  where
-    cell : (k : ℕ) → k < product (list_sizes axes) → get_or new k none ≡ after (parts_of (map axis_size axes) k)
-    cell k h =
-        written k none (subst (λ n. k < n) (sym so_far.count) h)
-        ∙ ap (λ b. cond b (get_or block (k % length block) none) (get_or cells k none))
-        (covered_by_lists axes fields k are h)
-        ∙ by (covers axes fields (parts_of (map axis_size axes) k)) refl
-      where
-        by : (b : Bool) → covers axes fields (parts_of (map axis_size axes) k) ≡ b
-            → cond b (get_or block (k % length block) none) (get_or cells k none)
-            ≡ after (parts_of (map axis_size axes) k)
-        by true e = gives k (subst (λ n. k < n) (product_of_lists axes) h)
-            ∙ sym (covered (parts_of (map axis_size axes) k) e)
-        by false e = so_far.cell k h ∙ sym (others (parts_of (map axis_size axes) k) e)
-
--- a statement of the table is written
+-- a statement of the table is written: the cells that it covers have what it gives them, and the others what they had
 pub cells_taken : (T : Type 0) (none : T) (axes : List Axis) (value : List Statement → Cell → T) (given : Cell → T)
     (table : Table) (items : List Statement) (i : ℕ) (s : Statement)
     (block cells new old : List T) (sizes : List ℕ)
@@ -191,13 +156,30 @@ pub cells_taken : (T : Type 0) (none : T) (axes : List Axis) (value : List State
     → AreCells T none axes (value (statements_for table (take (i + 1) items))) new
 cells_taken T none axes value given table items i s block cells new old sizes are gives covered others h at same
     so_far e f long written =
-    let before = statements_for table (take i items) in
     subst (λ ss. AreCells T none axes (value ss) new) (sym (taken table items i s h at same))
-    (more_cells T none axes (value before) given (value (before ++ s ∷ [])) s.fields block cells new are so_far (long
-    ∙ ap length f)
-    (subst (λ ns. AreWritten ns (list_parts s.fields) block cells new) e
-    (subst (λ ns. AreWritten sizes (list_parts s.fields) block ns new) f written))
-    gives (covered before) (λ cell not. others before cell not ∙ ap (λ ss. value ss cell) (append-nil before)))
+    (record { count = long ∙ ap length f ∙ so_far.count; cell = cell })
+  where
+    before : List Statement
+    before = statements_for table (take i items)
+
+    cell : (k : ℕ) → k < product (list_sizes axes)
+        → get_or new k none ≡ value (before ++ s ∷ []) (parts_of (map axis_size axes) k)
+    cell k below =
+        written k none (subst (λ n. k < n) (sym (ap length f ∙ so_far.count)) below)
+        ∙ (λ j. cond (is_covered (e j) (list_parts s.fields) k) (get_or block (k % length block) none)
+        (get_or (f j) k none))
+        ∙ ap (λ b. cond b (get_or block (k % length block) none) (get_or cells k none))
+        (covered_by_lists axes s.fields k are below)
+        ∙ by (covers axes s.fields here) refl
+      where
+        here : Cell
+        here = parts_of (map axis_size axes) k
+
+        by : (b : Bool) → covers axes s.fields here ≡ b
+            → cond b (get_or block (k % length block) none) (get_or cells k none) ≡ value (before ++ s ∷ []) here
+        by true t = gives k (subst (λ n. k < n) (product_of_lists axes) below) ∙ sym (covered before here t)
+        by false t = so_far.cell k below
+            ∙ sym (others before here t ∙ ap (λ ss. value ss here) (append-nil before))
 
 -- the list of all cells
 pub all_cells : (T : Type 0) (none : T) (axes : List Axis) (value : Cell → T) (cells : List T) (sizes : List ℕ)

@@ -61,10 +61,6 @@ block_fits scale actions states len f table axes Identity is fills =
 
 -- ---- the value of a cell
 
-of_uniform : (scale actions states len k : ℕ) → get_or (scale / len ∷ []) (k % 1) 0 ≡ given_chance scale
-    (actions ∷ states ∷ len ∷ []) 0 [] Uniform
-of_uniform scale actions states len k = let e : k % 1 ≡ 0 = omega arith in ap (λ n. get_or (scale / len ∷ []) n 0) e
-
 -- the digits of a cell of a square
 of_identity : (scale actions len k : ℕ) → 0 < len
     → get_or (map (identity_at scale len) (range_with_len 0 (len * len))) (k % (len * len)) 0
@@ -109,7 +105,8 @@ pub value_at : (scale actions states len k f : ℕ) (table : Table) (axes : List
     → get_or (chance_block scale len v) (k % length (chance_block scale len v)) 0
     ≡ given_chance scale (map axis_size axes) f (parts_of (map axis_size axes) k) v
 value_at scale actions states len k f table axes Uniform is fills h =
-    of_uniform scale actions states len k
+    let e : k % 1 ≡ 0 = omega arith in
+    ap (λ n. get_or (scale / len ∷ []) n 0) e
     ∙ ap (λ ns. given_chance scale ns f (parts_of (map axis_size axes) k) Uniform) (sym is.sizes)
 value_at scale actions states len k f table axes (Numbers ns) is fills h =
     of_numbers ℕ 0 (chance_over scale) k f (map axis_size axes) ns h (fills

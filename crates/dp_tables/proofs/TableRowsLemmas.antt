@@ -2,9 +2,10 @@
 use Rattle.std.proofs.Common.{◌≡◌, ℕ, zero, suc, ◌+◌, ◌*◌, ◌/◌, ◌%◌, ◌<◌, ◌≤◌, Bool, true, false, cond, List, [], ◌∷◌}
 use Rattle.std.proofs.Common.{◌++◌, length, get_or, take, drop, refl, sym, ap, subst, ◌∙◌, arith, length-drop}
 use Rattle.std.proofs.Common.{length-take-le, get_or-take, get_or-drop, ext_get_or}
-use Rattle.std.specs.Prelude.{◌||◌, sum, reverse, Option, Some, None, Result, Ok, Err}
+use Rattle.std.specs.Prelude.{sum, reverse, Option, Some, None, Result, Ok, Err}
 use Rattle.std.specs.List.{find, list_any}
 use Rattle.std.proofs.lemmas.Nat.{div_below, div-add-mod'}
+use Rattle.std.proofs.lemmas.List.Folds.{list_any_at}
 use Rattle.std.proofs.lemmas.List.Sums.{sum_by-cons}
 use Rattle.std.proofs.lemmas.List.FromFn.{length-map-range_with_len, get_or-map-range_with_len}
 use Rattle.dp_spec.specs.JointNumbers.{joint_number, parts_of}
@@ -32,24 +33,15 @@ none_at : {X Y : Type 0} (p : X → Y → Bool) (xs : List X) (ys : List Y) (j :
 none_at p [] ys j d h e = refl
 none_at {X} {Y} p (x ∷ xs) ys j d h e = by (list_any (p x) ys) refl e (none_at p xs ys j d h)
   where
-    fails : (ys : List Y) (j : ℕ) → j < length ys → list_any (p x) ys ≡ false → p x (get_or ys j d) ≡ false
-    fails [] j h f = absurd (omega arith)
-    fails (y ∷ ys) zero h f = first (p x y) f
-      where
-        first : (b : Bool) → (b || list_any (p x) ys) ≡ false → b ≡ false
-        first true f = cc
-        first false f = refl
-    fails (y ∷ ys) (suc j) h f = fails ys j (omega arith) (rest (p x y) f)
-      where
-        rest : (b : Bool) → (b || list_any (p x) ys) ≡ false → list_any (p x) ys ≡ false
-        rest true f = absurd (cc)
-        rest false f = f
+    fails : (b : Bool) → p x (get_or ys j d) ≡ b → list_any (p x) ys ≡ false → b ≡ false
+    fails true t f = let some = list_any_at (p x) ys j d h t in absurd (cc)
+    fails false t f = refl
 
     by : (b : Bool) → list_any (p x) ys ≡ b → cond b (Some x) (find (λ z. list_any (p z) ys) xs) ≡ None
         → (find (λ z. list_any (p z) ys) xs ≡ None → find (λ z. p z (get_or ys j d)) xs ≡ None)
         → cond (p x (get_or ys j d)) (Some x) (find (λ z. p z (get_or ys j d)) xs) ≡ None
     by true s f rest = cc
-    by false s f rest = ap (λ b. cond b (Some x) (find (λ z. p z (get_or ys j d)) xs)) (fails ys j h s) ∙ rest f
+    by false s f rest = ap (λ b. cond b (Some x) (find (λ z. p z (get_or ys j d)) xs)) (fails _ refl s) ∙ rest f
 
 sum_of_none : (xs : List ℕ) → ((j : ℕ) → j < length xs → get_or xs j 0 ≡ 0) → sum xs ≡ 0
 sum_of_none [] h = refl
@@ -196,59 +188,47 @@ at_of_row : (scale : ℕ) (axes : List Axis) (statements : List Statement) (len 
 unfolding table_row
 at_of_row scale axes statements len row = refl
 
-rows_by_count : (text : Text) (table : Table) (scale len count : ℕ) (given : List ℕ)
-    → count ≡ joint_actions_in text * states_in text
-    → given ≡ given_cells text table scale len → AreRows scale count len given (table_rows text table scale len)
-rows_by_count text table scale len count given e g =
-    subst (λ n. AreRows scale n len given (table_rows text table scale len)) (sym e)
-    (subst (λ cells. AreRows scale (joint_actions_in text * states_in text) len cells
-    (table_rows text table scale len)) (sym g)
-    (rows_of_table text table scale len))
+-- by the scale, the row length and the sizes that calls answer, over cells that are those of the text
+module _ (text : Text) (table : Table) (scale len actions states : ℕ) (given : List ℕ)
+    (scale_is : scale ≡ scale_in text table) (len_is : len ≡ row_length text table)
+    (actions_is : actions ≡ joint_actions_in text) (states_is : states ≡ states_in text)
+    (given_is : given ≡ given_cells text table (scale_in text table) (row_length text table)) where
+  count_is : actions * states ≡ joint_actions_in text * states_in text
+  count_is = λ j. actions_is j * states_is j
 
-pub rows_fit : (text : Text) (table : Table) (scale len count : ℕ) (given : List ℕ)
-    → count ≡ joint_actions_in text * states_in text
-    → given ≡ given_cells text table scale len → count * len ≡ length given
-rows_fit text table scale len count given e g =
-    ap (λ n. n * len) e ∙ sym (ap length g ∙ length-map-range_with_len _ 0
-    (joint_actions_in text * states_in text * len))
+  own_given : given ≡ given_cells text table scale len
+  own_given = given_is ∙ (λ j. given_cells text table (sym scale_is j) (sym len_is j))
 
-pub rows_done : (text : Text) (table : Table) (scale len count : ℕ) (given cells : List ℕ) (repaired : ℕ)
-    → count ≡ joint_actions_in text * states_in text → given ≡ given_cells text table scale len
-    → RepairsRows scale count len given cells (Ok repaired)
-    → (end : ℕ) → repair_all end (table_rows text table scale len)
-    ≡ Ok (record { cells = cells; repaired = repaired })
-rows_done text table scale len count given cells repaired e g is end =
-    is end (table_rows text table scale len) (rows_by_count text table scale len count given e g)
+  own_rows : table_rows text table (scale_in text table) (row_length text table) ≡ table_rows text table scale len
+  own_rows = λ j. table_rows text table (sym scale_is j) (sym len_is j)
 
-pub rows_failed : (text : Text) (table : Table) (scale len count : ℕ) (given cells : List ℕ) (r : ℕ)
-    → count ≡ joint_actions_in text * states_in text → given ≡ given_cells text table scale len → r < count
-    → RepairsRows scale count len given cells (Err r) → (end : ℕ)
-    → repair_all end (table_rows text table scale len)
-    ≡ Err (fault_of_row end (statement_at (last_of_row (axes_of text.header table)
-    (statements_for table text.statements)
-    (row_cells (parts_of (joint_actions_in text ∷ states_in text ∷ []) r) len))))
-rows_failed text table scale len count given cells r e g h is end =
-    let d : Row = record { cells = []; scale = 0; at = None } in
-    let fault : Option ℕ → Result Repaired Fault = λ o. Err (fault_of_row end o) in
-    is end (table_rows text table scale len) d (rows_by_count text table scale len count given e g)
-    ∙ ap fault (ap (λ row. row.at) (row_of_table text table scale len r d (subst (λ n. r < n) e h))
-    ∙ at_of_row scale _ _ len _)
+  are_rows : AreRows scale (actions * states) len given (table_rows text table scale len)
+  are_rows =
+      subst (λ n. AreRows scale n len given (table_rows text table scale len)) (sym count_is)
+      (subst (λ cells. AreRows scale (joint_actions_in text * states_in text) len cells
+      (table_rows text table scale len)) (sym own_given) (rows_of_table text table scale len))
 
-pub both_sizes : (text : Text) (actions states : ℕ) → actions ≡ joint_actions_in text → states ≡ states_in text
-    → actions * states ≡ joint_actions_in text * states_in text
-both_sizes text actions states e f = ap (λ n. n * states) e ∙ ap (λ n. joint_actions_in text * n) f
+  pub rows_fit : actions * states * len ≡ length given
+  rows_fit =
+      ap (λ n. n * len) count_is ∙ sym (ap length own_given ∙ length-map-range_with_len _ 0
+      (joint_actions_in text * states_in text * len))
 
--- ---- over the scale and the length of the table's rows
+  pub rows_done : (cells : List ℕ) (repaired : ℕ)
+      → RepairsRows scale (actions * states) len given cells (Ok repaired) → (end : ℕ)
+      → repair_all end (table_rows text table (scale_in text table) (row_length text table))
+      ≡ Ok (record { cells = cells; repaired = repaired })
+  rows_done cells repaired is end =
+      ap (repair_all end) own_rows ∙ is end (table_rows text table scale len) are_rows
 
-pub given_over : (text : Text) (table : Table) (scale len : ℕ) (given : List ℕ) → scale ≡ scale_in text table
-    → len ≡ row_length text table → given ≡ given_cells text table (scale_in text table) (row_length text table)
-    → given ≡ given_cells text table scale len
-given_over text table scale len given e f g =
-    g ∙ ap (λ n. given_cells text table n (row_length text table)) (sym e)
-    ∙ ap (given_cells text table scale) (sym f)
-
-pub rows_over : (text : Text) (table : Table) (scale len : ℕ) → scale ≡ scale_in text table
-    → len ≡ row_length text table
-    → table_rows text table (scale_in text table) (row_length text table) ≡ table_rows text table scale len
-rows_over text table scale len e f =
-    ap (λ n. table_rows text table n (row_length text table)) (sym e) ∙ ap (table_rows text table scale) (sym f)
+  pub rows_failed : (cells : List ℕ) (r : ℕ) → r < actions * states
+      → RepairsRows scale (actions * states) len given cells (Err r) → (end : ℕ)
+      → repair_all end (table_rows text table (scale_in text table) (row_length text table))
+      ≡ Err (fault_of_row end (statement_at (last_of_row (axes_of text.header table)
+      (statements_for table text.statements)
+      (row_cells (parts_of (joint_actions_in text ∷ states_in text ∷ []) r) len))))
+  rows_failed cells r h is end =
+      let d : Row = record { cells = []; scale = 0; at = None } in
+      let fault : Option ℕ → Result Repaired Fault = λ o. Err (fault_of_row end o) in
+      ap (repair_all end) own_rows ∙ is end (table_rows text table scale len) d are_rows
+      ∙ ap fault (ap (λ row. row.at) (row_of_table text table scale len r d (subst (λ n. r < n) count_is h))
+      ∙ at_of_row scale _ _ len _)

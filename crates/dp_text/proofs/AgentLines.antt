@@ -28,66 +28,15 @@ module _ (next : ℕ) where
   unfolding name_lists
   first_line n line lines = refl
 
-  left : (agents i : ℕ) → i < agents → agents - i ≡ suc (agents - (i + 1))
-  left agents i h = omega arith
-
-  -- the line of agent i, and those of the agents behind it
-  at_agent : (agents i : ℕ) (lines : List (List Piece)) (line : List Piece) → i < agents
-      → Some line ≡ slice_get lines i
-      → from_agent agents i lines
-      ≡ (name_list next line >>= λ first. from_agent agents (i + 1) lines >>= λ others. Ok (first ∷ others))
-  at_agent agents i lines line some is =
-      rw (left agents i some, drop_at lines i line (sym is), first_line) refl
-
-  pub line_one : (all : Result (List GivenList) Fault) (lists : List GivenList) (agents i : ℕ)
-      (lines : List (List Piece))
-      (line : List Piece) (list : GivenList)
-      → i < agents → Some line ≡ slice_get lines i → name_list next line ≡ Ok list
-      → Continues all lists (from_agent agents i lines)
-      → Continues all (lists ++ list ∷ []) (from_agent agents (i + 1) lines)
-  line_one all lists agents i lines line list some is read h =
-      let steps : from_agent agents i lines ≡ (from_agent agents (i + 1) lines >>= λ others. Ok (list ∷ others)) =
-      at_agent agents i lines line some is ∙ ap (λ (x : Result GivenList Fault). x >>= λ first.
-      from_agent agents (i + 1)
-      lines >>= λ others. Ok (first ∷ others)) read in
-      continues_one all lists list (from_agent agents (i + 1) lines)
-      (subst (λ (x : Result (List GivenList) Fault). Continues all lists x) steps h)
-
   wrong_behind : (lists : List GivenList) (meant : Result GivenList Fault)
-      (more : GivenList → Result (List GivenList) Fault)
-      (wrong : TextFault)
+      (more : GivenList → Result (List GivenList) Fault) (wrong : TextFault)
       → Reads meant (Err wrong) → Reads (behind lists (meant >>= more)) (Err wrong)
   wrong_behind lists meant more (At e) h = rw h refl
   wrong_behind lists meant more Memory h = tt
 
-  pub line_wrong : (all : Result (List GivenList) Fault) (lists : List GivenList) (agents i : ℕ)
-      (lines : List (List Piece))
-      (line : List Piece) (wrong : TextFault)
-      → i < agents → Some line ≡ slice_get lines i → Reads (name_list next line) (Err wrong)
-      → Continues all lists (from_agent agents i lines)
-      → Reads all (Err wrong)
-  line_wrong all lists agents i lines line wrong some is read h =
-      let steps = h.is ∙ ap (behind lists) (at_agent agents i lines line some is) in
-      subst (λ (x : Result (List GivenList) Fault). Reads x (Err wrong)) (sym steps)
-      (wrong_behind lists (name_list next line) (λ first. from_agent agents (i + 1) lines >>= λ others.
-      Ok (first ∷ others)) wrong read)
-
   missing : (n : ℕ) → name_lists next (suc n) [] ≡ fault Expected next
   unfolding name_lists
   missing n = refl
-
-  pub line_missing : (all : Result (List GivenList) Fault) (lists : List GivenList) (agents i : ℕ)
-      (lines : List (List Piece))
-      → i < agents → None ≡ slice_get lines i → Continues all lists (from_agent agents i lines)
-      → all ≡ fault Expected next
-  line_missing all lists agents i lines some is h =
-      let steps : from_agent agents i lines ≡ fault Expected next =
-      rw (left agents i some, drop_none lines i (sym is))
-      (missing (agents - (i + 1))) in
-      h.is ∙ ap (behind lists) steps
-
-  none_left : (agents i : ℕ) → agents ≤ i → agents - i ≡ 0
-  none_left agents i h = omega arith
 
   all_lines : name_lists next 0 [] ≡ Ok []
   unfolding name_lists
@@ -97,42 +46,62 @@ module _ (next : ℕ) where
   unfolding name_lists
   too_many line lines = refl
 
-  pub lines_end : (all : Result (List GivenList) Fault) (lists : List GivenList) (agents i : ℕ)
-      (lines : List (List Piece))
-      → agents ≤ i → None ≡ slice_get lines i → Continues all lists (from_agent agents i lines) → all ≡ Ok lists
-  lines_end all lists agents i lines none is h =
-      let steps : from_agent agents i lines ≡ Ok [] = rw (
-        none_left agents i none,
-        drop_none lines i (sym is),
-      ) all_lines in
-      continues_none all lists (subst (λ (x : Result (List GivenList) Fault). Continues all lists x) steps h)
+  module _ (all : Result (List GivenList) Fault) (lists : List GivenList) (agents i : ℕ) (lines : List (List Piece)) where
+    abbrev GoesOn : Type 0
+    GoesOn = Continues all lists (from_agent agents i lines)
 
-  one_beyond : (agents i : ℕ) (lines : List (List Piece)) (line : List Piece) → agents ≤ i
-      → Some line ≡ slice_get lines i
-      → from_agent agents i lines ≡ ended [] line
-  one_beyond agents i lines line none is = rw (
-    none_left agents i none,
-    drop_at lines i line (sym is),
-  ) (too_many line (drop (i + 1) lines))
+    left : i < agents → agents - i ≡ suc (agents - (i + 1))
+    left h = omega arith
 
-  pub empty_line : (all : Result (List GivenList) Fault) (lists : List GivenList) (agents i : ℕ)
-      (lines : List (List Piece))
-      (line : List Piece)
-      → agents ≤ i → Some line ≡ slice_get lines i → ends line ≡ Ok tt
-      → Continues all lists (from_agent agents i lines) → all ≡ Ok lists
-  empty_line all lists agents i lines line none is at_end h =
-      let steps : from_agent agents i lines ≡ Ok [] = one_beyond agents i lines line none is
-      ∙ ended_ok {A = List GivenList} [] line
-      at_end in
-      continues_none all lists (subst (λ (x : Result (List GivenList) Fault). Continues all lists x) steps h)
+    none_left : agents ≤ i → agents - i ≡ 0
+    none_left h = omega arith
 
-  pub line_beyond : (all : Result (List GivenList) Fault) (lists : List GivenList) (agents i : ℕ)
-      (lines : List (List Piece))
-      (line : List Piece) (e : Fault)
-      → agents ≤ i → Some line ≡ slice_get lines i → ends line ≡ Err e
-      → Continues all lists (from_agent agents i lines) → all ≡ Err e
-  line_beyond all lists agents i lines line e none is goes_on h =
-      let steps : from_agent agents i lines ≡ Err e = one_beyond agents i lines line none is
-      ∙ ended_fault {A = List GivenList} [] line e
-      goes_on in
-      h.is ∙ ap (behind lists) steps
+    -- the line of agent i, and those of the agents behind it
+    at_agent : (line : List Piece) → i < agents → Some line ≡ slice_get lines i
+        → from_agent agents i lines
+        ≡ (name_list next line >>= λ first. from_agent agents (i + 1) lines >>= λ others. Ok (first ∷ others))
+    at_agent line some is = rw (left some, drop_at lines i line (sym is), first_line) refl
+
+    pub line_one : (line : List Piece) (list : GivenList) → i < agents → Some line ≡ slice_get lines i
+        → name_list next line ≡ Ok list → GoesOn
+        → Continues all (lists ++ list ∷ []) (from_agent agents (i + 1) lines)
+    line_one line list some is read h =
+        continues_one all lists list (from_agent agents (i + 1) lines)
+        (subst (Continues all lists) (at_agent line some is ∙ ap (λ (x : Result GivenList Fault). x >>= λ first.
+        from_agent agents (i + 1) lines >>= λ others. Ok (first ∷ others)) read) h)
+
+    pub line_wrong : (line : List Piece) (wrong : TextFault) → i < agents → Some line ≡ slice_get lines i
+        → Reads (name_list next line) (Err wrong) → GoesOn → Reads all (Err wrong)
+    line_wrong line wrong some is read h =
+        subst (λ (x : Result (List GivenList) Fault). Reads x (Err wrong))
+        (sym (h.is ∙ ap (behind lists) (at_agent line some is)))
+        (wrong_behind lists (name_list next line) (λ first. from_agent agents (i + 1) lines >>= λ others.
+        Ok (first ∷ others)) wrong read)
+
+    pub line_missing : i < agents → None ≡ slice_get lines i → GoesOn → all ≡ fault Expected next
+    line_missing some is h =
+        let steps : from_agent agents i lines ≡ fault Expected next =
+        rw (left some, drop_none lines i (sym is)) (missing (agents - (i + 1))) in
+        h.is ∙ ap (behind lists) steps
+
+    pub lines_end : agents ≤ i → None ≡ slice_get lines i → GoesOn → all ≡ Ok lists
+    lines_end none is h =
+        let steps : from_agent agents i lines ≡ Ok [] =
+        rw (none_left none, drop_none lines i (sym is)) all_lines in
+        continues_none all lists (subst (Continues all lists) steps h)
+
+    one_beyond : (line : List Piece) → agents ≤ i → Some line ≡ slice_get lines i
+        → from_agent agents i lines ≡ ended [] line
+    one_beyond line none is = rw (none_left none, drop_at lines i line (sym is)) (too_many line (drop (i + 1) lines))
+
+    pub empty_line : (line : List Piece) → agents ≤ i → Some line ≡ slice_get lines i → ends line ≡ Ok tt → GoesOn
+        → all ≡ Ok lists
+    empty_line line none is at_end h =
+        continues_none all lists (subst (Continues all lists)
+        (one_beyond line none is ∙ ended_ok {A = List GivenList} [] line at_end) h)
+
+    pub line_beyond : (line : List Piece) (e : Fault) → agents ≤ i → Some line ≡ slice_get lines i
+        → ends line ≡ Err e → GoesOn → all ≡ Err e
+    line_beyond line e none is goes_on h =
+        h.is ∙ ap (behind lists)
+        (one_beyond line none is ∙ ended_fault {A = List GivenList} [] line e goes_on)

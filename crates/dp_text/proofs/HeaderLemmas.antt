@@ -85,11 +85,3 @@ module _ (end : ℕ) (entries : Entries) where
       let none : drop (length items) items ≡ [] = drop_of_length-le items (omega arith) in
       so_far ∙ (ap (header_of end entries) (drop_of_length-le items past)
       ∙ (no_more ∙ ap (header_and end entries) (sym none)))
-
--- what is read is the same along equal meanings
-pub reads_header_along : (items : List Item) (all rest : Result (Header × List Item) Fault)
-    (answer : Result (Header × ℕ) TextFault)
-    → all ≡ rest
-    → ReadsHeader items rest answer → ReadsHeader items all answer
-reads_header_along items all rest answer is h = subst (λ (x : Result (Header × List Item) Fault).
-    ReadsHeader items x answer) (sym is) h

@@ -1,5 +1,5 @@
 -- The text of a file from its tokens.
-use Rattle.std.proofs.Common.{◌≡◌, ℕ, List, length, map, Result, Ok, Err, refl, ap, ◌∙◌}
+use Rattle.std.proofs.Common.{◌≡◌, ℕ, List, length, map, Result, Ok, refl, ap, ◌∙◌}
 use Rattle.dp_lexer.specs.declared.Token.{Token}
 use Rattle.dp_lexer.specs.TokenLaws.{AreTokensOf}
 use Rattle.dp_lexer.specs.Tokens.{tokens_of}

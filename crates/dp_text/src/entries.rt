@@ -64,16 +64,12 @@ pub(crate) fn start_of(
         Some(parts) => parts,
         None => return Err(TextFault::At(fault(Why::Expected, next))),
     };
-    let start = if says(b"uniform", &piece) {
-        any_state(&behind)
+    if says(b"uniform", &piece) {
+        Ok(any_state(&behind)?)
     } else if is_one_state(states.size(), &piece, &behind) {
-        lone_state(states, &piece, &behind)
+        Ok(lone_state(states, &piece, &behind)?)
     } else {
-        return state_row(alloc, next, states.size(), piece.at(), pieces);
-    };
-    match start {
-        Ok(start) => Ok(start),
-        Err(fault) => Err(TextFault::At(fault)),
+        state_row(alloc, next, states.size(), piece.at(), pieces)
     }
 }
 
@@ -116,8 +112,6 @@ fn state_row(
 ) -> Result<Start, TextFault>
     ensures { Reads (steps.state_row next states at pieces.now) result }
 {
-    match numbers(alloc, Range::Chance, next, u64::from(states), pieces) {
-        Ok(row) => Ok(Start::StartRow(at, row)),
-        Err(fault) => Err(fault),
-    }
+    let row = numbers(alloc, Range::Chance, next, u64::from(states), pieces)?;
+    Ok(Start::StartRow(at, row))
 }

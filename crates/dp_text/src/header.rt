@@ -1,5 +1,5 @@
 //! The header of a text.
-ghost use Rattle.std.specs.Prelude.{◌≡◌, List, drop};
+ghost use Rattle.std.specs.Prelude.{◌≡◌, List, drop, Ok, Err, MatchResult};
 ghost use Rattle.dp_meaning.specs.Header as spec;
 ghost use Rattle.dp_meaning.specs.Items as spec_items;
 ghost use Rattle.dp_text.specs.HeaderSteps.{ReadsHeader, header_and};
@@ -54,10 +54,8 @@ fn header_behind(at: u32, entries: Entries, taken: usize) -> Result<(Header, usi
     ensures { (items : List spec_items.Item) →
         ReadsHeader items (header_and at entries (drop taken items)) result }
 {
-    match header_with(at, entries) {
-        Ok(header) => Ok((header, taken)),
-        Err(fault) => Err(TextFault::At(fault)),
-    }
+    let header = header_with(at, entries)?;
+    Ok((header, taken))
 }
 
 /// What an item is, by its first token.
@@ -147,126 +145,110 @@ pub(crate) fn with_entry(
     }
 }
 
+/// No such entry has come yet.
+fn unless_come<T>(at: u32, entry: &Option<T>) -> Result<(), Fault>
+    ensures { result ≡ spec.unless_come at entry.now }
+{
+    match entry {
+        Some(_) => Err(fault(Why::Header, at)),
+        None => Ok(()),
+    }
+}
+
+/// Such an entry has come.
+fn come<T>(at: u32, entry: &Option<T>) -> Result<&T, Fault>
+    ensures { MatchResult result (λ value. spec.entry at entry.now ≡ Ok value.now)
+        (λ why. spec.entry at entry.now ≡ Err why) }
+{
+    match entry {
+        Some(value) => Ok(value),
+        None => Err(fault(Why::Header, at)),
+    }
+}
+
 #[tactic(auto, unfolding(dp_meaning::specs::Header::with_entry))]
 fn with_agents(alloc: Global, item: &Item, entries: Entries) -> Result<Entries, TextFault>
     ensures { Reads (spec.with_entry Entry.Agents item.now entries) result }
 {
-    if entries.agents.is_some() {
-        return Err(TextFault::At(fault(Why::Header, item.at())));
-    }
-    match name_list(alloc, item.next(), &item.value()) {
-        Ok(agents) => Ok(Entries {
-            agents: Some(agents),
-            ..entries
-        }),
-        Err(fault) => Err(fault),
-    }
+    unless_come(item.at(), &entries.agents)?;
+    let agents = name_list(alloc, item.next(), &item.value())?;
+    Ok(Entries {
+        agents: Some(agents),
+        ..entries
+    })
 }
 
 #[tactic(auto, unfolding(dp_meaning::specs::Header::with_entry))]
 fn with_discount(item: &Item, entries: Entries) -> Result<Entries, TextFault>
     ensures { Reads (spec.with_entry Entry.Discount item.now entries) result }
 {
-    if entries.discount.is_some() {
-        return Err(TextFault::At(fault(Why::Header, item.at())));
-    }
-    match discount_of(item.next(), &item.value()) {
-        Ok(discount) => Ok(Entries {
-            discount: Some(discount),
-            ..entries
-        }),
-        Err(fault) => Err(TextFault::At(fault)),
-    }
+    unless_come(item.at(), &entries.discount)?;
+    let discount = discount_of(item.next(), &item.value())?;
+    Ok(Entries {
+        discount: Some(discount),
+        ..entries
+    })
 }
 
 #[tactic(auto, unfolding(dp_meaning::specs::Header::with_entry))]
 fn with_values(item: &Item, entries: Entries) -> Result<Entries, TextFault>
     ensures { Reads (spec.with_entry Entry.Values item.now entries) result }
 {
-    if entries.cost.is_some() {
-        return Err(TextFault::At(fault(Why::Header, item.at())));
-    }
-    match is_cost(item.next(), &item.value()) {
-        Ok(cost) => Ok(Entries {
-            cost: Some(cost),
-            ..entries
-        }),
-        Err(fault) => Err(TextFault::At(fault)),
-    }
+    unless_come(item.at(), &entries.cost)?;
+    let cost = is_cost(item.next(), &item.value())?;
+    Ok(Entries {
+        cost: Some(cost),
+        ..entries
+    })
 }
 
 #[tactic(auto, unfolding(dp_meaning::specs::Header::with_entry))]
 fn with_states(alloc: Global, item: &Item, entries: Entries) -> Result<Entries, TextFault>
     ensures { Reads (spec.with_entry Entry.States item.now entries) result }
 {
-    if entries.states.is_some() {
-        return Err(TextFault::At(fault(Why::Header, item.at())));
-    }
-    match name_list(alloc, item.next(), &item.value()) {
-        Ok(states) => Ok(Entries {
-            states: Some(states),
-            ..entries
-        }),
-        Err(fault) => Err(fault),
-    }
+    unless_come(item.at(), &entries.states)?;
+    let states = name_list(alloc, item.next(), &item.value())?;
+    Ok(Entries {
+        states: Some(states),
+        ..entries
+    })
 }
 
 #[tactic(auto, unfolding(dp_meaning::specs::Header::with_entry))]
 fn with_start(alloc: Global, item: &Item, entries: Entries) -> Result<Entries, TextFault>
     ensures { Reads (spec.with_entry Entry.StartEntry item.now entries) result }
 {
-    if entries.start.is_some() {
-        return Err(TextFault::At(fault(Why::Header, item.at())));
-    }
-    let states = match &entries.states {
-        Some(states) => states,
-        None => return Err(TextFault::At(fault(Why::Header, item.at()))),
-    };
-    match start_of(alloc, states, item.next(), &item.value()) {
-        Ok(start) => Ok(Entries {
-            start: Some(start),
-            ..entries
-        }),
-        Err(fault) => Err(fault),
-    }
+    unless_come(item.at(), &entries.start)?;
+    let states = come(item.at(), &entries.states)?;
+    let start = start_of(alloc, states, item.next(), &item.value())?;
+    Ok(Entries {
+        start: Some(start),
+        ..entries
+    })
 }
 
 #[tactic(auto, unfolding(dp_meaning::specs::Header::with_entry))]
 fn with_actions(alloc: Global, item: &Item, entries: Entries) -> Result<Entries, TextFault>
     ensures { Reads (spec.with_entry Entry.Actions item.now entries) result }
 {
-    if entries.actions.is_some() {
-        return Err(TextFault::At(fault(Why::Header, item.at())));
-    }
-    let agents = match &entries.agents {
-        Some(agents) => agents.size(),
-        None => return Err(TextFault::At(fault(Why::Header, item.at()))),
-    };
-    match name_lists(alloc, agents, item) {
-        Ok(actions) => Ok(Entries {
-            actions: Some(actions),
-            ..entries
-        }),
-        Err(fault) => Err(fault),
-    }
+    unless_come(item.at(), &entries.actions)?;
+    let agents = come(item.at(), &entries.agents)?.size();
+    let actions = name_lists(alloc, agents, item)?;
+    Ok(Entries {
+        actions: Some(actions),
+        ..entries
+    })
 }
 
 #[tactic(auto, unfolding(dp_meaning::specs::Header::with_entry))]
 fn with_observations(alloc: Global, item: &Item, entries: Entries) -> Result<Entries, TextFault>
     ensures { Reads (spec.with_entry Entry.Observations item.now entries) result }
 {
-    if entries.observations.is_some() {
-        return Err(TextFault::At(fault(Why::Header, item.at())));
-    }
-    let agents = match &entries.agents {
-        Some(agents) => agents.size(),
-        None => return Err(TextFault::At(fault(Why::Header, item.at()))),
-    };
-    match name_lists(alloc, agents, item) {
-        Ok(observations) => Ok(Entries {
-            observations: Some(observations),
-            ..entries
-        }),
-        Err(fault) => Err(fault),
-    }
+    unless_come(item.at(), &entries.observations)?;
+    let agents = come(item.at(), &entries.agents)?.size();
+    let observations = name_lists(alloc, agents, item)?;
+    Ok(Entries {
+        observations: Some(observations),
+        ..entries
+    })
 }

@@ -24,14 +24,8 @@ pub(crate) fn name_list(alloc: Global, next: u32, pieces: &Pieces) -> Result<Giv
 {
     match pieces.split_first() {
         None => Err(TextFault::At(fault(Why::Expected, next))),
-        Some((first, behind)) if is_index(&first) => match counted(&first, &behind) {
-            Ok(list) => Ok(list),
-            Err(fault) => Err(TextFault::At(fault)),
-        },
-        Some(_) => match names(alloc, pieces) {
-            Ok(names) => Ok(GivenList::Named(names)),
-            Err(fault) => Err(fault),
-        },
+        Some((first, behind)) if is_index(&first) => Ok(counted(&first, &behind)?),
+        Some(_) => Ok(GivenList::Named(names(alloc, pieces)?)),
     }
 }
 

@@ -31,10 +31,8 @@ pub(crate) fn part_of(list: &GivenList, piece: &Piece) -> Result<Part, Fault>
     if is_star(piece) {
         return Ok(Part::Any);
     }
-    match find_in(list, piece) {
-        Ok(place) => Ok(Part::Only(place)),
-        Err(fault) => Err(fault),
-    }
+    let place = find_in(list, piece)?;
+    Ok(Part::Only(place))
 }
 
 /// Whether a field consists of one `*`.

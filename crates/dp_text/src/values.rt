@@ -45,10 +45,8 @@ fn is_identity(table: Table, left: usize, first: &Piece) -> bool
 fn alone(value: Value, pieces: &Pieces) -> Result<Value, TextFault>
     ensures { Reads (numbers_spec.ended value pieces.now) result }
 {
-    match ended(pieces) {
-        Ok(()) => Ok(value),
-        Err(fault) => Err(TextFault::At(fault)),
-    }
+    ended(pieces)?;
+    Ok(value)
 }
 
 /// A value of exactly so many Numbers.
@@ -61,10 +59,8 @@ fn given(
 ) -> Result<Value, TextFault>
     ensures { Reads (given_numbers table next count pieces.now) result }
 {
-    match numbers(alloc, range_of(table), next, count, pieces) {
-        Ok(values) => Ok(Value::Numbers(values)),
-        Err(fault) => Err(fault),
-    }
+    let values = numbers(alloc, range_of(table), next, count, pieces)?;
+    Ok(Value::Numbers(values))
 }
 
 /// The value of a statement with so many fields.

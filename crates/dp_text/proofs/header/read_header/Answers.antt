@@ -1,9 +1,8 @@
-use Rattle.std.proofs.Common.{refl, drop, ap, sym, ◌∙◌, arith}
+use Rattle.std.proofs.Common.{refl, drop, ap, subst, sym, ◌∙◌, arith}
 use Rattle.std.proofs.lemmas.Result.{err_from_is_err_and}
 use Rattle.dp_meaning.specs.Header.{header_of, no_entries}
-use Rattle.dp_text.specs.HeaderSteps.{header_and}
+use Rattle.dp_text.specs.HeaderSteps.{ReadsHeader, header_and}
 use Rattle.dp_text.proofs.HeaderLemmas.{entry_one, entry_wrong, statement_one, no_item, header_last}
-use Rattle.dp_text.proofs.HeaderLemmas.{reads_header_along}
 use Rattle.dp_text.proofs.header.read_header.Goals as goal
 
 pub loop-place-preserved : goal.loop-place-preserved
@@ -33,9 +32,8 @@ returns-in-StatementOf c =
     let all = header_of text.end no_entries text.items in
     let here = statement_one text.end c.loop-place.entries all text.items place c.item-item.result c.item-item.ensures
     c.loop-place.invariant c.in-StatementOf.field-0 c.in-StatementOf.ensures in
-    reads_header_along text.items all (header_and c.at.result c.loop-place.entries (drop place text.items))
-    c.header_behind.result
-    (here ∙ ap (λ at. header_and at c.loop-place.entries (drop place text.items)) (sym c.at.ensures))
+    subst (λ x. ReadsHeader text.items x c.header_behind.result)
+    (sym (here ∙ ap (λ at. header_and at c.loop-place.entries (drop place text.items)) (sym c.at.ensures)))
     (c.header_behind.ensures text.items)
 
 pub returns-in-NoItem : goal.returns-in-NoItem
@@ -53,6 +51,5 @@ returns c =
     let past = header_last text.end c.loop-place.entries all text.items c.loop-place.place
     (omega (arith, c.len-place-end.ensures))
     c.loop-place.invariant in
-    reads_header_along text.items all (header_and c.end.result c.loop-place.entries (drop c.len.result text.items))
-    c.header_behind-2.result
-    (past ∙ (rw (c.end.ensures.is, c.len.ensures) refl)) (c.header_behind-2.ensures text.items)
+    subst (λ x. ReadsHeader text.items x c.header_behind-2.result)
+    (sym (past ∙ (rw (c.end.ensures.is, c.len.ensures) refl))) (c.header_behind-2.ensures text.items)
