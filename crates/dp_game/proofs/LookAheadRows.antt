@@ -79,10 +79,10 @@ module _ (m : Model) (k : KeptFront) (b : KeptBounder) (is : IsFrontOf m k) (bo 
       (subst (λ (e : Bool). AreWeights e m k.front.stage (class_weight_in A m k.front C))
       (arithmetic_is_exact b.is_exact m.scales) (can.weights C))
 
-  pub row_is : map (λ a. action_look_ahead_in A m (b.horizon - k.front.stage - 1) (weights_of ws) a b.look)
+  pub row_is : (look : ℕ) → map (λ a. action_look_ahead_in A m (b.horizon - k.front.stage - 1) (weights_of ws) a look)
       (range_with_len 0 (joint_actions m))
-      ≡ look_ahead_row A m (b.horizon - k.front.stage - 1) k.front b.look C
-  row_is =
+      ≡ look_ahead_row A m (b.horizon - k.front.stage - 1) k.front look C
+  row_is look =
       same_map (joint_actions m) (pos 0) _ _ (λ a p.
-      action_look_ahead_in_ext A m (b.horizon - k.front.stage - 1) b.look (weights_of ws)
+      action_look_ahead_in_ext A m (b.horizon - k.front.stage - 1) look (weights_of ws)
       (class_weight_in A m k.front C) a weights_are)

@@ -126,10 +126,10 @@ module _ (m : Model) (k : KeptFront) (b : KeptBounder) (is : IsFrontOf m k) (bo 
   few_front = count_most _ (joint_actions m) (2 ^ 24) is.model.sizes.some_action
       (room_entries m k.horizon k.front lt room)
 
-  module _ (actions : List ℕ) (choices : List (List (Option ℕ))) (count : ℕ) (table : List ℤ) (earned : Span)
+  module _ (look : ℕ) (actions : List ℕ) (choices : List (List (Option ℕ))) (count : ℕ) (table : List ℤ) (earned : Span)
       (ea : actions ≡ m.actions) (eo : choices ≡ choices_of k.front.agents)
       (ec : count ≡ product (own_counts choices)) (et : table ≡ rows_of
-      (look_ahead_row (arithmetic b.is_exact m.scales) m (b.horizon - k.front.stage - 1) k.front b.look) count)
+      (look_ahead_row (arithmetic b.is_exact m.scales) m (b.horizon - k.front.stage - 1) k.front look) count)
       (ee : earned ≡ earned_reward_in (arithmetic k.is_exact m.scales) m (fixed_joint_action m k.front)
       k.horizon
       k.front.stage) where
@@ -146,16 +146,16 @@ module _ (m : Model) (k : KeptFront) (b : KeptBounder) (is : IsFrontOf m k) (bo 
     modes = sym (same_mode m k b is bo same) ∙ is.mode
 
     row_long : (C : ℕ) → C < count → length (look_ahead_row (arithmetic b.is_exact m.scales) m
-        (b.horizon - k.front.stage - 1) k.front b.look C) ≡ joint_actions m
+        (b.horizon - k.front.stage - 1) k.front look C) ≡ joint_actions m
     row_long C p = length-map-range_with_len _ 0 (joint_actions m)
 
     entry_is : (C a : ℕ) → C < count → a < joint_actions m → get_or table (C * joint_actions m + a) (pos 0)
         ≡ action_look_ahead_in (arithmetic b.is_exact m.scales) m (b.horizon - k.front.stage - 1)
-        (class_weight_in (arithmetic b.is_exact m.scales) m k.front C) a b.look
+        (class_weight_in (arithmetic b.is_exact m.scales) m k.front C) a look
     entry_is C a hC ha =
         ap (λ l. get_or l (C * joint_actions m + a) (pos 0)) et
         ∙ rows_at (look_ahead_row (arithmetic b.is_exact m.scales) m (b.horizon - k.front.stage - 1)
-        k.front b.look)
+        k.front look)
         (joint_actions m) count C a (pos 0) row_long hC ha
         ∙ made_at (joint_actions m) a (pos 0) _ ha
 
@@ -163,7 +163,7 @@ module _ (m : Model) (k : KeptFront) (b : KeptBounder) (is : IsFrontOf m k) (bo 
     unfolding joint_actions
     actions_are = ap product ea
 
-    pub game : IsGameOf m k.horizon b.look k.front g
+    pub game : IsGameOf m k.horizon look k.front g
     game = record {
       model = is.model;
       some_step = is.some_step;
@@ -178,12 +178,12 @@ module _ (m : Model) (k : KeptFront) (b : KeptBounder) (is : IsFrontOf m k) (bo 
           ap (λ (l : List ℤ). length l) et
           ∙ rows_length (look_ahead_row (arithmetic b.is_exact m.scales) m (b.horizon - k.front.stage - 1)
           k.front
-          b.look) (joint_actions m) count row_long
+          look) (joint_actions m) count row_long
           ∙ ap (λ (n : ℕ). n * joint_actions m) many;
       entries = λ C a hC ha.
           ap (λ (n : ℕ). get_or table (C * n + a) (pos 0)) actions_are ∙ entry_is C a (rw many hC) ha
           ∙ (λ j. action_look_ahead_in (arithmetic (modes j) m.scales) m (sym same j - k.front.stage - 1)
-          (class_weight_in (arithmetic (modes j) m.scales) m k.front C) a b.look);
+          (class_weight_in (arithmetic (modes j) m.scales) m k.front C) a look);
       earned = ap (λ (w : Span). w.high) ee ∙ ap (λ e.
           (earned_reward_in (arithmetic e m.scales) m (fixed_joint_action m k.front)
           k.horizon k.front.stage).high)
@@ -191,13 +191,13 @@ module _ (m : Model) (k : KeptFront) (b : KeptBounder) (is : IsFrontOf m k) (bo 
     }
 
     pub some_front : IsOfSomeFront g
-    some_front = (m, k.horizon, b.look, k.front, game)
+    some_front = (m, k.horizon, look, k.front, game)
 
     pub count_some : 0 < count
-    count_some = rw ec (some_classes m k.horizon b.look k.front g game)
+    count_some = rw ec (some_classes m k.horizon look k.front g game)
 
     pub count_few : count ≤ 2 ^ 24
-    count_few = rw ec (few_classes m k.horizon b.look k.front g game)
+    count_few = rw ec (few_classes m k.horizon look k.front g game)
 
     -- ---- what is kept besides
 
@@ -219,7 +219,7 @@ module _ (m : Model) (k : KeptFront) (b : KeptBounder) (is : IsFrontOf m k) (bo 
           (length choices) count C j None in_row hC hj
 
       agents : length actions ≡ length choices
-      agents = agents_are m k.horizon b.look k.front g game
+      agents = agents_are m k.horizon look k.front g game
 
       module _ (greatest : List ℤ) (bound : ℤ) (eg : greatest ≡ map (greatest_in actions table wanted)
           (range_with_len 0 count)) where

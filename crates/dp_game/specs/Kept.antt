@@ -34,10 +34,10 @@ look_ahead_row A m r F look C =
 abbrev pub IsWithinCells : Model → KeptFront → Type 0
 IsWithinCells m k = k.is_exact ≡ false → m.states * joint_observations m ^ k.front.stage ≤ 2 ^ 22
 
--- the look-aheads of joint class C of a front, with the look and the mode of a bounder
-abbrev pub class_row : Model → KeptFront → KeptBounder → ℕ → List ℤ
-class_row m k b C = look_ahead_row (arithmetic b.is_exact m.scales) m (b.horizon - k.front.stage - 1)
-    k.front b.look C
+-- the look-aheads of joint class C of a front, with this look and the mode of a bounder
+abbrev pub class_row : Model → KeptFront → KeptBounder → ℕ → ℕ → List ℤ
+class_row m k b look C = look_ahead_row (arithmetic b.is_exact m.scales) m (b.horizon - k.front.stage - 1)
+    k.front look C
 
 -- it is the game of some front
 abbrev pub IsOfSomeFront : KeptGame → Type 0

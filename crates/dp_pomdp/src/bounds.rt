@@ -1,5 +1,5 @@
 //! Bounds on what can be earned from weights over the states.
-ghost use Rattle.std.specs.Prelude.{◌≡◌, ◌*◌, ◌-◌, ◌++◌, ◌<◌, ◌≤◌, Bool, map, length, IfOk};
+ghost use Rattle.std.specs.Prelude.{◌≡◌, ◌*◌, ◌-◌, ◌++◌, ◌<◌, ◌≤◌, ℕ, Bool, map, length, IfOk, OnErr, OnOk};
 ghost use Rattle.std.specs.List.{range_with_len};
 ghost use Rattle.dp_spec.specs.Arithmetic.{arithmetic};
 ghost use Rattle.dp_spec.specs.Mode.{IsTrueFit};
@@ -73,6 +73,26 @@ impl LookRoom {
             looks: Memo::new(alloc, MOST_NUMBERS / (2 * states + 1)),
             rows: Memo::new(alloc, MOST_NUMBERS / (2 * states + actions + 1)),
         })
+    }
+
+    /// Makes the room long enough for looks of `look` steps, at most 16. What it keeps stays. The only
+    /// error is want of memory, and leaves the room as it was.
+    pub fn reach(&mut self, alloc: Global, model: &Model, look: u32) -> Result<(), Memory>
+        requires look { look ≤ 16 }
+        ensures reached { OnOk result ((e : Bool) (before : ℕ) → IsRoomFor e model.now.model before self.old →
+            IsRoomFor e model.now.model look self.new) }
+        ensures stays { (e : Bool) (before : ℕ) → IsRoomFor e model.now.model before self.old →
+            IsRoomFor e model.now.model before self.new }
+        ensures same { OnErr result (self.new ≡ self.old) }
+        ensures looks { self.new.looks ≡ self.old.looks }
+        ensures rows { self.new.rows ≡ self.old.rows }
+    {
+        let size = look as usize * model.states() as usize;
+        if self.weights.len() < size {
+            let none = Span { low: 0, high: 0 };
+            self.weights = vec![in alloc; none; size]?;
+        }
+        Ok(())
     }
 
     /// The look-ahead with look `look` from the weights of time `t`, one for each state: the greatest
