@@ -14,6 +14,7 @@ pub mod BranchPlaces
 pub mod Expansions
 pub mod MergedBounds
 pub mod HeldFronts
+pub mod LastChoices
 pub mod PlannerFronts
 pub mod PlannedCertificates
 pub mod UnderwayFronts

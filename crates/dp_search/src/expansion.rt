@@ -29,6 +29,7 @@ use crate::bounding::{after_choice, own_bound};
 use crate::chooser::Chooser;
 use crate::front_places::told_places;
 use crate::held_front::{Choice, HeldFront};
+use crate::last_choice::{is_last_choice, last_children};
 use crate::look::copied;
 use crate::options::PlanOpts;
 use crate::place::Place;
@@ -288,6 +289,7 @@ fn branched<F: Fn(&[Place]) -> usize>(
         &mut game,
         place.agent,
         place.class,
+        options.look,
         room,
     )?;
     Ok(Expanded {
@@ -299,9 +301,45 @@ fn branched<F: Fn(&[Place]) -> usize>(
     })
 }
 
-// The fronts after the actions for a class, in order, with their bounds. `game` is the game of the front,
-// and is left as it was.
+// The fronts after the actions for a class, in order, with their bounds. `game` is the game of the front.
 fn children_of(
+    alloc: Global,
+    model: &Model,
+    bounder: &Bounder,
+    made: &Rc<Front>,
+    game: &mut Game,
+    agent: u32,
+    class: u32,
+    look: u32,
+    room: &mut LookRoom,
+) -> Result<Vec<Child<HeldFront>>, Memory>
+    requires bounder { IsBounderOf model.now.model bounder.now }
+    requires look { bounder.now.look ≡ look }
+    requires front { IsPlannerFront model.now.model bounder.now.horizon made.now.value }
+    requires stage { made.now.value.front.stage < bounder.now.horizon }
+    requires narrow { (above : ℕ) ×
+        (is_wide model.now.model bounder.now.horizon above made.now.value.front ≡ false) }
+    requires game { IsGameOf model.now.model bounder.now.horizon bounder.now.look made.now.value.front game.old }
+    requires unassigned { IsUnassigned agent class made.now.value.front.agents }
+    requires look_room { IsRoomFor bounder.now.is_exact model.now.model bounder.now.look room.old }
+    ensures fronts { IfOk result (λ v. map (λ (c : SpecChild SpecHeld). front_meant model.now.model c.front) v.items
+        ≡ map (front_after_choice model.now.model made.now.value.front agent class)
+        (range_with_len 0 (get_or model.now.model.actions agent 0))) }
+    ensures children { IfOk result (λ v. (merging : Bool) → (merging ≡ true →
+        is_exact_mode model.now.model bounder.now.horizon ≡ true →
+        HasNoEquivalent model.now.model made.now.value.front) →
+        All (IsHeldChild model.now.model bounder.now.horizon bounder.now.look merging) v.items) }
+    ensures look_room { IsRoomFor bounder.now.is_exact model.now.model bounder.now.look room.new }
+{
+    if is_last_choice(alloc, made.as_ref(), look, agent, class)? {
+        last_children(alloc, model, bounder, made, agent, class, room)
+    } else {
+        each_child(alloc, model, bounder, made, game, agent, class, room)
+    }
+}
+
+// The same by making each front. `game` is the game of the front, and is left as it was.
+fn each_child(
     alloc: Global,
     model: &Model,
     bounder: &Bounder,
