@@ -1,7 +1,7 @@
 //! A large game: a choice, and taking it back, scan only the joint classes that take part in it.
 //!
 //! The table of the game has `2^20` entries, of which a choice touches `2^11`. A game that scanned them all
-//! at each choice would need minutes for what is done here in the wink of an eye.
+//! at each choice would be some hundred times slower.
 ghost use Rattle.std.specs.Prelude.{◌≡◌, ◌<◌, ◌≤◌, true, [], length, get_or, slice_index, IfOk, IfSome};
 ghost use Rattle.dp_spec.specs.Front.{class_counts};
 ghost use Rattle.dp_spec.specs.Mode.{IsTrueFit};
@@ -18,15 +18,15 @@ use dp_spec::Scales;
 use std::alloc::Global;
 use std::test::Fail;
 
-// The classes of each agent at the last stage but one, and the choices that lead there.
+// The classes of each agent at the last stage, and the choices that lead there.
 const CLASSES: u32 = 512;
 
 const CHOICES: u32 = 1022;
 
 const ROUNDS: u32 = 100_000;
 
-// What the last stage but one is worth at most, and with a lesser action for one class: that is half its
-// 2,048 entries of 12 in place of 4.
+// What is earned before the last stage, `9 * 2^20`, and 12 for each of its `2^18` joint classes. With action 0
+// for a class, the `2^9` joint classes that it takes part in have 4 each.
 const WHOLE: i128 = 12_582_912;
 
 const FALLEN: i128 = 12_578_816;
@@ -68,7 +68,7 @@ fn crowd(alloc: Global) -> Result<Model, Memory> {
     Ok(Model::build(sizes, names, scales, cells))
 }
 
-// The front of the stage that action 0 leads to, always, without a merge; none where a choice cannot be made.
+// The front that these choices lead to, all of action 0; none where one cannot be made.
 fn reached(alloc: Global, model: &Model, fit: Fit) -> Result<Option<Front>, Memory>
     requires { IsTrueFit model.now.model fit.horizon fit.exact fit.unit }
     ensures { IfOk result (λ o. IfSome o (IsPlannerFront model.now.model fit.horizon)) }
@@ -128,7 +128,7 @@ fn after_zero(
     Ok(Some(next))
 }
 
-// Whether each agent has so many classes at the stage before the last.
+// Whether the front is at the last stage of ten, and both agents have so many classes there.
 fn is_large(front: &Front) -> bool
     ensures stage { result ≡ true → front.now.front.stage < front.now.horizon }
     ensures agents { result ≡ true → 0 < length front.now.front.agents }

@@ -4,7 +4,6 @@ use Rattle.std.specs.Prelude.{nat_le}
 use Rattle.std.specs.List.{list_all}
 use Rattle.std.proofs.lemmas.List.{get_or-replicate}
 use Rattle.dp_spec.specs.Model.{IsModel, Model, joint_actions, joint_observations, obs_at, start_at, trans_at}
-use Rattle.dp_model.specs.Tables.{model_of_tables}
 use Rattle.dp_search.proofs.large_game.crowd.Goals as goal
 
 abbrev rewards : List ℤ

@@ -1,7 +1,7 @@
 use Rattle.std.proofs.Common.{ℕ, zero, suc, ◌<◌, ◌≤◌, List, [], ◌∷◌, length, get_or, sym, subst, arith}
 use Rattle.dp_spec.specs.Front.{class_counts}
 use Rattle.dp_spec.specs.JointNumbers.{product}
-use Rattle.dp_spec.specs.Model.{IsModel, Model, joint_actions}
+use Rattle.dp_spec.specs.Model.{Model, joint_actions}
 use Rattle.dp_cluster.specs.KeptFronts.{KeptFront}
 use Rattle.dp_game.specs.Games.{IsGameOf, KeptGame}
 use Rattle.dp_search.proofs.UnderwayFronts.{class_of, game_has_classes}
