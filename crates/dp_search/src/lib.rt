@@ -14,6 +14,8 @@ mod greatest_leaf;
 mod held_front;
 mod held_leaf;
 mod held_leaves;
+#[cfg(test)]
+mod large_game;
 mod last_choice;
 mod look;
 mod options;

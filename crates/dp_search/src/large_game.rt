@@ -1,0 +1,190 @@
+//! A large game: a choice, and taking it back, scan only the joint classes that take part in it.
+//!
+//! The table of the game has `2^20` entries, of which a choice touches `2^11`. A game that scanned them all
+//! at each choice would be some hundred times slower.
+ghost use Rattle.std.specs.Prelude.{◌≡◌, ◌<◌, ◌≤◌, true, [], length, get_or, slice_index, IfOk, IfSome};
+ghost use Rattle.dp_spec.specs.Front.{class_counts};
+ghost use Rattle.dp_spec.specs.Mode.{IsTrueFit};
+ghost use Rattle.dp_spec.specs.Steps.{IsUnassigned};
+ghost use Rattle.dp_search.specs.FrontPlanners.{IsPlannerFront};
+
+use crate::bounding::after_choice;
+use crate::expansion::chosen_bound;
+use dp_base::Memory;
+use dp_cluster::Front;
+use dp_game::{Bounder, Game};
+use dp_model::{Cells, Fit, Model, Names, Sequence, Sizes, fits_two};
+use dp_spec::Scales;
+use std::alloc::Global;
+use std::test::Fail;
+
+// The classes of each agent at the last stage, and the choices that lead there.
+const CLASSES: u32 = 512;
+
+const CHOICES: u32 = 1022;
+
+const ROUNDS: u32 = 100_000;
+
+// What is earned before the last stage, `9 * 2^20`, and 12 for each of its `2^18` joint classes. With action 0
+// for a class, the `2^9` joint classes that it takes part in have 4 each.
+const WHOLE: i128 = 12_582_912;
+
+const FALLEN: i128 = 12_578_816;
+
+#[test]
+fn a_choice_scans_what_it_touches(rt: HostRuntime) -> Result<(), Fail> {
+    let alloc = rt.alloc();
+    let model = crowd(alloc)?;
+    let fit = fits_two(&model, 10)?;
+    let front = reached(alloc, &model, fit)?.ok_or("a choice that cannot be made")?;
+    assert!(rt; fit.exact && is_large(&front));
+    assert!(rt; moves_with_each_choice(alloc, &model, fit, &front)?);
+    Ok(())
+}
+
+// One state, and two agents with two actions and two observations each. Every joint observation is as
+// likely as another. Action 0 of both is worth 1, action 1 of both 3, and else nothing.
+fn crowd(alloc: Global) -> Result<Model, Memory> {
+    let sizes = Sizes {
+        states: 1,
+        actions: Sequence::of(vec![in alloc; 2, 2]?),
+        observations: Sequence::of(vec![in alloc; 2, 2]?),
+    };
+    let scales = Scales {
+        start: 1,
+        trans: 1,
+        obs: 4,
+        reward: 1,
+        discount: 1,
+        gain: 1,
+    };
+    let cells = Cells {
+        start: Sequence::of(vec![in alloc; 1]?),
+        trans: Sequence::of(vec![in alloc; 1, 1, 1, 1]?),
+        obs: Sequence::of(vec![in alloc; 1, 1, 1, 1, 1, 1, 1, 1, 1, 1, 1, 1, 1, 1, 1, 1]?),
+        reward: Sequence::of(vec![in alloc; 1, 1, 1, 1, 0, 0, 0, 0, 0, 0, 0, 0, 3, 3, 3, 3]?),
+    };
+    let names = Names::counts(alloc, 2)?;
+    Ok(Model::build(sizes, names, scales, cells))
+}
+
+// The front that these choices lead to, all of action 0; none where one cannot be made.
+fn reached(alloc: Global, model: &Model, fit: Fit) -> Result<Option<Front>, Memory>
+    requires { IsTrueFit model.now.model fit.horizon fit.exact fit.unit }
+    ensures { IfOk result (λ o. IfSome o (IsPlannerFront model.now.model fit.horizon)) }
+{
+    let mut front = Front::root(alloc, model, fit)?;
+    for _choice in 0..CHOICES {
+        front = match after_first(alloc, model, &front)? {
+            Some(next) => next,
+            None => return Ok(None),
+        };
+    }
+    Ok(Some(front))
+}
+
+// The front after action 0 for the first class that has none.
+fn after_first(alloc: Global, model: &Model, front: &Front) -> Result<Option<Front>, Memory>
+    requires { IsPlannerFront model.now.model front.now.horizon front.now }
+    ensures { IfOk result (λ o. IfSome o (IsPlannerFront model.now.model front.now.horizon)) }
+{
+    for agent in 0..front.agents() {
+        if let Some(class) = free_class(front, agent) {
+            return after_zero(alloc, model, front, agent, class);
+        }
+    }
+    Ok(None)
+}
+
+// The first class of an agent that has no action.
+fn free_class(front: &Front, agent: u32) -> Option<u32>
+    requires { agent < length front.now.front.agents }
+    ensures { IfSome result (λ c. IsUnassigned agent c front.now.front.agents) }
+{
+    for class in 0..front.classes(agent) {
+        if front.action(agent, class).is_none() {
+            return Some(class);
+        }
+    }
+    None
+}
+
+// The front after action 0 for a class that has none.
+fn after_zero(
+    alloc: Global,
+    model: &Model,
+    front: &Front,
+    agent: u32,
+    class: u32,
+) -> Result<Option<Front>, Memory>
+    requires front { IsPlannerFront model.now.model front.now.horizon front.now }
+    requires unassigned { IsUnassigned agent class front.now.front.agents }
+    ensures { IfOk result (λ o. IfSome o (IsPlannerFront model.now.model front.now.horizon)) }
+{
+    if front.stage() >= front.horizon() || front.is_wide(model, 0) {
+        return Ok(None);
+    }
+    let next = after_choice(alloc, model, front, agent, class, 0)?;
+    Ok(Some(next))
+}
+
+// Whether the front is at the last stage of ten, and both agents have so many classes there.
+fn is_large(front: &Front) -> bool
+    ensures stage { result ≡ true → front.now.front.stage < front.now.horizon }
+    ensures agents { result ≡ true → 0 < length front.now.front.agents }
+    ensures classes { result ≡ true → 512 ≤ get_or (class_counts front.now.front.agents) 0 0 }
+{
+    if front.stage() != 9 || front.horizon() != 10 || front.agents() != 2 {
+        return false;
+    }
+    front.classes(0) == CLASSES && front.classes(1) == CLASSES
+}
+
+// Whether the bound of the game of a large front falls and rises as it should.
+fn moves_with_each_choice(
+    alloc: Global,
+    model: &Model,
+    fit: Fit,
+    front: &Front,
+) -> Result<bool, Memory>
+    requires fit { IsTrueFit model.now.model fit.horizon fit.exact fit.unit }
+    requires front { IsPlannerFront model.now.model fit.horizon front.now }
+{
+    if !is_large(front) {
+        return Ok(false);
+    }
+    let bounder = Bounder::new(alloc, model, fit, 1)?;
+    let mut game = Game::of(alloc, model, front, &bounder)?;
+    if game.bound() != WHOLE {
+        return Ok(false);
+    }
+    let falls = falls_each_time(&mut game);
+    Ok(falls)
+}
+
+// Whether the bound falls with each choice, and is again what it was after it is taken back.
+fn falls_each_time(game: &mut Game) -> bool
+    requires agent { 0 < length game.old.choices }
+    requires classes { 512 ≤ length (get_or game.old.choices 0 []) }
+    requires action { 0 < slice_index game.old.actions 0 }
+{
+    for round in 0..ROUNDS {
+        if !falls(game, round % CLASSES) {
+            return false;
+        }
+    }
+    true
+}
+
+// The same for one class.
+fn falls(game: &mut Game, class: u32) -> bool
+    requires agent { 0 < length game.old.choices }
+    requires class { class < length (get_or game.old.choices 0 []) }
+    requires action { 0 < slice_index game.old.actions 0 }
+    ensures { game.new ≡ game.old }
+{
+    if game.choice(0, class).is_some() {
+        return false;
+    }
+    chosen_bound(game, 0, class, 0) == FALLEN && game.bound() == WHOLE
+}
