@@ -5,7 +5,7 @@ use Rattle.dp_spec.specs.Model.{Model, joint_actions}
 use Rattle.dp_cluster.specs.KeptFronts.{KeptFront}
 use Rattle.dp_game.specs.Games.{IsGameOf, KeptGame}
 use Rattle.dp_search.proofs.UnderwayFronts.{class_of, game_has_classes}
-use Rattle.dp_search.proofs.large_game.moves_with_each_choice.Goals as goal
+use Rattle.dp_search.proofs.large_game.front_has_bounds.Goals as goal
 
 module _ (m : Model) (h look : ℕ) (k : KeptFront) (g : KeptGame) (is : IsGameOf m h look k.front g) where
   many_classes : 0 < length k.front.agents → 512 ≤ get_or (class_counts k.front.agents) 0 0
