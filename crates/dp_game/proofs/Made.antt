@@ -32,7 +32,8 @@ use Rattle.dp_cluster.proofs.OwnParts.{made_at, same_map}
 use Rattle.dp_game.specs.Bounders.{IsBounderOf, KeptBounder}
 use Rattle.dp_game.specs.Games.{IsGameOf, KeptGame, allowed_actions, best_entry, choices_in, joint_classes}
 use Rattle.dp_game.specs.Games.{each_agrees, own_counts}
-use Rattle.dp_game.specs.Kept.{IsKept, IsOfSomeFront, game_with, greatest_in, greatest_look_in, look_ahead_row, rows_of}
+use Rattle.dp_game.specs.Kept.{IsKept, IsOfSomeFront, game_with, greatest_in, greatest_look_in, look_ahead_row}
+use Rattle.dp_game.specs.Kept.{rows_of}
 use Rattle.dp_game.proofs.Bounds.{agents_are, all_small, few_classes, some_classes}
 use Rattle.dp_game.proofs.Changes.{row_is}
 use Rattle.dp_game.proofs.LookAheadRows.{same_mode}
@@ -128,8 +129,8 @@ module _ (m : Model) (k : KeptFront) (b : KeptBounder) (is : IsFrontOf m k) (bo 
   few_front = count_most _ (joint_actions m) (2 ^ 24) is.model.sizes.some_action
       (room_entries m k.horizon k.front lt room)
 
-  module _ (look : ℕ) (actions : List ℕ) (choices : List (List (Option ℕ))) (count : ℕ) (table : List ℤ) (earned : Span)
-      (ea : actions ≡ m.actions) (eo : choices ≡ choices_of k.front.agents)
+  module _ (look : ℕ) (actions : List ℕ) (choices : List (List (Option ℕ))) (count : ℕ) (table : List ℤ)
+      (earned : Span) (ea : actions ≡ m.actions) (eo : choices ≡ choices_of k.front.agents)
       (ec : count ≡ product (own_counts choices)) (et : table ≡ rows_of
       (look_ahead_row (arithmetic b.is_exact m.scales) m (b.horizon - k.front.stage - 1) k.front look) count)
       (ee : earned ≡ earned_reward_in (arithmetic k.is_exact m.scales) m (fixed_joint_action m k.front)

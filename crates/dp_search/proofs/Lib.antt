@@ -2,6 +2,7 @@ pub mod Steps
 pub mod MoreLeaves
 pub mod GrownLeaves
 pub mod TriedPolicies
+pub mod LastChoices
 pub mod LeavesSoFar
 pub mod ConstantPolicies
 pub mod FrontSteps

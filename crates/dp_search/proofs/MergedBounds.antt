@@ -1,6 +1,6 @@
 -- A merge of two equivalent classes leaves the bound of a front as it is, in exact numbers.
-use Rattle.std.proofs.Common.{◌≡◌, ◌≢◌, inl, inr, ℕ, zero, suc, ◌+◌, ◌-◌, ◌*◌, ◌<◌, ◌≤◌, true, cond, eqb, ℤ, pos}
-use Rattle.std.proofs.Common.{◌+ℤ◌, ◌*ℤ◌, List, length, get_or, refl, sym, ap, subst, ◌∙◌, arith}
+use Rattle.std.proofs.Common.{◌≡◌, ◌≢◌, inl, inr, ℕ, zero, suc, ◌+◌, ◌-◌, ◌*◌, ◌<◌, ◌≤◌, cond, eqb, ℤ, pos}
+use Rattle.std.proofs.Common.{◌+ℤ◌, ◌*ℤ◌, List, length, get_or, sym, ap, subst, ◌∙◌, arith}
 use Rattle.std.proofs.lemmas.Bool.{cases_eq, cases_lt}
 use Rattle.std.proofs.lemmas.Int.{ints}
 use Rattle.std.proofs.Math.IntN.{zero-*ℤ}
@@ -12,30 +12,26 @@ use Rattle.dp_base.proofs.Sums.{int_sum_add, int_sum_ext, int_sum_out, ite_same}
 use Rattle.dp_spec.specs.Arithmetic.{exact}
 use Rattle.dp_spec.specs.Bound.{agreeing_actions, bound_of}
 use Rattle.dp_spec.specs.Fitting.{front_bound}
-use Rattle.dp_spec.specs.Front.{Front, class_counts, class_weight, fixed_joint_action}
-use Rattle.dp_spec.specs.JointHistory.{earned_reward, history_weight}
+use Rattle.dp_spec.specs.Front.{Front, class_counts, class_weight}
+use Rattle.dp_spec.specs.JointHistory.{earned_reward}
 use Rattle.dp_spec.specs.JointNumbers.{product}
 use Rattle.dp_spec.specs.LookAhead.{action_look_ahead, look_ahead, weights_after}
 use Rattle.dp_spec.specs.Merge.{AreEquivalent, class_total, kept_class, merged_agents, merged_front, place_weight}
-use Rattle.dp_spec.specs.Merge.{placed_number, without, class_of_agent, class_of_others}
+use Rattle.dp_spec.specs.Merge.{placed_number, without}
 use Rattle.dp_spec.specs.Model.{IsModel, Model, joint_observations}
 use Rattle.dp_spec.specs.Steps.{IsUnassigned}
 use Rattle.dp_spec.specs.WellFormed.{IsFront}
 use Rattle.dp_laws.proofs.EmptyClasses.{no_weight}
 use Rattle.dp_laws.proofs.MergedBound.{int_sum_skip}
 use Rattle.dp_laws.proofs.EarnedValue.{look_ahead_ext, weighted_reward_ext, weights_after_ext}
-use Rattle.dp_laws.proofs.HistorySums.{nat_history_sum_none, nat_history_sum_of_none}
 use Rattle.dp_laws.proofs.JointPlaces.{int_sum_placed}
 use Rattle.dp_laws.proofs.MergedFronts.{agreeing_either, agreeing_kept, as_many_merged, counts_of_others}
-use Rattle.dp_laws.proofs.MergedFronts.{joined_weight, kept_below, kept_high, kept_low, kept_weight, one_class_less}
+use Rattle.dp_laws.proofs.MergedFronts.{joined_weight, kept_below, kept_low, kept_weight, one_class_less}
 use Rattle.dp_laws.proofs.MergedFronts.{placed_weight, unassigned_agent}
 use Rattle.dp_laws.proofs.MergedTrees.{fixed_joint_action_merged}
 use Rattle.dp_laws.proofs.QuantityLaws.{exact_quantities}
 use Rattle.dp_laws.proofs.ScaledWeights.{action_look_ahead_of_scaled}
 use Rattle.dp_laws.proofs.WellFormedSteps.{merged_is_front}
-use Rattle.dp_base.proofs.NaturalSumLaws.{nat_sum_none}
-use Rattle.dp_base.specs.Sums.{nat_sum}
-use Rattle.std.proofs.Common.{Bool, false}
 
 -- ---- sums with one class less
 

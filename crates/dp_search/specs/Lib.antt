@@ -10,4 +10,5 @@ pub mod GreatestLeaves
 pub mod FrontPlaces
 pub mod Expansions
 pub mod HeldFronts
+pub mod LastChoices
 pub mod Completions

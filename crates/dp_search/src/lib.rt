@@ -14,6 +14,7 @@ mod greatest_leaf;
 mod held_front;
 mod held_leaf;
 mod held_leaves;
+mod last_choice;
 mod look;
 mod options;
 mod place;
