@@ -2,6 +2,8 @@
 use Rattle.std.proofs.Common.{◌≡◌, ℕ, suc, ◌-◌, ◌*◌, ◌^◌, ◌<◌, ◌≤◌, Bool, false, ℤ, pos, List, map, length}
 use Rattle.std.proofs.Common.{refl, sym, ap, ◌∙◌, subst, arith}
 use Rattle.std.specs.List.{range_with_len}
+use Rattle.dp_base.specs.Sums.{greatest}
+use Rattle.dp_base.proofs.GreatestValues.{greatest_ext}
 use Rattle.dp_spec.specs.declared.span.Span.{Span}
 use Rattle.dp_spec.specs.Arithmetic.{Arithmetic, arithmetic}
 use Rattle.dp_spec.specs.Calls.{Calls, calls_in}
@@ -64,7 +66,7 @@ module _ (m : Model) (k : KeptFront) (b : KeptBounder) (is : IsFrontOf m k) (bo 
   one_mode : k.is_exact ≡ b.is_exact
   one_mode = same_mode m k b is bo same
 
-  weights_are : (s : ℕ) → s < m.states → weights_of ws s ≡ class_weight_in A m k.front C s
+  pub weights_are : (s : ℕ) → s < m.states → weights_of ws s ≡ class_weight_in A m k.front C s
   weights_are s p =
       are s (rw is.states p) ∙ is.weights lt C s hC p
       ∙ ap (λ (e : Bool). class_weight_in (arithmetic e m.scales) m k.front C s) one_mode
@@ -79,10 +81,20 @@ module _ (m : Model) (k : KeptFront) (b : KeptBounder) (is : IsFrontOf m k) (bo 
       (subst (λ (e : Bool). AreWeights e m k.front.stage (class_weight_in A m k.front C))
       (arithmetic_is_exact b.is_exact m.scales) (can.weights C))
 
-  pub row_is : (look : ℕ) → map (λ a. action_look_ahead_in A m (b.horizon - k.front.stage - 1) (weights_of ws) a look)
+  pub row_is : map (λ a. action_look_ahead_in A m (b.horizon - k.front.stage - 1) (weights_of ws) a b.look)
       (range_with_len 0 (joint_actions m))
-      ≡ look_ahead_row A m (b.horizon - k.front.stage - 1) k.front look C
-  row_is look =
+      ≡ look_ahead_row A m (b.horizon - k.front.stage - 1) k.front b.look C
+  row_is =
       same_map (joint_actions m) (pos 0) _ _ (λ a p.
+      action_look_ahead_in_ext A m (b.horizon - k.front.stage - 1) b.look (weights_of ws)
+      (class_weight_in A m k.front C) a weights_are)
+
+  -- the greatest look-ahead from the weights is that of the joint class
+  pub looks_are : (look : ℕ) (xs : List ℕ)
+      → greatest (λ a. action_look_ahead_in A m (b.horizon - k.front.stage - 1) (weights_of ws) a look) xs
+      ≡ greatest (λ a. action_look_ahead_in A m (b.horizon - k.front.stage - 1) (class_weight_in A m k.front C) a
+      look) xs
+  looks_are look xs =
+      greatest_ext _ _ xs (λ a i.
       action_look_ahead_in_ext A m (b.horizon - k.front.stage - 1) look (weights_of ws)
       (class_weight_in A m k.front C) a weights_are)

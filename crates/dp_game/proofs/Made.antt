@@ -9,7 +9,9 @@ use Rattle.std.proofs.lemmas.Bool.Decides.{nat_tests}
 use Rattle.std.proofs.lemmas.List.{get_or_past}
 use Rattle.std.proofs.lemmas.List.FromFn.{length-map-range_with_len}
 use Rattle.dp_spec.specs.declared.span.Span.{Span}
-use Rattle.dp_base.specs.Sums.{greatest as greatest_value, int_sum}
+use Rattle.dp_base.specs.Sums.{greatest as greatest_value, int_sum, numbers_below}
+use Rattle.dp_base.proofs.GreatestValues.{greatest_ext}
+use Rattle.dp_base.proofs.Members.{below-IsIn, filter-IsIn}
 use Rattle.dp_base.proofs.Sums.{int_sum_ext}
 use Rattle.dp_spec.specs.Arithmetic.{Arithmetic, arithmetic}
 use Rattle.dp_spec.specs.Front.{AgentFront, Front, class_counts, fixed_joint_action}
@@ -26,11 +28,12 @@ use Rattle.dp_laws.proofs.SizeSums.{abs_add, int_sum_part}
 use Rattle.dp_cluster.specs.KeptFronts.{IsFrontOf, KeptFront, choice_at}
 use Rattle.dp_cluster.proofs.ChosenActions.{agents_of}
 use Rattle.dp_cluster.proofs.FrontParts.{count_most}
-use Rattle.dp_cluster.proofs.OwnParts.{made_at}
+use Rattle.dp_cluster.proofs.OwnParts.{made_at, same_map}
 use Rattle.dp_game.specs.Bounders.{IsBounderOf, KeptBounder}
 use Rattle.dp_game.specs.Games.{IsGameOf, KeptGame, allowed_actions, best_entry, choices_in, joint_classes}
-use Rattle.dp_game.specs.Games.{own_counts}
-use Rattle.dp_game.specs.Kept.{IsKept, IsOfSomeFront, game_with, greatest_in, look_ahead_row, rows_of}
+use Rattle.dp_game.specs.Games.{each_agrees, own_counts}
+use Rattle.dp_game.specs.Kept.{IsKept, IsOfSomeFront, game_with, greatest_in, greatest_look_in, look_ahead_row}
+use Rattle.dp_game.specs.Kept.{rows_of}
 use Rattle.dp_game.proofs.Bounds.{agents_are, all_small, few_classes, some_classes}
 use Rattle.dp_game.proofs.Changes.{row_is}
 use Rattle.dp_game.proofs.LookAheadRows.{same_mode}
@@ -126,8 +129,8 @@ module _ (m : Model) (k : KeptFront) (b : KeptBounder) (is : IsFrontOf m k) (bo 
   few_front = count_most _ (joint_actions m) (2 ^ 24) is.model.sizes.some_action
       (room_entries m k.horizon k.front lt room)
 
-  module _ (look : ℕ) (actions : List ℕ) (choices : List (List (Option ℕ))) (count : ℕ) (table : List ℤ) (earned : Span)
-      (ea : actions ≡ m.actions) (eo : choices ≡ choices_of k.front.agents)
+  module _ (look : ℕ) (actions : List ℕ) (choices : List (List (Option ℕ))) (count : ℕ) (table : List ℤ)
+      (earned : Span) (ea : actions ≡ m.actions) (eo : choices ≡ choices_of k.front.agents)
       (ec : count ≡ product (own_counts choices)) (et : table ≡ rows_of
       (look_ahead_row (arithmetic b.is_exact m.scales) m (b.horizon - k.front.stage - 1) k.front look) count)
       (ee : earned ≡ earned_reward_in (arithmetic k.is_exact m.scales) m (fixed_joint_action m k.front)
@@ -162,6 +165,19 @@ module _ (m : Model) (k : KeptFront) (b : KeptBounder) (is : IsFrontOf m k) (bo 
     actions_are : product actions ≡ joint_actions m
     unfolding joint_actions
     actions_are = ap product ea
+
+    -- the greatest look-aheads are the greatest entries of the table
+    pub looks_are : (wanted : List (Option ℕ)) → map (greatest_look_in (arithmetic b.is_exact m.scales) m
+        (b.horizon - k.front.stage - 1) k.front look actions wanted) (range_with_len 0 count)
+        ≡ map (greatest_in actions table wanted) (range_with_len 0 count)
+    looks_are wanted =
+        same_map count (pos 0) _ _ (λ C hC.
+        let os = take (length actions) (drop (C * length actions) wanted) in
+        greatest_ext _ _ (allowed_actions actions os) (λ a i.
+        let below = below-IsIn (product actions) a (filter-IsIn (λ a. each_agrees os (parts_of actions a)) a
+        (numbers_below (product actions)) i).0 in
+        sym (ap (λ (n : ℕ). get_or table (C * n + a) (pos 0)) actions_are
+        ∙ entry_is C a hC (omega (arith, below, actions_are)))))
 
     pub game : IsGameOf m k.horizon look k.front g
     game = record {

@@ -34,10 +34,10 @@ look_ahead_row A m r F look C =
 abbrev pub IsWithinCells : Model → KeptFront → Type 0
 IsWithinCells m k = k.is_exact ≡ false → m.states * joint_observations m ^ k.front.stage ≤ 2 ^ 22
 
--- the look-aheads of joint class C of a front, with this look and the mode of a bounder
-abbrev pub class_row : Model → KeptFront → KeptBounder → ℕ → ℕ → List ℤ
-class_row m k b look C = look_ahead_row (arithmetic b.is_exact m.scales) m (b.horizon - k.front.stage - 1)
-    k.front look C
+-- the look-aheads of joint class C of a front, with the look and the mode of a bounder
+abbrev pub class_row : Model → KeptFront → KeptBounder → ℕ → List ℤ
+class_row m k b C = look_ahead_row (arithmetic b.is_exact m.scales) m (b.horizon - k.front.stage - 1)
+    k.front b.look C
 
 -- it is the game of some front
 abbrev pub IsOfSomeFront : KeptGame → Type 0
@@ -65,4 +65,11 @@ pub record IsKept (g : KeptGame) (wanted : List (Option ℕ)) (greatest : List �
 abbrev pub greatest_in : List ℕ → List ℤ → List (Option ℕ) → ℕ → ℤ
 greatest_in bs table wanted C =
     greatest (λ a. get_or table (C * product bs + a) (pos 0))
+    (allowed_actions bs (take (length bs) (drop (C * length bs) wanted)))
+
+-- the greatest look-ahead from weights of joint class C of the joint actions that agree with the choices that are kept
+-- for it, where r steps are left after this one
+abbrev pub greatest_look_in : Arithmetic → Model → ℕ → Front → ℕ → List ℕ → List (Option ℕ) → ℕ → ℤ
+greatest_look_in A m r F look bs wanted C =
+    greatest (λ a. action_look_ahead_in A m r (class_weight_in A m F C) a look)
     (allowed_actions bs (take (length bs) (drop (C * length bs) wanted)))

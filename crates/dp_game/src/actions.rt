@@ -69,7 +69,7 @@ impl JointActions {
 
     // Whether a joint action agrees with one choice or none for each agent.
     #[inline]
-    fn agrees(&self, action: usize, wanted: &[Option<u8>]) -> bool
+    pub(crate) fn agrees(&self, action: usize, wanted: &[Option<u8>]) -> bool
         requires action { action < product self.now }
         requires one_each { length wanted.now ≡ length self.now }
         ensures { result ≡ each_agrees wanted.now (parts_of self.now action) }
@@ -114,7 +114,7 @@ pub(crate) fn entry_at(row: &[i128], action: usize) -> i128
 
 // The greatest so far: where an entry counts, the greater of it and of those before it, if there are some.
 #[inline]
-fn greater(counts: bool, some: bool, best: i128, entry: i128) -> i128
+pub(crate) fn greater(counts: bool, some: bool, best: i128, entry: i128) -> i128
     ensures { result ≡ cond counts (cond some (int_max entry best) entry) best }
 {
     if !counts {
@@ -128,7 +128,7 @@ fn greater(counts: bool, some: bool, best: i128, entry: i128) -> i128
 
 // Whether one of two facts holds.
 #[inline]
-fn either(one: bool, other: bool) -> bool
+pub(crate) fn either(one: bool, other: bool) -> bool
     ensures { result ≡ (one || other) }
 {
     one || other

@@ -67,9 +67,9 @@ impl Bounder {
         self.fit
     }
 
-    // The look.
+    /// The look.
     #[inline]
-    pub(crate) fn look(&self) -> u32
+    pub fn look(&self) -> u32
         ensures { result ≡ self.now.look }
     {
         self.look

@@ -49,7 +49,7 @@ fn greatest_entry(
     ensures { result ≡ greatest_in actions.now table.now wanted.now joint }
 {
     let row = entries_of(table, joint, actions.count());
-    let choices = choices_of(wanted, joint, actions.agents());
+    let choices = choices_kept(wanted, joint, actions.agents());
     actions.greatest_allowed(row, choices)
 }
 
@@ -66,7 +66,7 @@ fn entries_of(table: &[i128], joint: usize, count: usize) -> &[i128]
 
 // The choices that are kept for a joint class, of so many agents.
 #[inline]
-fn choices_of(wanted: &[Option<u8>], joint: usize, agents: usize) -> &[Option<u8>]
+pub(crate) fn choices_kept(wanted: &[Option<u8>], joint: usize, agents: usize) -> &[Option<u8>]
     requires few { joint < 2 ^ 24 }
     requires agents { agents ≤ 6 }
     requires room { joint * agents + agents ≤ length wanted.now }

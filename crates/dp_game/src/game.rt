@@ -1,5 +1,5 @@
 //! The game of a front.
-ghost use Rattle.std.specs.Prelude.{◌≡◌, ◌<◌, ◌-◌, ℕ, suc, true, [], Some, None, length, get_or, slice_index, IfOk};
+ghost use Rattle.std.specs.Prelude.{◌≡◌, ◌<◌, ◌-◌, ℕ, true, [], Some, None, length, get_or, slice_index, IfOk};
 ghost use Rattle.std.specs.Prelude.{IfSome};
 ghost use Rattle.dp_spec.specs.Arithmetic.{arithmetic};
 ghost use Rattle.dp_spec.specs.Fitting.{front_bound};
@@ -100,61 +100,10 @@ impl Game {
             (game_bound g)) }
         ensures look_room { IsRoomFor bounder.now.is_exact model.now.model bounder.now.look room.new }
     {
-        Game::with_look(alloc, model, front, bounder, bounder.look(), room)
-    }
-
-    /// The same with a look of one step more than the bounder's, which is less than 16.
-    pub fn deeper(
-        alloc: Global,
-        model: &Model,
-        front: &Front,
-        bounder: &Bounder,
-        room: &mut LookRoom,
-    ) -> Result<Game, Memory>
-        requires of_model { IsFrontOf model.now.model front.now }
-        requires bounder { IsBounderOf model.now.model bounder.now }
-        requires look { bounder.now.look < 16 }
-        requires horizon { front.now.horizon ≡ bounder.now.horizon }
-        requires stage { front.now.front.stage < front.now.horizon }
-        requires room { has_room model.now.model front.now.horizon front.now.front ≡ true }
-        requires look_room { IsRoomFor bounder.now.is_exact model.now.model bounder.now.look room.old }
-        ensures is { IfOk result (IsGameOf model.now.model front.now.horizon (suc bounder.now.look)
-            front.now.front) }
-        ensures sound { IfOk result (λ g. BoundsKeepers model.now.model front.now.horizon front.now.front
-            (game_bound g)) }
-        ensures look_room { IsRoomFor bounder.now.is_exact model.now.model bounder.now.look room.new }
-    {
-        let look = bounder.look() + 1;
-        room.reach(alloc, model, look)?;
-        let game = Game::with_look(alloc, model, front, bounder, look, room)?;
-        Ok(game)
-    }
-
-    // The game with this look.
-    fn with_look(
-        alloc: Global,
-        model: &Model,
-        front: &Front,
-        bounder: &Bounder,
-        look: u32,
-        room: &mut LookRoom,
-    ) -> Result<Game, Memory>
-        requires of_model { IsFrontOf model.now.model front.now }
-        requires bounder { IsBounderOf model.now.model bounder.now }
-        requires horizon { front.now.horizon ≡ bounder.now.horizon }
-        requires stage { front.now.front.stage < front.now.horizon }
-        requires room { has_room model.now.model front.now.horizon front.now.front ≡ true }
-        requires some_look { 0 < look }
-        requires look_room { IsRoomFor bounder.now.is_exact model.now.model look room.old }
-        ensures is { IfOk result (IsGameOf model.now.model front.now.horizon look front.now.front) }
-        ensures sound { IfOk result (λ g. BoundsKeepers model.now.model front.now.horizon front.now.front
-            (game_bound g)) }
-        ensures look_room { IsRoomFor bounder.now.is_exact model.now.model look room.new }
-    {
         let actions = JointActions::of(alloc, model)?;
         let choices = choices_of(alloc, front, model.agents())?;
         let count = joint_count(&choices);
-        let table = look_ahead_table(alloc, model, front, bounder, look, count, room)?;
+        let table = look_ahead_table(alloc, model, front, bounder, count, room)?;
         let wanted = wanted_choices(alloc, &choices, count)?;
         let greatest = greatest_entries(alloc, &actions, &table, &wanted, count)?;
         let earned = front.earned().high;

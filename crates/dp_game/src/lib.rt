@@ -6,6 +6,7 @@ mod actions;
 mod bounder;
 mod change;
 mod choices;
+mod deeper;
 mod game;
 mod places;
 mod table;

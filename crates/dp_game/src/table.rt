@@ -21,14 +21,12 @@ use dp_pomdp::LookRoom;
 use dp_spec::Span;
 use std::alloc::Global;
 
-// Joint class by joint class, the look-ahead of each joint action with this look, for the `count` joint classes of
-// the front.
+// Joint class by joint class, the look-ahead of each joint action, for the `count` joint classes of the front.
 pub(crate) fn look_ahead_table(
     alloc: Global,
     model: &Model,
     front: &Front,
     bounder: &Bounder,
-    look: u32,
     count: usize,
     room: &mut LookRoom,
 ) -> Result<Vec<i128>, Memory>
@@ -38,14 +36,13 @@ pub(crate) fn look_ahead_table(
     requires stage { front.now.front.stage < front.now.horizon }
     requires cells { IsWithinCells model.now.model front.now }
     requires count { count ≡ product (class_counts front.now.front.agents) }
-    requires some_look { 0 < look }
-    requires room { IsRoomFor bounder.now.is_exact model.now.model look room.old }
-    ensures rows { IfOk result (λ v. v.items ≡ rows_of (class_row model.now.model front.now bounder.now look) count) }
-    ensures room { IsRoomFor bounder.now.is_exact model.now.model look room.new }
+    requires room { IsRoomFor bounder.now.is_exact model.now.model bounder.now.look room.old }
+    ensures rows { IfOk result (λ v. v.items ≡ rows_of (class_row model.now.model front.now bounder.now) count) }
+    ensures room { IsRoomFor bounder.now.is_exact model.now.model bounder.now.look room.new }
 {
     let mut table = Vec::new(alloc);
     for joint in 0..count {
-        push_class(model, front, bounder, look, joint, room, &mut table)?;
+        push_class(model, front, bounder, joint, room, &mut table)?;
     }
     Ok(table)
 }
@@ -55,7 +52,6 @@ fn push_class(
     model: &Model,
     front: &Front,
     bounder: &Bounder,
-    look: u32,
     joint: usize,
     room: &mut LookRoom,
     table: &mut Vec<i128>,
@@ -66,14 +62,13 @@ fn push_class(
     requires stage { front.now.front.stage < front.now.horizon }
     requires cells { IsWithinCells model.now.model front.now }
     requires joint { joint < product (class_counts front.now.front.agents) }
-    requires some_look { 0 < look }
-    requires room { IsRoomFor bounder.now.is_exact model.now.model look room.old }
+    requires room { IsRoomFor bounder.now.is_exact model.now.model bounder.now.look room.old }
     ensures row { IfOk result (λ _. table.new.items ≡ table.old.items ++ class_row model.now.model front.now
-        bounder.now look joint) }
-    ensures room { IsRoomFor bounder.now.is_exact model.now.model look room.new }
+        bounder.now joint) }
+    ensures room { IsRoomFor bounder.now.is_exact model.now.model bounder.now.look room.new }
 {
     let weights = front.class_weights(joint);
-    push_row(model, front.stage(), bounder, look, weights, room, table)?;
+    push_row(model, front.stage(), bounder, weights, room, table)?;
     Ok(())
 }
 
@@ -82,7 +77,6 @@ fn push_row(
     model: &Model,
     stage: u32,
     bounder: &Bounder,
-    look: u32,
     weights: &[Span],
     room: &mut LookRoom,
     table: &mut Vec<i128>,
@@ -91,13 +85,12 @@ fn push_row(
     requires time { stage < bounder.now.horizon }
     requires one_each { length weights.now ≡ model.now.model.states }
     requires weights { AreWeights bounder.now.is_exact model.now.model stage (weights_of weights.now) }
-    requires some_look { 0 < look }
-    requires room { IsRoomFor bounder.now.is_exact model.now.model look room.old }
+    requires room { IsRoomFor bounder.now.is_exact model.now.model bounder.now.look room.old }
     ensures row { IfOk result (λ _. table.new.items ≡ table.old.items ++ map
         (λ a. action_look_ahead_in (arithmetic bounder.now.is_exact model.now.model.scales)
-        model.now.model (bounder.now.horizon - stage - 1) (weights_of weights.now) a look)
+        model.now.model (bounder.now.horizon - stage - 1) (weights_of weights.now) a bounder.now.look)
         (range_with_len 0 (joint_actions model.now.model))) }
-    ensures room { IsRoomFor bounder.now.is_exact model.now.model look room.new }
+    ensures room { IsRoomFor bounder.now.is_exact model.now.model bounder.now.look room.new }
 {
     room.push_row(
         model,
@@ -105,7 +98,7 @@ fn push_row(
         bounder.table(),
         weights,
         stage,
-        look,
+        bounder.look(),
         table,
     )
 }

@@ -139,7 +139,7 @@ told_at false ps x q e = by (slice_get ps x) refl (sym (slice_get-map without_sp
 
 module _ (A : Arithmetic) (m : Model) (h look : ℕ) (F : Front) (s : Bool) (all : List told.Place)
     (are : map place_of all ≡ told_places s (places_of A m h look F)) where
-  as_many : length all ≡ length (places_of A m h look F)
+  pub as_many : length all ≡ length (places_of A m h look F)
   as_many = sym (length-map all place_of) ∙ ap (λ l. length l) are ∙ told_length s (places_of A m h look F)
 
   pub some_told : is_complete F.agents ≡ false → 0 < length all

@@ -1,168 +1,202 @@
--- What follows the last choice of a stage, bounded by the front before it.
-use Rattle.std.proofs.Common.{◌≡◌, ℕ, zero, suc, ◌*◌, ◌<◌, ◌≤◌, Bool, true, false, List, [], ◌∷◌, length}
-use Rattle.std.proofs.Common.{set, Option, None, Some, refl, sym, ap, subst, ◌∙◌, arith}
-use Rattle.std.specs.Prelude.{◌&&◌, ◌||◌, ◌==◌, not, nat_lt, is_some, replicate, IfSome}
-use Rattle.std.proofs.Math.Bool.{and-false}
-use Rattle.std.proofs.lemmas.Bool.{lt-ltb}
+-- The choice of the one class without an action, and the front after it.
+use Rattle.std.proofs.Common.{◌≡◌, ℕ, zero, suc, ◌+◌, ◌*◌, ◌<◌, ◌≤◌, Bool, true, false, List, [], ◌∷◌, length, get_or}
+use Rattle.std.proofs.Common.{drop, Option, None, Some, add-one, length-append, refl, sym, ap, subst, ◌∙◌, arith}
+use Rattle.std.specs.Prelude.{◌==◌, ◌||◌, is_none, not, nat_lt, replicate, IfSome}
+use Rattle.std.specs.List.{flat_map, range_with_len}
 use Rattle.std.proofs.lemmas.Bool.Decides.{nat_tests}
 use Rattle.std.proofs.lemmas.List.{length-replicate}
+use Rattle.dp_laws.proofs.ChosenFronts.{counts_chosen}
+use Rattle.dp_laws.proofs.TreeDepth.{choice_assigns_one}
+use Rattle.dp_laws.proofs.WellFormedSteps.{advanced_is_front, chosen_is_front}
 use Rattle.dp_spec.proofs.JointNumberLaws.{positive_left, positive_right}
+use Rattle.dp_spec.specs.Arithmetic.{Arithmetic}
 use Rattle.dp_spec.specs.Front.{AgentFront, Front, class_counts}
 use Rattle.dp_spec.specs.JointNumbers.{product}
 use Rattle.dp_spec.specs.Mode.{is_exact_mode}
-use Rattle.dp_spec.specs.Model.{IsModel, Model}
-use Rattle.dp_spec.specs.Qualities.{HasNoEquivalent}
-use Rattle.dp_spec.specs.Steps.{advanced_agent, advanced_agents, advanced_front, all_chosen}
+use Rattle.dp_spec.specs.Model.{Model}
+use Rattle.dp_spec.specs.Qualities.{chosen_of, places_of}
+use Rattle.dp_spec.specs.Steps.{IsUnassigned, advanced_agent, advanced_agents, advanced_front, all_chosen}
 use Rattle.dp_spec.specs.Steps.{chosen_front, front_after_choice, is_complete, with_choice}
 use Rattle.dp_spec.specs.WellFormed.{IsFront}
-use Rattle.dp_spec.specs.Wide.{is_wide, none_count, unassigned_count, widens}
-use Rattle.dp_laws.proofs.WellFormedSteps.{advanced_is_front, chosen_is_front}
+use Rattle.dp_spec.specs.Wide.{has_room, is_room, is_wide, none_count, unassigned_count}
 use Rattle.dp_cluster.proofs.AdvancedParts.{some_class}
 use Rattle.dp_cluster.proofs.ChosenActions.{agents_of}
+use Rattle.dp_cluster.proofs.WideFronts.{counted_agent, counted_agents, counted_all, counted_none, counted_one}
+use Rattle.dp_cluster.proofs.WideFronts.{not_last}
 use Rattle.dp_cluster.specs.KeptFronts.{KeptFront}
 use Rattle.dp_game.proofs.AdvancedLook.{chosen_look}
-use Rattle.dp_game.specs.Games.{KeptGame}
-use Rattle.dp_search.specs.declared.held_front.Choice.{Choice}
 use Rattle.dp_search.specs.declared.held_front.HeldFront.{HeldFront}
 use Rattle.dp_search.specs.Expansions.{mode_bound}
+use Rattle.dp_search.specs.FrontPlaces.{agent_places_of, place_at, places_below}
 use Rattle.dp_search.specs.FrontPlanners.{IsPlannerFront}
-use Rattle.dp_search.specs.HeldFronts.{IsChoiceAt, IsHeldFront, front_after, front_meant}
-use Rattle.dp_search.specs.LastChoices.{IsLastGame}
+use Rattle.dp_search.specs.HeldFronts.{IsChoiceAt, IsHeldFront, front_meant}
+use Rattle.dp_search.specs.LastChoices.{IsLastStep}
 use Rattle.dp_search.proofs.FrontSteps.{after_complete}
+use Rattle.dp_search.proofs.PlaceLists.{agent_more, place_more, place_skipped}
 use Rattle.dp_search.proofs.UnfinishedFronts.{after_choice_unfinished}
 
--- ---- which action is chosen does not matter to what is left
+-- ---- a front has a place for each class without an action
 
-all_chosen_alike : (os : List (Option ℕ)) (c a b : ℕ)
-    → all_chosen (set os c (Some a)) ≡ all_chosen (set os c (Some b))
-all_chosen_alike [] c a b = refl
-all_chosen_alike (o ∷ os) zero a b = refl
-all_chosen_alike (o ∷ os) (suc c) a b = ap (λ t. is_some o && t) (all_chosen_alike os c a b)
+module _ (A : Arithmetic) (m : Model) (h look : ℕ) (F : Front) where
+  below_more : (i n : ℕ) → n < length (chosen_of F i) → (o : Option ℕ) → get_or (chosen_of F i) n None ≡ o
+      → length (places_below A m h look F i n) + none_count (drop n (chosen_of F i)) ≡ none_count (chosen_of F i)
+      → length (places_below A m h look F i (suc n)) + none_count (drop (suc n) (chosen_of F i))
+      ≡ none_count (chosen_of F i)
+  below_more i n lt None at before =
+      let many = ap (λ l. length l) (place_more A m h look F i n at) in
+      let both = length-append (places_below A m h look F i n) (place_at A m h look F i n ∷ []) in
+      let next = counted_one (chosen_of F i) n (length (places_below A m h look F i n))
+      (none_count (chosen_of F i)) lt (ap (λ o. is_none o) at) before in
+      let step = ap (λ z. none_count (drop z (chosen_of F i))) (add-one n) in
+      omega (arith, many, both, next, step)
+  below_more i n lt (Some a) at before =
+      let same = ap (λ l. length l) (place_skipped A m h look F i n a at) in
+      let next = counted_none (chosen_of F i) n (length (places_below A m h look F i n))
+      (none_count (chosen_of F i)) lt (ap (λ o. is_none o) at) before in
+      let step = ap (λ z. none_count (drop z (chosen_of F i))) (add-one n) in
+      omega (arith, same, next, step)
 
-complete_alike : (i c a b : ℕ) (ds : List AgentFront)
-    → is_complete (with_choice i c a ds) ≡ is_complete (with_choice i c b ds)
-complete_alike i c a b [] = refl
-complete_alike zero c a b (d ∷ ds) = ap (λ t. t && is_complete ds) (all_chosen_alike d.chosen c a b)
-complete_alike (suc i) c a b (d ∷ ds) = ap (λ t. all_chosen d.chosen && t) (complete_alike i c a b ds)
+  below_counted : (i n : ℕ) → n ≤ length (chosen_of F i)
+      → length (places_below A m h look F i n) + none_count (drop n (chosen_of F i)) ≡ none_count (chosen_of F i)
+  below_counted i zero le = omega arith
+  below_counted i (suc n) le =
+      below_more i n (omega arith) (get_or (chosen_of F i) n None) refl (below_counted i n (omega arith))
 
--- ---- the next stage of two agents or more has more than one class without an action
+  agent_counted : (i : ℕ) → length (agent_places_of A m h look F i) ≡ none_count (chosen_of F i)
+  agent_counted i =
+      counted_all (chosen_of F i) (length (chosen_of F i)) (length (agent_places_of A m h look F i))
+      (none_count (chosen_of F i)) (omega arith) (below_counted i (length (chosen_of F i)) (omega arith))
 
-all_none : (k : ℕ) → none_count (replicate k None) ≡ k
+  agents_counted : (n : ℕ) → n ≤ length F.agents
+      → length (flat_map (agent_places_of A m h look F) (range_with_len 0 n)) + unassigned_count (drop n F.agents)
+      ≡ unassigned_count F.agents
+  agents_counted zero le = omega arith
+  agents_counted (suc n) le =
+      let before = flat_map (agent_places_of A m h look F) (range_with_len 0 n) in
+      let many = ap (λ l. length l) (agent_more A m h look F n) in
+      let both = length-append before (agent_places_of A m h look F n) in
+      let next = counted_agent F.agents n (length before) (unassigned_count F.agents)
+      (length (agent_places_of A m h look F n)) (omega arith) (agent_counted n)
+      (agents_counted n (omega arith)) in
+      let step = ap (λ z. unassigned_count (drop z F.agents)) (add-one n) in
+      omega (arith, many, both, next, step)
+
+  pub places_counted : length (places_of A m h look F) ≡ unassigned_count F.agents
+  places_counted =
+      counted_agents F.agents (length F.agents) (length (places_of A m h look F)) (unassigned_count F.agents)
+      (omega arith) (agents_counted (length F.agents) (omega arith))
+
+-- ---- the choice for the last of them completes a front
+
+all_given : (os : List (Option ℕ)) → none_count os ≡ 0 → all_chosen os ≡ true
+all_given [] e = refl
+all_given (None ∷ os) e = absurd (omega arith)
+all_given (Some a ∷ os) e = all_given os e
+
+none_left_complete : (ds : List AgentFront) → unassigned_count ds ≡ 0 → is_complete ds ≡ true
+none_left_complete [] e = refl
+none_left_complete (d ∷ ds) e =
+    rw (all_given d.chosen (omega arith)) (none_left_complete ds (omega arith))
+
+pub last_completes : (ds : List AgentFront) (i c a : ℕ) → unassigned_count ds ≡ 1 → IsUnassigned i c ds
+    → is_complete (with_choice i c a ds) ≡ true
+last_completes ds i c a one free =
+    none_left_complete (with_choice i c a ds) (omega (arith, choice_assigns_one i c a ds free, one))
+
+-- a choice keeps room
+pub chosen_room : (m : Model) (h : ℕ) (F : Front) (i c a : ℕ) → has_room m h (chosen_front F i c a) ≡ has_room m h F
+unfolding has_room
+chosen_room m h F i c a = ap (λ (ns : List ℕ). F.stage == h || is_room m (product ns)) (counts_chosen i c a F.agents)
+
+-- ---- after an advance each agent has a class without an action
+
+all_none : (n : ℕ) → none_count (replicate n None) ≡ n
 all_none zero = refl
-all_none (suc k) = ap suc (all_none k)
+all_none (suc n) = ap suc (all_none n)
 
-own_classes : (f n : ℕ) (d : AgentFront) (ns : List ℕ) (ds : List AgentFront)
-    → 0 < product (class_counts (advanced_agents (n ∷ ns) f (d ∷ ds)))
-    → (1 ≤ none_count (advanced_agent n f d).chosen) × (0 < product (class_counts (advanced_agents ns f ds)))
+advanced_many : (f : ℕ) (ns : List ℕ) (ds : List AgentFront)
+    → 0 < product (class_counts (advanced_agents ns f ds))
+    → length (advanced_agents ns f ds) ≤ unassigned_count (advanced_agents ns f ds)
 unfolding advanced_agent
-own_classes f n d ns ds counts =
-    let k = length d.chosen * n in
+advanced_many f [] ds some = omega arith
+advanced_many f (n ∷ ns) [] some = omega arith
+advanced_many f (n ∷ ns) (d ∷ ds) some =
     let nothing : Option ℕ = None in
-    let rest = product (class_counts (advanced_agents ns f ds)) in
-    let own = positive_left (length (replicate k nothing)) rest 0 counts in (
-      omega (arith, own, length-replicate k nothing, all_none k),
-      positive_right (length (replicate k nothing)) rest 0 counts,
+    let k = length d.chosen * n in
+    let own = length (replicate k nothing) in
+    let others = product (class_counts (advanced_agents ns f ds)) in
+    omega (
+      arith,
+      positive_left own others 0 some,
+      length-replicate k nothing,
+      all_none k,
+      advanced_many f ns ds (positive_right own others 0 some),
     )
 
-one_free : (f : ℕ) (ns : List ℕ) (ds : List AgentFront) → 1 ≤ length (advanced_agents ns f ds)
-    → 0 < product (class_counts (advanced_agents ns f ds)) → 1 ≤ unassigned_count (advanced_agents ns f ds)
-one_free f [] ds some counts = absurd (omega arith)
-one_free f (n ∷ ns) [] some counts = absurd (omega arith)
-one_free f (n ∷ ns) (d ∷ ds) some counts = let own = own_classes f n d ns ds counts in omega (arith, own.0)
-
-two_free : (f : ℕ) (ns : List ℕ) (ds : List AgentFront) → 2 ≤ length (advanced_agents ns f ds)
-    → 0 < product (class_counts (advanced_agents ns f ds)) → 2 ≤ unassigned_count (advanced_agents ns f ds)
-two_free f [] ds some counts = absurd (omega arith)
-two_free f (n ∷ ns) [] some counts = absurd (omega arith)
-two_free f (n ∷ ns) (d ∷ ds) some counts =
-    let own = own_classes f n d ns ds counts in
-    let rest = one_free f ns ds (omega arith) own.1 in
-    omega (arith, own.0, rest)
+-- ---- the front after it
 
 not_one : (n : ℕ) → 2 ≤ n → (n == 1) ≡ false
-not_one n more = grind (arith, nat_tests)
+not_one n le = grind (arith, nat_tests)
 
-more_are_narrow : (m : Model) (h : ℕ) (F : Front) → 2 ≤ unassigned_count F.agents → is_wide m h 0 F ≡ false
-unfolding is_wide
-more_are_narrow m h F more =
-    ap (λ t. nat_lt F.stage h && (false || (t && widens m h F))) (not_one (unassigned_count F.agents) more)
-    ∙ and-false (nat_lt F.stage h)
+before_end : (f h : ℕ) → f < h → false ≡ not (nat_lt f h)
+before_end f h lt = grind (arith, nat_tests)
 
--- ---- the front after the choice
+module _ (m : Model) (h look : ℕ) (k : KeptFront) (is : IsPlannerFront m h k) (last : IsLastStep look k)
+    (some_look : 0 < look) (i c a : ℕ) (free : IsUnassigned i c k.front.agents)
+    (action : a < get_or m.actions i 0) where
+  abbrev F : Front
+  F = k.front
 
-module _ (m : Model) (h look above : ℕ) (k : KeptFront) (c : Choice) (g : KeptGame)
-    (is : IsLastGame m h look k c g) where
-  abbrev C : Front
-  C = chosen_front k.front c.agent c.class c.action
+  front : IsFront m h F
+  front = subst (λ (n : ℕ). IsFront m n F) is.horizon is.of_model.front
 
-  abbrev G : Front
-  G = advanced_front m C
+  step : suc F.stage < h
+  step = subst (λ (n : ℕ). suc F.stage < n) is.horizon last.step
 
-  model_is : IsModel m
-  model_is = is.of_planner.of_model.model
+  complete : is_complete (with_choice i c a F.agents) ≡ true
+  complete = last_completes F.agents i c a last.last free
 
-  front_is : IsFront m h k.front
-  front_is = subst (λ (n : ℕ). IsFront m n k.front) is.of_planner.horizon is.of_planner.of_model.front
+  exact : is_exact_mode m h ≡ true
+  exact = sym (is.of_model.mode ∙ ap (is_exact_mode m) is.horizon) ∙ last.exact
 
-  exact_is : is_exact_mode m h ≡ true
-  exact_is = sym (is.of_planner.of_model.mode ∙ ap (is_exact_mode m) is.of_planner.horizon) ∙ is.last.exact
+  after : front_after_choice m F i c a ≡ advanced_front m (chosen_front F i c a)
+  after = after_complete m F i c a complete
 
-  complete_is : is_complete C.agents ≡ true
-  complete_is = complete_alike c.agent c.class c.action 0 k.front.agents ∙ is.last.complete
+  next : IsFront m h (advanced_front m (chosen_front F i c a))
+  next = advanced_is_front m h (chosen_front F i c a) (chosen_is_front m h F i c a front (omega (arith, step)) free
+      action) (omega (arith, step)) complete
 
-  step_is : suc k.front.stage < h
-  step_is = subst (λ (n : ℕ). suc k.front.stage < n) is.of_planner.horizon is.last.step
+  -- the bound is that of the deeper look before the advance
+  pub deeper_is : mode_bound m h look (front_after_choice m F i c a)
+      ≡ mode_bound m h (suc look) (chosen_front F i c a)
+  deeper_is = chosen_look m is.of_model.model h look F front exact i c a free action complete step some_look
 
-  after_is : front_after_choice m k.front c.agent c.class c.action ≡ G
-  after_is = after_complete m k.front c.agent c.class c.action complete_is
+  next_early : (front_after_choice m F i c a).stage < h
+  next_early = subst (λ (G : Front). G.stage < h) (sym after) step
 
-  next_is : IsFront m h G
-  next_is = advanced_is_front m h C (chosen_is_front m h k.front c.agent c.class c.action front_is is.early
-      is.unassigned is.action) is.early complete_is
+  next_narrow : false ≡ is_wide m h 0 (front_after_choice m F i c a)
+  next_narrow =
+      let G = advanced_front m (chosen_front F i c a) in
+      let some = some_class m h G is.of_model.model next in
+      let as_many = agents_of next.agents in
+      let before = agents_of front.agents in
+      let many = advanced_many F.stage m.observations (with_choice i c a F.agents) some in
+      not_last m h 0 G (omega arith)
+      (not_one (unassigned_count G.agents) (omega (arith, as_many, before, many, last.agents)))
+      ∙ ap (is_wide m h 0) (sym after)
 
-  narrow_is : is_wide m h 0 G ≡ false
-  narrow_is =
-      let before = agents_of front_is.agents in
-      let after = agents_of next_is.agents in
-      more_are_narrow m h G (two_free C.stage m.observations C.agents (omega (arith, before, after, is.last.agents))
-      (some_class m h G model_is next_is))
-
-  last_bound : mode_bound m h (suc look) C
-      ≡ mode_bound m h look (front_after_choice m k.front c.agent c.class c.action)
-  last_bound = sym (chosen_look m model_is h look k.front front_is exact_is c.agent c.class c.action is.unassigned
-      is.action complete_is step_is is.some_look)
-
-  last_unfinished : is_complete (front_after_choice m k.front c.agent c.class c.action).agents ≡ false
-  last_unfinished = after_choice_unfinished m h k.front c.agent c.class c.action model_is
-      (subst (IsFront m h) (sym after_is) next_is)
-
-  last_not_full : false ≡ not (nat_lt (front_after_choice m k.front c.agent c.class c.action).stage h)
-  last_not_full = sym (ap (λ (F : Front). not (nat_lt F.stage h)) after_is
-      ∙ ap not (lt-ltb (suc k.front.stage) h step_is))
-
-  last_narrow : false ≡ is_wide m h 0 (front_after_choice m k.front c.agent c.class c.action)
-  last_narrow = sym (ap (is_wide m h 0) after_is ∙ narrow_is)
-
-  -- the front after the choice is held without being made
-  pub last_held : (merging : Bool) (s : HeldFront) → s.made.value ≡ k → s.choice ≡ Some c → s.full ≡ false
-      → s.wide ≡ false → s.bound ≡ mode_bound m h (suc look) C → is_wide m h above k.front ≡ false
-      → (merging ≡ true → is_exact_mode m h ≡ true → HasNoEquivalent m k.front) → IsHeldFront m h look merging s
-  last_held merging s made_is choice_is full_is wide_is bound_is narrow settled =
-      let meant : front_meant m s ≡ front_after_choice m k.front c.agent c.class c.action =
-      λ j. front_after m (made_is j).front (choice_is j) in
-      let there : IsChoiceAt m h merging s.made.value c =
-      subst (λ (o : KeptFront). IsChoiceAt m h merging o c) (sym made_is) (record {
-        early = is.early;
-        unassigned = is.unassigned;
-        action = is.action;
-        narrow = (above, narrow);
-        settled = settled;
-      }) in
+  -- held without being made
+  pub last_held : (merging : Bool) (s : HeldFront) → front_meant m s ≡ front_after_choice m F i c a
+      → IsPlannerFront m h s.made.value → IfSome s.choice (IsChoiceAt m h merging s.made.value) → s.full ≡ false → s.wide ≡ false
+      → s.bound ≡ mode_bound m h look (front_after_choice m F i c a) → IsHeldFront m h look merging s
+  last_held merging s meant made choice full wide bound =
+      let back = sym meant in
       record {
-        made = subst (IsPlannerFront m h) (sym made_is) is.of_planner;
-        choice = subst (λ o. IfSome o (IsChoiceAt m h merging s.made.value)) (sym choice_is) there;
-        unfinished = λ early. ap (λ (F : Front). is_complete F.agents) meant ∙ last_unfinished;
-        full = full_is ∙ last_not_full ∙ ap (λ (F : Front). not (nat_lt F.stage h)) (sym meant);
-        wide = wide_is ∙ last_narrow ∙ ap (is_wide m h 0) (sym meant);
-        bound = bound_is ∙ last_bound ∙ ap (mode_bound m h look) (sym meant);
+        made = made;
+        choice = choice;
+        unfinished = λ early. ap (λ (G : Front). is_complete G.agents) meant
+            ∙ after_choice_unfinished m h F i c a is.of_model.model (subst (IsFront m h) (sym after) next);
+        full = full ∙ before_end _ h next_early ∙ ap (λ (G : Front). not (nat_lt G.stage h)) back;
+        wide = wide ∙ next_narrow ∙ ap (is_wide m h 0) back;
+        bound = bound ∙ ap (mode_bound m h look) back;
       }

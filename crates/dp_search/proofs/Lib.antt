@@ -2,6 +2,7 @@ pub mod Steps
 pub mod MoreLeaves
 pub mod GrownLeaves
 pub mod TriedPolicies
+pub mod LastChoices
 pub mod LeavesSoFar
 pub mod ConstantPolicies
 pub mod FrontSteps
@@ -14,7 +15,6 @@ pub mod BranchPlaces
 pub mod Expansions
 pub mod MergedBounds
 pub mod HeldFronts
-pub mod LastChoices
 pub mod PlannerFronts
 pub mod PlannedCertificates
 pub mod UnderwayFronts

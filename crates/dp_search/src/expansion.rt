@@ -9,7 +9,7 @@ ghost use Rattle.dp_spec.specs.Model.{Model as PlainModel};
 ghost use Rattle.dp_spec.specs.Pairs.{IsPair};
 ghost use Rattle.dp_spec.specs.Qualities.{HasNoEquivalent};
 ghost use Rattle.dp_spec.specs.Steps.{IsUnassigned, chosen_front, front_after_choice, is_complete};
-ghost use Rattle.dp_spec.specs.Wide.{is_wide};
+ghost use Rattle.dp_spec.specs.Wide.{is_wide, unassigned_count};
 ghost use Rattle.dp_spec.specs.declared.step.Step.TheVariants.{Merge};
 ghost use Rattle.dp_model.specs.Horizons.{fit_of};
 ghost use Rattle.dp_cluster.specs.KeptFronts.{IsFrontOf};
@@ -29,7 +29,7 @@ use crate::bounding::{after_choice, own_bound};
 use crate::chooser::Chooser;
 use crate::front_places::told_places;
 use crate::held_front::{Choice, HeldFront};
-use crate::last_choice::{is_last_choice, last_children};
+use crate::last_choice::{is_last_step, last_children};
 use crate::look::copied;
 use crate::options::PlanOpts;
 use crate::place::Place;
@@ -281,7 +281,8 @@ fn branched<F: Fn(&[Place]) -> usize>(
     let mut game = Game::with_room(alloc, model, front, bounder, room)?;
     let all = told_places(alloc, model, front, &mut game, options.look, rule.spreads())?;
     let place = all[rule.pick(&all)];
-    let children = children_of(
+    let one = all.len() == 1;
+    let children = children_at(
         alloc,
         model,
         bounder,
@@ -289,7 +290,7 @@ fn branched<F: Fn(&[Place]) -> usize>(
         &mut game,
         place.agent,
         place.class,
-        options.look,
+        one,
         room,
     )?;
     Ok(Expanded {
@@ -302,7 +303,8 @@ fn branched<F: Fn(&[Place]) -> usize>(
 }
 
 // The fronts after the actions for a class, in order, with their bounds. `game` is the game of the front.
-fn children_of(
+// `one` says whether the class is the only one without an action.
+fn children_at(
     alloc: Global,
     model: &Model,
     bounder: &Bounder,
@@ -310,17 +312,17 @@ fn children_of(
     game: &mut Game,
     agent: u32,
     class: u32,
-    look: u32,
+    one: bool,
     room: &mut LookRoom,
 ) -> Result<Vec<Child<HeldFront>>, Memory>
     requires bounder { IsBounderOf model.now.model bounder.now }
-    requires look { bounder.now.look ≡ look }
     requires front { IsPlannerFront model.now.model bounder.now.horizon made.now.value }
     requires stage { made.now.value.front.stage < bounder.now.horizon }
     requires narrow { (above : ℕ) ×
         (is_wide model.now.model bounder.now.horizon above made.now.value.front ≡ false) }
     requires game { IsGameOf model.now.model bounder.now.horizon bounder.now.look made.now.value.front game.old }
     requires unassigned { IsUnassigned agent class made.now.value.front.agents }
+    requires one { one ≡ true → unassigned_count made.now.value.front.agents ≡ 1 }
     requires look_room { IsRoomFor bounder.now.is_exact model.now.model bounder.now.look room.old }
     ensures fronts { IfOk result (λ v. map (λ (c : SpecChild SpecHeld). front_meant model.now.model c.front) v.items
         ≡ map (front_after_choice model.now.model made.now.value.front agent class)
@@ -331,15 +333,16 @@ fn children_of(
         All (IsHeldChild model.now.model bounder.now.horizon bounder.now.look merging) v.items) }
     ensures look_room { IsRoomFor bounder.now.is_exact model.now.model bounder.now.look room.new }
 {
-    if is_last_choice(alloc, made.as_ref(), look, agent, class)? {
+    if is_last_step(bounder, made.as_ref(), one) {
         last_children(alloc, model, bounder, made, agent, class, room)
     } else {
-        each_child(alloc, model, bounder, made, game, agent, class, room)
+        children_of(alloc, model, bounder, made, game, agent, class, room)
     }
 }
 
-// The same by making each front. `game` is the game of the front, and is left as it was.
-fn each_child(
+// The fronts after the actions for a class, in order, with their bounds. `game` is the game of the front,
+// and is left as it was.
+fn children_of(
     alloc: Global,
     model: &Model,
     bounder: &Bounder,

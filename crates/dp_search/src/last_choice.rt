@@ -1,54 +1,48 @@
-//! The fronts after the last choice of a stage.
-ghost use Rattle.std.specs.Prelude.{◌≡◌, ◌<◌, ◌≤◌, ℕ, Bool, true, false, All, map, get_or, IfOk, OnOk};
+//! The fronts after the choice that is the last one of its stage.
+ghost use Rattle.std.specs.Prelude.{◌≡◌, ◌<◌, ℕ, Bool, true, false, All, map, get_or, IfOk};
 ghost use Rattle.std.specs.List.{range_with_len};
 ghost use Rattle.dp_spec.specs.Mode.{is_exact_mode};
 ghost use Rattle.dp_spec.specs.Model.{Model as PlainModel};
 ghost use Rattle.dp_spec.specs.Qualities.{HasNoEquivalent};
 ghost use Rattle.dp_spec.specs.Steps.{IsUnassigned, front_after_choice};
-ghost use Rattle.dp_spec.specs.Wide.{is_wide};
+ghost use Rattle.dp_spec.specs.Wide.{is_wide, unassigned_count};
+ghost use Rattle.dp_cluster.specs.KeptFronts.{IsFrontOf};
 ghost use Rattle.dp_pomdp.specs.Rooms.{IsRoomFor};
 ghost use Rattle.dp_game.specs.Bounders.{IsBounderOf};
 ghost use Rattle.dp_search.specs.declared.held_front.HeldFront.{HeldFront as SpecHeld};
 ghost use Rattle.dp_search.specs.declared.planner.Child.{Child as SpecChild};
 ghost use Rattle.dp_search.specs.FrontPlanners.{IsPlannerFront};
+ghost use Rattle.dp_search.specs.Expansions.{mode_bound};
 ghost use Rattle.dp_search.specs.HeldFronts.{IsHeldChild, front_meant};
-ghost use Rattle.dp_search.specs.LastChoices.{IsLastChoice, IsLastGame};
+ghost use Rattle.dp_search.specs.LastChoices.{IsLastStep};
 
-use crate::expansion::chosen_bound;
 use crate::held_front::{Choice, HeldFront};
+use crate::look::copied;
 use crate::planner::Child;
 use dp_base::Memory;
 use dp_cluster::Front;
-use dp_game::{Bounder, Game};
+use dp_game::Bounder;
 use dp_model::Model;
 use dp_pomdp::LookRoom;
 use std::alloc::Global;
 use std::rc::Rc;
 
-/// Whether a look of one step more bounds the fronts after a choice for this class, without making them: in
-/// exact mode, before a step that another one follows, where no other class is without an action. With two
-/// agents or more the next stage has more than one such class. The only error is want of memory.
-pub(crate) fn is_last_choice(
-    alloc: Global,
-    front: &Front,
-    look: u32,
-    agent: u32,
-    class: u32,
-) -> Result<bool, Memory>
-    requires stage { front.now.front.stage < front.now.horizon }
-    requires unassigned { IsUnassigned agent class front.now.front.agents }
-    ensures { IfOk result (λ last. last ≡ true → IsLastChoice look front.now agent class) }
+/// Whether a look of one step more bounds the fronts after a choice without making them: in exact mode, where
+/// the choice is the last one of a stage that another one follows. `one` says that one class has no action.
+/// With two agents or more the next stage has more than one such class, so that its fronts are not wide.
+pub(crate) fn is_last_step(bounder: &Bounder, front: &Front, one: bool) -> bool
+    requires of_model { (m : PlainModel) × (IsFrontOf m front.now) }
+    requires one { one ≡ true → unassigned_count front.now.front.agents ≡ 1 }
+    ensures { result ≡ true → IsLastStep bounder.now.look front.now }
 {
-    let left = front.horizon() - front.stage();
-    if !front.is_exact() || front.agents() < 2 || left < 2 || look >= 16 {
-        return Ok(false);
-    }
-    let chosen = front.assign(alloc, agent, class, 0)?;
-    Ok(chosen.complete())
+    front.invariant();
+    one && front.is_exact()
+        && front.agents() >= 2
+        && front.stage() + 1 < front.horizon()
+        && bounder.look() < 16
 }
 
-/// The fronts after the actions for the one class without an action, in order, with their bounds. None of them
-/// is made: each is bounded by the front before it, with a look of one step more.
+/// The fronts after the actions for the one class without an action, in order, with their bounds.
 pub(crate) fn last_children(
     alloc: Global,
     model: &Model,
@@ -60,11 +54,10 @@ pub(crate) fn last_children(
 ) -> Result<Vec<Child<HeldFront>>, Memory>
     requires bounder { IsBounderOf model.now.model bounder.now }
     requires front { IsPlannerFront model.now.model bounder.now.horizon made.now.value }
-    requires stage { made.now.value.front.stage < bounder.now.horizon }
-    requires unassigned { IsUnassigned agent class made.now.value.front.agents }
+    requires last { IsLastStep bounder.now.look made.now.value }
     requires narrow { (above : ℕ) ×
         (is_wide model.now.model bounder.now.horizon above made.now.value.front ≡ false) }
-    requires last { IsLastChoice bounder.now.look made.now.value agent class }
+    requires unassigned { IsUnassigned agent class made.now.value.front.agents }
     requires look_room { IsRoomFor bounder.now.is_exact model.now.model bounder.now.look room.old }
     ensures fronts { IfOk result (λ v. map (λ (c : SpecChild SpecHeld). front_meant model.now.model c.front) v.items
         ≡ map (front_after_choice model.now.model made.now.value.front agent class)
@@ -75,7 +68,6 @@ pub(crate) fn last_children(
         All (IsHeldChild model.now.model bounder.now.horizon bounder.now.look merging) v.items) }
     ensures look_room { IsRoomFor bounder.now.is_exact model.now.model bounder.now.look room.new }
 {
-    let mut deeper = Game::deeper(alloc, model, made.as_ref(), bounder, room)?;
     let mut children = Vec::new(alloc);
     for action in 0..model.actions(agent) {
         let choice = Choice {
@@ -83,36 +75,68 @@ pub(crate) fn last_children(
             class,
             action,
         };
-        let child = last_child(made, &mut deeper, choice)?;
+        let child = last_child(alloc, model, bounder, made, choice, room)?;
         children.push(child)?;
     }
     Ok(children)
 }
 
-// The front after the last choice of a stage, held, with its bound. `deeper` is the game of the front before
-// with a look of one step more, and is left as it was.
+// The front after a choice for the one class without an action, with its bound. It is held without being made.
 fn last_child(
+    alloc: Global,
+    model: &Model,
+    bounder: &Bounder,
     made: &Rc<Front>,
-    deeper: &mut Game,
     choice: Choice,
+    room: &mut LookRoom,
 ) -> Result<Child<HeldFront>, Memory>
-    requires game { (m : PlainModel) × ((h : ℕ) × ((look : ℕ) ×
-        IsLastGame m h look made.now.value choice deeper.old)) }
-    ensures front { IfOk result (λ c. (m : PlainModel) → front_meant m c.front ≡
-        front_after_choice m made.now.value.front choice.agent choice.class choice.action) }
-    ensures child { IfOk result (λ c. (m : PlainModel) (h look above : ℕ) (merging : Bool) →
-        IsLastGame m h look made.now.value choice deeper.old →
-        is_wide m h above made.now.value.front ≡ false → (merging ≡ true → is_exact_mode m h ≡ true →
-        HasNoEquivalent m made.now.value.front) → IsHeldChild m h look merging c) }
-    ensures game { OnOk result (deeper.new ≡ deeper.old) }
+    requires bounder { IsBounderOf model.now.model bounder.now }
+    requires front { IsPlannerFront model.now.model bounder.now.horizon made.now.value }
+    requires last { IsLastStep bounder.now.look made.now.value }
+    requires narrow { (above : ℕ) ×
+        (is_wide model.now.model bounder.now.horizon above made.now.value.front ≡ false) }
+    requires unassigned { IsUnassigned choice.agent choice.class made.now.value.front.agents }
+    requires action { choice.action < get_or model.now.model.actions choice.agent 0 }
+    requires look_room { IsRoomFor bounder.now.is_exact model.now.model bounder.now.look room.old }
+    ensures front { IfOk result (λ c. front_meant model.now.model c.front ≡
+        front_after_choice model.now.model made.now.value.front choice.agent choice.class choice.action) }
+    ensures child { IfOk result (λ c. (merging : Bool) → (merging ≡ true →
+        is_exact_mode model.now.model bounder.now.horizon ≡ true →
+        HasNoEquivalent model.now.model made.now.value.front) →
+        IsHeldChild model.now.model bounder.now.horizon bounder.now.look merging c) }
+    ensures look_room { IsRoomFor bounder.now.is_exact model.now.model bounder.now.look room.new }
 {
-    let bound = chosen_bound(deeper, choice.agent, choice.class, choice.action);
+    let bound = last_bound(alloc, model, bounder, made.as_ref(), choice, room)?;
     let held = HeldFront {
         made: made.clone()?,
         choice: Some(choice),
         full: false,
         wide: false,
-        bound,
+        bound: copied(&bound),
     };
     Ok(Child { front: held, bound })
+}
+
+// The bound of the front after a choice for the one class without an action, and after the advance.
+fn last_bound(
+    alloc: Global,
+    model: &Model,
+    bounder: &Bounder,
+    front: &Front,
+    choice: Choice,
+    room: &mut LookRoom,
+) -> Result<i128, Memory>
+    requires bounder { IsBounderOf model.now.model bounder.now }
+    requires front { IsPlannerFront model.now.model bounder.now.horizon front.now }
+    requires last { IsLastStep bounder.now.look front.now }
+    requires unassigned { IsUnassigned choice.agent choice.class front.now.front.agents }
+    requires action { choice.action < get_or model.now.model.actions choice.agent 0 }
+    requires look_room { IsRoomFor bounder.now.is_exact model.now.model bounder.now.look room.old }
+    ensures bound { IfOk result (λ x. x ≡ mode_bound model.now.model bounder.now.horizon bounder.now.look
+        (front_after_choice model.now.model front.now.front choice.agent choice.class choice.action)) }
+    ensures look_room { IsRoomFor bounder.now.is_exact model.now.model bounder.now.look room.new }
+{
+    let chosen = front.assign(alloc, choice.agent, choice.class, choice.action)?;
+    let bound = bounder.deeper_bound(alloc, model, &chosen, room)?;
+    Ok(bound)
 }

@@ -12,4 +12,4 @@ returns c =
     ∙ greatest_read c.args.actions.now c.args.table.now _ c.args.wanted.now _ c.args.joint _ _ _
     c.count.ensures.is
     c.agents.ensures.is
-    c.entries_of-row.ensures c.choices_of-choices.ensures c.greatest_allowed.ensures
+    c.entries_of-row.ensures c.choices_kept-choices.ensures c.greatest_allowed.ensures

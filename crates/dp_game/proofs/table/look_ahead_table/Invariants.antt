@@ -7,5 +7,5 @@ use Rattle.dp_game.proofs.table.look_ahead_table.Given as goal
 abbrev pub invariant-loop-joint : goal.invariant-loop-joint
 invariant-loop-joint l =
     (l.table.items ≡ rows_of (look_ahead_row (arithmetic l.bounder.is_exact l.model.model.scales) l.model.model
-    (l.bounder.horizon - l.front.front.stage - 1) l.front.front l.look) l.joint)
-    × (IsRoomFor l.bounder.is_exact l.model.model l.look l.room)
+    (l.bounder.horizon - l.front.front.stage - 1) l.front.front l.bounder.look) l.joint)
+    × (IsRoomFor l.bounder.is_exact l.model.model l.bounder.look l.room)

@@ -28,9 +28,9 @@ returns-clause-row c =
     let weights = c.class_weights-weights in
     let row = row_is m c.args.front.now b c.requires.of_model c.requires.bounder c.requires.horizon
     c.requires.stage c.requires.cells c.args.joint c.requires.joint weights.result.now weights.ensures.one_each
-    weights.ensures.are c.args.look in
+    weights.ensures.are in
     c.in_ok-push_row.ensures.row
     ∙ ap (λ f. c.args.table.now.items ++ map (λ a. action_look_ahead_in (arithmetic b.is_exact m.scales) m
-    (b.horizon - f - 1) (weights_of weights.result.now) a c.args.look) (range_with_len 0 (joint_actions m)))
+    (b.horizon - f - 1) (weights_of weights.result.now) a b.look) (range_with_len 0 (joint_actions m)))
     c.stage.ensures
     ∙ ap (λ l. c.args.table.now.items ++ l) row

@@ -1,4 +1,4 @@
-use Rattle.std.proofs.Common.{◌≡◌, ◌<◌, All, ℕ, map, length, refl, sym, ap, subst, ◌∙◌}
+use Rattle.std.proofs.Common.{◌≡◌, ◌<◌, All, ℕ, map, length, refl, sym, ap, subst, ◌∙◌, rules}
 use Rattle.std.specs.Fn.{FnReturnsAt}
 use Rattle.dp_spec.specs.Arithmetic.{arithmetic}
 use Rattle.dp_spec.specs.Mode.{is_exact_mode}
@@ -6,8 +6,9 @@ use Rattle.dp_spec.specs.Qualities.{places_of}
 use Rattle.dp_cluster.specs.KeptFronts.{KeptFront}
 use Rattle.dp_search.specs.HeldFronts.{IsHeldChild}
 use Rattle.dp_search.specs.Rules.{MayAnswer, place_of, told_places}
-use Rattle.dp_search.proofs.BranchPlaces.{place_free, place_picked, some_told}
+use Rattle.dp_search.proofs.BranchPlaces.{as_many, place_free, place_picked, some_told}
 use Rattle.dp_search.proofs.Expansions.{branch_expands, own_places}
+use Rattle.dp_search.proofs.LastChoices.{places_counted}
 use Rattle.dp_search.proofs.expansion.branched.Goals as goal
 
 pub pick-requires-clause-some : goal.pick-requires-clause-some
@@ -23,8 +24,8 @@ pick-requires-clause-some g c =
     (some_told (arithmetic k.is_exact m.scales) m k.horizon look k.front s c.in_ok-all.all.items are
     c.requires.unfinished)
 
-pub children_of-requires-clause-unassigned : goal.children_of-requires-clause-unassigned
-children_of-requires-clause-unassigned g c =
+pub children_at-requires-clause-unassigned : goal.children_at-requires-clause-unassigned
+children_at-requires-clause-unassigned g c =
     let m = c.args.model.now.model in
     let k = c.args.made.now.value in
     let look = c.args.options.look in
@@ -35,6 +36,20 @@ children_of-requires-clause-unassigned g c =
     place_free (arithmetic k.is_exact m.scales) m k.horizon look k.front s c.in_ok-all.all.items are
     c.pick.result _ _
     (subst (λ l. c.pick.result < length l) c.deref.ensures.value c.pick.ensures.below) c.index-place.ensures
+
+pub children_at-requires-clause-one : goal.children_at-requires-clause-one
+children_at-requires-clause-one g c one =
+    let m = c.args.model.now.model in
+    let k = c.args.made.now.value in
+    let look = c.args.options.look in
+    let s = c.spreads.result in
+    let are = subst (λ (o : KeptFront). map place_of c.in_ok-all.all.items
+    ≡ told_places s (places_of (arithmetic o.is_exact m.scales) m o.horizon look o.front))
+    c.as_ref-front.ensures c.in_ok-all.ensures.places in
+    let A = arithmetic k.is_exact m.scales in
+    let single : length c.in_ok-all.all.items ≡ 1 = search (rules, one) in
+    sym (as_many A m k.horizon look k.front s c.in_ok-all.all.items are
+    ∙ places_counted A m k.horizon look k.front) ∙ single
 
 pub returns-clause-is : goal.returns-clause-is
 returns-clause-is g c =

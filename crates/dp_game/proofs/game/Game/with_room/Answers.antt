@@ -13,7 +13,7 @@ use Rattle.dp_game.specs.Kept.{IsKept, game_with, greatest_in, rows_of}
 use Rattle.dp_game.proofs.Bounds.{bounds_keepers}
 use Rattle.dp_game.proofs.Made.{cells, choices_small, few_front, game, kept, parts_fit, table_rows, wanted_rows}
 use Rattle.dp_game.proofs.OwnChoices.{counts_of}
-use Rattle.dp_game.proofs.game.Game.with_look.Goals as goal
+use Rattle.dp_game.proofs.game.Game.with_room.Goals as goal
 
 pub choices_of-requires-clause-agents : goal.choices_of-requires-clause-agents
 choices_of-requires-clause-agents c = c.agents.ensures.is ∙ sym (agents_of c.requires.of_model.front.agents)
@@ -86,7 +86,8 @@ bound_with-bound-requires c = λ n le.
     subst (λ (x : ℤ). unsigned_abs x < 2 ^ 127) (λ j. sym (to_z-of_z w128 _ fits-earned) j +ℤ int_sum n
     (λ C. get_or (sym e j) C (pos 0)))
     (parts_fit c.args.model.now.model c.args.front.now c.args.bounder.now c.requires.of_model c.requires.bounder
-    c.requires.horizon c.requires.stage c.requires.room c.args.look c.in_ok-actions.actions c.in_ok-choices.choices.items
+    c.requires.horizon c.requires.stage c.requires.room c.args.bounder.now.look
+    c.in_ok-actions.actions c.in_ok-choices.choices.items
     c.joint_count-count.result c.in_ok-table.table.items c.earned-earned.result c.in_ok-actions.ensures
     c.in_ok-choices.ensures (c.joint_count-count.ensures ∙ ap (λ oss. product (own_counts oss))
     c.deref.ensures.value) c.in_ok-table.ensures.rows
@@ -108,7 +109,8 @@ invariant_of-result c =
     (to_z w128 (of_z w128 c.bound_with-bound.result)))
     (sym (to_z-of_z w128 _ fits-earned))
     (kept c.args.model.now.model c.args.front.now c.args.bounder.now c.requires.of_model c.requires.bounder
-    c.requires.horizon c.requires.stage c.requires.room c.args.look c.in_ok-actions.actions c.in_ok-choices.choices.items
+    c.requires.horizon c.requires.stage c.requires.room c.args.bounder.now.look
+    c.in_ok-actions.actions c.in_ok-choices.choices.items
     c.joint_count-count.result c.in_ok-table.table.items c.earned-earned.result c.in_ok-actions.ensures
     c.in_ok-choices.ensures (c.joint_count-count.ensures ∙ ap (λ oss. product (own_counts oss))
     c.deref.ensures.value) c.in_ok-table.ensures.rows
@@ -121,12 +123,12 @@ invariant_of-result c =
 pub returns-clause-is : goal.returns-clause-is
 returns-clause-is c =
     let fits-earned : SFits w128 c.earned-earned.result.high = search rules in
-    subst (λ (x : ℤ). IsGameOf c.args.model.now.model c.args.front.now.horizon c.args.look
+    subst (λ (x : ℤ). IsGameOf c.args.model.now.model c.args.front.now.horizon c.args.bounder.now.look
     c.args.front.now.front (game_with c.in_ok-actions.actions c.in_ok-choices.choices.items
     c.in_ok-table.table.items x))
     (sym (to_z-of_z w128 _ fits-earned)) (game c.args.model.now.model c.args.front.now c.args.bounder.now
-    c.requires.of_model c.requires.bounder c.requires.horizon c.requires.stage c.requires.room c.args.look
-    c.in_ok-actions.actions c.in_ok-choices.choices.items c.joint_count-count.result c.in_ok-table.table.items
+    c.requires.of_model c.requires.bounder c.requires.horizon c.requires.stage c.requires.room
+    c.args.bounder.now.look c.in_ok-actions.actions c.in_ok-choices.choices.items c.joint_count-count.result c.in_ok-table.table.items
     c.earned-earned.result c.in_ok-actions.ensures c.in_ok-choices.ensures
     (c.joint_count-count.ensures ∙ ap (λ oss. product (own_counts oss)) c.deref.ensures.value)
     c.in_ok-table.ensures.rows (c.earned-earned.ensures.is c.args.model.now.model c.requires.of_model))
@@ -137,10 +139,11 @@ returns-clause-sound c =
     subst (λ (x : ℤ). BoundsKeepers c.args.model.now.model c.args.front.now.horizon c.args.front.now.front
     (game_bound (game_with c.in_ok-actions.actions c.in_ok-choices.choices.items c.in_ok-table.table.items x)))
     (sym (to_z-of_z w128 _ fits-earned))
-    (bounds_keepers c.args.model.now.model c.args.front.now.horizon c.args.look
+    (bounds_keepers c.args.model.now.model c.args.front.now.horizon c.args.bounder.now.look
     c.args.front.now.front _
     (game c.args.model.now.model c.args.front.now c.args.bounder.now c.requires.of_model c.requires.bounder
-    c.requires.horizon c.requires.stage c.requires.room c.args.look c.in_ok-actions.actions c.in_ok-choices.choices.items
+    c.requires.horizon c.requires.stage c.requires.room c.args.bounder.now.look
+    c.in_ok-actions.actions c.in_ok-choices.choices.items
     c.joint_count-count.result c.in_ok-table.table.items c.earned-earned.result c.in_ok-actions.ensures
     c.in_ok-choices.ensures (c.joint_count-count.ensures ∙ ap (λ oss. product (own_counts oss))
     c.deref.ensures.value) c.in_ok-table.ensures.rows

@@ -7,7 +7,7 @@ use Rattle.dp_pomdp.specs.Rooms.{IsRoomFor}
 use Rattle.dp_search.specs.declared.held_front.HeldFront.{HeldFront}
 use Rattle.dp_search.specs.declared.planner.Child.{Child}
 use Rattle.dp_search.specs.HeldFronts.{IsHeldChild, front_meant}
-use Rattle.dp_search.proofs.expansion.each_child.Given as goal
+use Rattle.dp_search.proofs.expansion.children_of.Given as goal
 
 abbrev pub invariant-loop-action : goal.invariant-loop-action
 invariant-loop-action l =

@@ -6,7 +6,7 @@ use Rattle.dp_search.specs.declared.planner.Child.{Child}
 use Rattle.dp_search.specs.declared.held_front.HeldFront.{HeldFront}
 use Rattle.dp_search.specs.HeldFronts.{IsHeldChild, front_meant}
 use Rattle.dp_search.proofs.Expansions.{all_more, child_more}
-use Rattle.dp_search.proofs.expansion.each_child.Goals as goal
+use Rattle.dp_search.proofs.expansion.children_of.Goals as goal
 
 pub actions-action-end-requires : goal.actions-action-end-requires
 actions-action-end-requires c =
