@@ -187,7 +187,8 @@ module _ (m : Model) (h look : ℕ) (k : KeptFront) (is : IsPlannerFront m h k) 
 
   -- held without being made
   pub last_held : (merging : Bool) (s : HeldFront) → front_meant m s ≡ front_after_choice m F i c a
-      → IsPlannerFront m h s.made.value → IfSome s.choice (IsChoiceAt m h merging s.made.value) → s.full ≡ false → s.wide ≡ false
+      → IsPlannerFront m h s.made.value → IfSome s.choice (IsChoiceAt m h merging s.made.value)
+      → s.full ≡ false → s.wide ≡ false
       → s.bound ≡ mode_bound m h look (front_after_choice m F i c a) → IsHeldFront m h look merging s
   last_held merging s meant made choice full wide bound =
       let back = sym meant in
