@@ -46,7 +46,8 @@ module _ (next : ℕ) where
   unfolding name_lists
   too_many line lines = refl
 
-  module _ (all : Result (List GivenList) Fault) (lists : List GivenList) (agents i : ℕ) (lines : List (List Piece)) where
+  module _ (all : Result (List GivenList) Fault) (lists : List GivenList) (agents i : ℕ)
+      (lines : List (List Piece)) where
     abbrev GoesOn : Type 0
     GoesOn = Continues all lists (from_agent agents i lines)
 

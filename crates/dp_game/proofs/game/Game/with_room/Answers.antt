@@ -128,8 +128,8 @@ returns-clause-is c =
     c.in_ok-table.table.items x))
     (sym (to_z-of_z w128 _ fits-earned)) (game c.args.model.now.model c.args.front.now c.args.bounder.now
     c.requires.of_model c.requires.bounder c.requires.horizon c.requires.stage c.requires.room
-    c.args.bounder.now.look c.in_ok-actions.actions c.in_ok-choices.choices.items c.joint_count-count.result c.in_ok-table.table.items
-    c.earned-earned.result c.in_ok-actions.ensures c.in_ok-choices.ensures
+    c.args.bounder.now.look c.in_ok-actions.actions c.in_ok-choices.choices.items c.joint_count-count.result
+    c.in_ok-table.table.items c.earned-earned.result c.in_ok-actions.ensures c.in_ok-choices.ensures
     (c.joint_count-count.ensures ∙ ap (λ oss. product (own_counts oss)) c.deref.ensures.value)
     c.in_ok-table.ensures.rows (c.earned-earned.ensures.is c.args.model.now.model c.requires.of_model))
 
