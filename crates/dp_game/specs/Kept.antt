@@ -67,8 +67,8 @@ greatest_in bs table wanted C =
     greatest (λ a. get_or table (C * product bs + a) (pos 0))
     (allowed_actions bs (take (length bs) (drop (C * length bs) wanted)))
 
--- the greatest look-ahead from the weights of joint class C, of the joint actions that agree with the choices that are
--- kept for it, where r steps are left after this one
+-- the greatest look-ahead from the weights of joint class C, of the joint actions that agree with the choices kept
+-- for it, where r steps are left after this one
 abbrev pub greatest_look_in : Arithmetic → Model → ℕ → Front → ℕ → List ℕ → List (Option ℕ) → ℕ → ℤ
 greatest_look_in A m r F look bs wanted C =
     greatest (λ a. action_look_ahead_in A m r (class_weight_in A m F C) a look)
