@@ -1,47 +1,31 @@
--- The fronts that a search holds: each was made, or stands after a choice at one that was made. (Own.)
-use Rattle.std.specs.Prelude.{◌≡◌, ℕ, ◌<◌, ◌≤◌, Bool, true, false, not, nat_lt, Option, None, Some, IfSome, get_or}
+-- The fronts that a search holds: each is the one that a path leads to. (Own.)
+use Rattle.std.specs.Prelude.{◌≡◌, ℕ, ◌<◌, ◌≤◌, Bool, false, not, nat_lt, is_some, IfSome}
 use Rattle.std.specs.Prelude.{All, map, length}
 use Rattle.dp_spec.specs.Front.{Front}
-use Rattle.dp_spec.specs.Mode.{is_exact_mode}
 use Rattle.dp_spec.specs.Model.{Model}
-use Rattle.dp_spec.specs.Qualities.{HasNoEquivalent}
 use Rattle.dp_spec.specs.Space.{Space}
-use Rattle.dp_spec.specs.Steps.{IsUnassigned, front_after_choice, is_complete}
+use Rattle.dp_spec.specs.Steps.{is_complete}
 use Rattle.dp_spec.specs.Wide.{is_wide}
 use Rattle.dp_spec.specs.WholeTree.{HasChildren}
-use Rattle.dp_cluster.specs.KeptFronts.{KeptFront}
-use Rattle.dp_search.specs.declared.held_front.Choice.{Choice}
 use Rattle.dp_search.specs.declared.held_front.HeldFront.{HeldFront}
 use Rattle.dp_search.specs.declared.planner.Child.{Child}
 use Rattle.dp_search.specs.declared.planner.Expanded.{Expanded}
 use Rattle.dp_search.specs.Expansions.{mode_bound}
 use Rattle.dp_search.specs.FrontPlanners.{IsPlannerFront}
-
--- the front after a choice, if one follows
-abbrev pub front_after : Model → Front → Option Choice → Front
-front_after m F None = F
-front_after m F (Some c) = front_after_choice m F c.agent c.class c.action
+use Rattle.dp_search.specs.Paths.{IsPath, path_front}
 
 -- the front that a held one stands for
 abbrev pub front_meant : Model → HeldFront → Front
-front_meant m s = front_after m s.made.value.front s.choice
+front_meant m s = path_front m s.path.value
 
--- A choice may be made at a front before the horizon that is not wide. Where classes are merged, none of its classes
--- can be.
-pub record IsChoiceAt (m : Model) (h : ℕ) (merging : Bool) (k : KeptFront) (c : Choice) : Type 0 where
-  pub early : k.front.stage < h
-  pub unassigned : IsUnassigned c.agent c.class k.front.agents
-  pub action : c.action < get_or m.actions c.agent 0
-  pub narrow : (above : ℕ) × (is_wide m h above k.front ≡ false)
-  pub settled : merging ≡ true → is_exact_mode m h ≡ true → HasNoEquivalent m k.front
-
--- A front that a search holds is made from one of the planner, and what is kept of it is so. Before the horizon it
--- has a class without an action.
+-- A front that a search holds is reached by steps that may be made, and what is kept of it is so. Before the horizon
+-- it has a class without an action.
 pub record IsHeldFront (m : Model) (h look : ℕ) (merging : Bool) (s : HeldFront) : Type 0 where
-  pub made : IsPlannerFront m h s.made.value
-  pub choice : IfSome s.choice (IsChoiceAt m h merging s.made.value)
+  pub path : IsPath m h merging s.path.value
   pub unfinished : (front_meant m s).stage < h → is_complete (front_meant m s).agents ≡ false
-  pub full : s.full ≡ not (nat_lt (front_meant m s).stage h)
+  pub is_full : is_some s.full ≡ not (nat_lt (front_meant m s).stage h)
+  pub full : IfSome s.full (λ f. IsPlannerFront m h f.value)
+  pub same : IfSome s.full (λ f. f.value.front ≡ front_meant m s)
   pub wide : s.wide ≡ is_wide m h 0 (front_meant m s)
   pub bound : s.bound ≡ mode_bound m h look (front_meant m s)
 

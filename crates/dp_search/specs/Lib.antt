@@ -10,5 +10,7 @@ pub mod GreatestLeaves
 pub mod FrontPlaces
 pub mod Expansions
 pub mod HeldFronts
+pub mod Paths
+pub mod MadeFronts
 pub mod LastChoices
 pub mod Completions

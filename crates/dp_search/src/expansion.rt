@@ -22,18 +22,24 @@ ghost use Rattle.dp_search.specs.Expansions.{IsChild, mode_bound};
 ghost use Rattle.dp_search.specs.FrontPlanners.{IsPlannerFront, planner_space, widest};
 ghost use Rattle.dp_search.specs.FrontPlanning.{IsSearchFront};
 ghost use Rattle.dp_search.specs.HeldFronts.{IsExpansion, IsHeldChild, IsHeldFront, front_meant};
+ghost use Rattle.dp_search.specs.MadeFronts.{AreMade, IsSearchRoom, IsStart};
+ghost use Rattle.dp_search.specs.Paths.{IsPath, path_front};
 ghost use Rattle.dp_search.specs.declared.held_front.HeldFront.{HeldFront as SpecHeld};
 ghost use Rattle.dp_search.specs.Rules.{IsBranchingRule, MayAnswer};
 
 use crate::bounding::{after_choice, own_bound};
 use crate::chooser::Chooser;
 use crate::front_places::told_places;
-use crate::held_front::{Choice, HeldFront};
+use crate::held_front::HeldFront;
 use crate::last_choice::{is_last_step, last_children};
 use crate::look::copied;
+use crate::made_fronts::{MadeFront, MadeFronts};
+use crate::making::{Start, start_at};
 use crate::options::PlanOpts;
+use crate::path::{Choice, Pair, Path};
 use crate::place::Place;
 use crate::planner::{Child, Expanded};
+use crate::room::SearchRoom;
 use dp_base::Memory;
 use dp_cluster::{Front, MergeFault};
 use dp_game::{Bounder, Game};
@@ -42,14 +48,6 @@ use dp_pomdp::LookRoom;
 use dp_spec::Step;
 use std::alloc::Global;
 use std::rc::Rc;
-
-/// Two classes of an agent that can be merged.
-#[derive(Clone, Copy)]
-pub(crate) struct Pair {
-    pub agent: u32,
-    pub first: u32,
-    pub second: u32,
-}
 
 /// The step that is made at a held front before the horizon that is not wide, with the fronts after it
 /// and their bounds. Where classes are merged and two of an agent can be, it merges the least pair of the
@@ -62,7 +60,7 @@ pub(crate) fn expanded<F: Fn(&[Place]) -> usize>(
     options: PlanOpts,
     rule: &Chooser<F>,
     held: &HeldFront,
-    room: &mut LookRoom,
+    room: &mut SearchRoom,
 ) -> Result<Expanded<HeldFront>, Memory>
     requires bounder { IsBounderOf model.now.model bounder.now }
     requires look { bounder.now.look ≡ options.look }
@@ -71,59 +69,60 @@ pub(crate) fn expanded<F: Fn(&[Place]) -> usize>(
     requires narrow { (above : ℕ) ×
         (is_wide model.now.model bounder.now.horizon above (front_meant model.now.model held.now) ≡ false) }
     requires rule { IsBranchingRule F.Fn rule.now.rule }
-    requires look_room { IsRoomFor bounder.now.is_exact model.now.model bounder.now.look room.old }
+    requires room { IsSearchRoom bounder.now.is_exact model.now.model bounder.now.horizon bounder.now.look
+        options.merge room.old }
     ensures is { IfOk result (IsExpansion
         (planner_space model.now.model (fit_of model.now.model bounder.now.horizon) options
         (MayAnswer F.Fn rule.now))
         model.now.model bounder.now.horizon options.look (widest model.now.model.actions) options.merge
         (front_meant model.now.model held.now)) }
-    ensures look_room { IsRoomFor bounder.now.is_exact model.now.model bounder.now.look room.new }
+    ensures room { OnOk result (IsSearchRoom bounder.now.is_exact model.now.model bounder.now.horizon
+        bounder.now.look options.merge room.new) }
 {
-    let made = held.front(alloc, model)?;
-    let front = made.as_ref();
-    let settled = held.is_settled(front);
+    let path = &held.path;
+    let start = start_at(alloc, model, bounder, options.merge, path, &mut room.made)?;
     let bound = copied(&held.bound);
-    expanded_at(
-        alloc, model, bounder, options, rule, &made, settled, bound, room,
-    )
+    expanded_at(alloc, model, bounder, options, rule, path, start, bound, room)
 }
 
-// The same at a front that was made, with its bound. `settled` says that no two of its classes can be merged.
+// The same at the front that a path leads to, with its bound.
 fn expanded_at<F: Fn(&[Place]) -> usize>(
     alloc: Global,
     model: &Model,
     bounder: &Bounder,
     options: PlanOpts,
     rule: &Chooser<F>,
-    made: &Rc<Front>,
-    settled: bool,
+    path: &Rc<Path>,
+    start: Start,
     bound: i128,
-    room: &mut LookRoom,
+    room: &mut SearchRoom,
 ) -> Result<Expanded<HeldFront>, Memory>
     requires bounder { IsBounderOf model.now.model bounder.now }
     requires look { bounder.now.look ≡ options.look }
-    requires front { IsSearchFront model.now.model bounder.now.horizon made.now.value }
-    requires stage { made.now.value.front.stage < bounder.now.horizon }
+    requires path { IsPath model.now.model bounder.now.horizon options.merge path.now.value }
+    requires start { IsStart model.now.model bounder.now.horizon bounder.now.look options.merge
+        (path_front model.now.model path.now.value) start }
+    requires unfinished { is_complete start.front.value.front.agents ≡ false }
+    requires stage { start.front.value.front.stage < bounder.now.horizon }
     requires narrow { (above : ℕ) ×
-        (is_wide model.now.model bounder.now.horizon above made.now.value.front ≡ false) }
-    requires settled { settled ≡ true → options.merge ≡ true →
-        is_exact_mode model.now.model bounder.now.horizon ≡ true →
-        HasNoEquivalent model.now.model made.now.value.front }
+        (is_wide model.now.model bounder.now.horizon above start.front.value.front ≡ false) }
     requires bound { bound ≡ mode_bound model.now.model bounder.now.horizon options.look
-        made.now.value.front }
+        start.front.value.front }
     requires rule { IsBranchingRule F.Fn rule.now.rule }
-    requires look_room { IsRoomFor bounder.now.is_exact model.now.model bounder.now.look room.old }
+    requires room { IsSearchRoom bounder.now.is_exact model.now.model bounder.now.horizon bounder.now.look
+        options.merge room.old }
     ensures is { IfOk result (IsExpansion
         (planner_space model.now.model (fit_of model.now.model bounder.now.horizon) options
         (MayAnswer F.Fn rule.now))
         model.now.model bounder.now.horizon options.look (widest model.now.model.actions) options.merge
-        made.now.value.front) }
-    ensures look_room { IsRoomFor bounder.now.is_exact model.now.model bounder.now.look room.new }
+        start.front.value.front) }
+    ensures room { OnOk result (IsSearchRoom bounder.now.is_exact model.now.model bounder.now.horizon
+        bounder.now.look options.merge room.new) }
 {
-    let front = made.as_ref();
-    match pair_at(alloc, front, options.merge, settled)? {
-        Some(pair) => merged(alloc, model, front, pair, bound),
-        None => branched(alloc, model, bounder, options, rule, made, room),
+    let front = start.front.as_ref();
+    match pair_at(alloc, front, options.merge, start.settled)? {
+        Some(pair) => merged(alloc, model, path, front, pair, bound, &mut room.made),
+        None => branched(alloc, model, bounder, options, rule, path, start, room),
     }
 }
 
@@ -215,15 +214,19 @@ pub(crate) fn joined(alloc: Global, front: &Front, pair: Pair) -> Result<Front, 
     }
 }
 
-// The merge of two classes of a front, with the front after it, which has the same bound.
+// The merge of two classes of the front that a path leads to, with the front after it, which has the same
+// bound.
 fn merged(
     alloc: Global,
     model: &Model,
+    path: &Rc<Path>,
     front: &Front,
     pair: Pair,
     bound: i128,
+    made: &mut MadeFronts,
 ) -> Result<Expanded<HeldFront>, Memory>
     requires of_model { IsFrontOf model.now.model front.now }
+    requires path { path_front model.now.model path.now.value ≡ front.now.front }
     requires stage { front.now.front.stage < front.now.horizon }
     requires pair { IsPair model.now.model front.now.front pair.agent pair.first pair.second }
     requires exact { front.now.is_exact ≡ true }
@@ -231,12 +234,23 @@ fn merged(
     ensures fronts { IfOk result (λ x. map (λ (c : SpecChild SpecHeld). front_meant model.now.model c.front)
         x.children.items ≡ merged_front front.now.front pair.agent pair.first pair.second ∷ []) }
     ensures children { IfOk result (λ x. (h look : ℕ) (merging : Bool) →
-        IsPlannerFront model.now.model h front.now →
+        IsPlannerFront model.now.model h front.now → IsPath model.now.model h merging path.now.value →
         bound ≡ mode_bound model.now.model h look front.now.front →
         All (IsHeldChild model.now.model h look merging) x.children.items) }
+    ensures made { OnOk result ((h look : ℕ) (merging : Bool) → IsPlannerFront model.now.model h front.now →
+        AreMade model.now.model h look merging made.old → AreMade model.now.model h look merging made.new) }
 {
     let next = joined(alloc, front, pair)?;
-    let held = HeldFront::of(alloc, model, next, bound)?;
+    let next = Rc::new(alloc, next)?;
+    let after = Path::merged(path, pair)?;
+    let after = Rc::new(alloc, after)?;
+    let kept = MadeFront {
+        front: next.clone()?,
+        game: None,
+        settled: false,
+    };
+    made.keep(model, &after, kept)?;
+    let held = HeldFront::of(model, after, next, bound);
     let mut children = Vec::new(alloc);
     children.push(Child { front: held, bound })?;
     Ok(Expanded {
@@ -249,45 +263,132 @@ fn merged(
     })
 }
 
-// The branch on the place that the rule answers, with the fronts after it.
+// The branch on the place that the rule answers, with the fronts after it. The front is kept with its game.
 fn branched<F: Fn(&[Place]) -> usize>(
     alloc: Global,
     model: &Model,
     bounder: &Bounder,
     options: PlanOpts,
     rule: &Chooser<F>,
-    made: &Rc<Front>,
+    path: &Rc<Path>,
+    start: Start,
+    room: &mut SearchRoom,
+) -> Result<Expanded<HeldFront>, Memory>
+    requires bounder { IsBounderOf model.now.model bounder.now }
+    requires look { bounder.now.look ≡ options.look }
+    requires path { IsPath model.now.model bounder.now.horizon options.merge path.now.value }
+    requires start { IsStart model.now.model bounder.now.horizon bounder.now.look options.merge
+        (path_front model.now.model path.now.value) start }
+    requires stage { start.front.value.front.stage < bounder.now.horizon }
+    requires unfinished { is_complete start.front.value.front.agents ≡ false }
+    requires narrow { (above : ℕ) ×
+        (is_wide model.now.model bounder.now.horizon above start.front.value.front ≡ false) }
+    requires rule { IsBranchingRule F.Fn rule.now.rule }
+    requires no_pair { options.merge ≡ true → is_exact_mode model.now.model bounder.now.horizon ≡ true →
+        HasNoEquivalent model.now.model start.front.value.front }
+    requires room { IsSearchRoom bounder.now.is_exact model.now.model bounder.now.horizon bounder.now.look
+        options.merge room.old }
+    ensures is { IfOk result (IsExpansion
+        (planner_space model.now.model (fit_of model.now.model bounder.now.horizon) options
+        (MayAnswer F.Fn rule.now))
+        model.now.model bounder.now.horizon options.look (widest model.now.model.actions) options.merge
+        start.front.value.front) }
+    ensures room { OnOk result (IsSearchRoom bounder.now.is_exact model.now.model bounder.now.horizon
+        bounder.now.look options.merge room.new) }
+{
+    let Start { front, game, .. } = start;
+    let mut game = own_game(alloc, model, bounder, front.as_ref(), game, &mut room.look)?;
+    let expanded = branched_at(
+        alloc,
+        model,
+        bounder,
+        options,
+        rule,
+        path,
+        front.as_ref(),
+        &mut game,
+        &mut room.look,
+    )?;
+    let made = MadeFront {
+        front,
+        game: Some(Rc::new(alloc, game)?),
+        settled: false,
+    };
+    room.made.keep(model, path, made)?;
+    Ok(expanded)
+}
+
+// The game of a front: the one that is given, or one that is made.
+fn own_game(
+    alloc: Global,
+    model: &Model,
+    bounder: &Bounder,
+    front: &Front,
+    game: Option<Game>,
+    room: &mut LookRoom,
+) -> Result<Game, Memory>
+    requires bounder { IsBounderOf model.now.model bounder.now }
+    requires front { IsPlannerFront model.now.model bounder.now.horizon front.now }
+    requires stage { front.now.front.stage < bounder.now.horizon }
+    requires game { IfSome game (IsGameOf model.now.model bounder.now.horizon bounder.now.look front.now.front) }
+    requires look_room { IsRoomFor bounder.now.is_exact model.now.model bounder.now.look room.old }
+    ensures is { IfOk result (IsGameOf model.now.model bounder.now.horizon bounder.now.look front.now.front) }
+    ensures look_room { IsRoomFor bounder.now.is_exact model.now.model bounder.now.look room.new }
+{
+    match game {
+        Some(game) => Ok(game),
+        None => {
+            let made = Game::with_room(alloc, model, front, bounder, room)?;
+            Ok(made)
+        }
+    }
+}
+
+// The branch at a front that a path leads to, on the place that the rule answers. `game` is the game of the
+// front, and is left as it was.
+fn branched_at<F: Fn(&[Place]) -> usize>(
+    alloc: Global,
+    model: &Model,
+    bounder: &Bounder,
+    options: PlanOpts,
+    rule: &Chooser<F>,
+    path: &Rc<Path>,
+    front: &Front,
+    game: &mut Game,
     room: &mut LookRoom,
 ) -> Result<Expanded<HeldFront>, Memory>
     requires bounder { IsBounderOf model.now.model bounder.now }
     requires look { bounder.now.look ≡ options.look }
-    requires front { IsPlannerFront model.now.model bounder.now.horizon made.now.value }
-    requires stage { made.now.value.front.stage < bounder.now.horizon }
-    requires unfinished { is_complete made.now.value.front.agents ≡ false }
+    requires path { IsPath model.now.model bounder.now.horizon options.merge path.now.value }
+    requires at { path_front model.now.model path.now.value ≡ front.now.front }
+    requires front { IsPlannerFront model.now.model bounder.now.horizon front.now }
+    requires stage { front.now.front.stage < bounder.now.horizon }
+    requires unfinished { is_complete front.now.front.agents ≡ false }
     requires narrow { (above : ℕ) ×
-        (is_wide model.now.model bounder.now.horizon above made.now.value.front ≡ false) }
+        (is_wide model.now.model bounder.now.horizon above front.now.front ≡ false) }
+    requires game { IsGameOf model.now.model bounder.now.horizon bounder.now.look front.now.front game.old }
     requires rule { IsBranchingRule F.Fn rule.now.rule }
     requires no_pair { options.merge ≡ true → is_exact_mode model.now.model bounder.now.horizon ≡ true →
-        HasNoEquivalent model.now.model made.now.value.front }
+        HasNoEquivalent model.now.model front.now.front }
     requires look_room { IsRoomFor bounder.now.is_exact model.now.model bounder.now.look room.old }
     ensures is { IfOk result (IsExpansion
         (planner_space model.now.model (fit_of model.now.model bounder.now.horizon) options
         (MayAnswer F.Fn rule.now))
         model.now.model bounder.now.horizon options.look (widest model.now.model.actions) options.merge
-        made.now.value.front) }
+        front.now.front) }
+    ensures game { OnOk result (game.new ≡ game.old) }
     ensures look_room { IsRoomFor bounder.now.is_exact model.now.model bounder.now.look room.new }
 {
-    let front = made.as_ref();
-    let mut game = Game::with_room(alloc, model, front, bounder, room)?;
-    let all = told_places(alloc, model, front, &mut game, options.look, rule.spreads())?;
+    let all = told_places(alloc, model, front, game, options.look, rule.spreads())?;
     let place = all[rule.pick(&all)];
     let one = all.len() == 1;
     let children = children_at(
         alloc,
         model,
         bounder,
-        made,
-        &mut game,
+        path,
+        front,
+        game,
         place.agent,
         place.class,
         one,
@@ -308,7 +409,8 @@ fn children_at(
     alloc: Global,
     model: &Model,
     bounder: &Bounder,
-    made: &Rc<Front>,
+    path: &Rc<Path>,
+    front: &Front,
     game: &mut Game,
     agent: u32,
     class: u32,
@@ -316,27 +418,29 @@ fn children_at(
     room: &mut LookRoom,
 ) -> Result<Vec<Child<HeldFront>>, Memory>
     requires bounder { IsBounderOf model.now.model bounder.now }
-    requires front { IsPlannerFront model.now.model bounder.now.horizon made.now.value }
-    requires stage { made.now.value.front.stage < bounder.now.horizon }
+    requires path { path_front model.now.model path.now.value ≡ front.now.front }
+    requires front { IsPlannerFront model.now.model bounder.now.horizon front.now }
+    requires stage { front.now.front.stage < bounder.now.horizon }
     requires narrow { (above : ℕ) ×
-        (is_wide model.now.model bounder.now.horizon above made.now.value.front ≡ false) }
-    requires game { IsGameOf model.now.model bounder.now.horizon bounder.now.look made.now.value.front game.old }
-    requires unassigned { IsUnassigned agent class made.now.value.front.agents }
-    requires one { one ≡ true → unassigned_count made.now.value.front.agents ≡ 1 }
+        (is_wide model.now.model bounder.now.horizon above front.now.front ≡ false) }
+    requires game { IsGameOf model.now.model bounder.now.horizon bounder.now.look front.now.front game.old }
+    requires unassigned { IsUnassigned agent class front.now.front.agents }
+    requires one { one ≡ true → unassigned_count front.now.front.agents ≡ 1 }
     requires look_room { IsRoomFor bounder.now.is_exact model.now.model bounder.now.look room.old }
     ensures fronts { IfOk result (λ v. map (λ (c : SpecChild SpecHeld). front_meant model.now.model c.front) v.items
-        ≡ map (front_after_choice model.now.model made.now.value.front agent class)
+        ≡ map (front_after_choice model.now.model front.now.front agent class)
         (range_with_len 0 (get_or model.now.model.actions agent 0))) }
-    ensures children { IfOk result (λ v. (merging : Bool) → (merging ≡ true →
+    ensures children { IfOk result (λ v. (merging : Bool) →
+        IsPath model.now.model bounder.now.horizon merging path.now.value → (merging ≡ true →
         is_exact_mode model.now.model bounder.now.horizon ≡ true →
-        HasNoEquivalent model.now.model made.now.value.front) →
+        HasNoEquivalent model.now.model front.now.front) →
         All (IsHeldChild model.now.model bounder.now.horizon bounder.now.look merging) v.items) }
     ensures look_room { IsRoomFor bounder.now.is_exact model.now.model bounder.now.look room.new }
 {
-    if is_last_step(bounder, made.as_ref(), one) {
-        last_children(alloc, model, bounder, made, agent, class, room)
+    if is_last_step(bounder, front, one) {
+        last_children(alloc, model, bounder, path, front, agent, class, room)
     } else {
-        children_of(alloc, model, bounder, made, game, agent, class, room)
+        children_of(alloc, model, bounder, path, front, game, agent, class, room)
     }
 }
 
@@ -346,26 +450,29 @@ fn children_of(
     alloc: Global,
     model: &Model,
     bounder: &Bounder,
-    made: &Rc<Front>,
+    path: &Rc<Path>,
+    front: &Front,
     game: &mut Game,
     agent: u32,
     class: u32,
     room: &mut LookRoom,
 ) -> Result<Vec<Child<HeldFront>>, Memory>
     requires bounder { IsBounderOf model.now.model bounder.now }
-    requires front { IsPlannerFront model.now.model bounder.now.horizon made.now.value }
-    requires stage { made.now.value.front.stage < bounder.now.horizon }
+    requires path { path_front model.now.model path.now.value ≡ front.now.front }
+    requires front { IsPlannerFront model.now.model bounder.now.horizon front.now }
+    requires stage { front.now.front.stage < bounder.now.horizon }
     requires narrow { (above : ℕ) ×
-        (is_wide model.now.model bounder.now.horizon above made.now.value.front ≡ false) }
-    requires game { IsGameOf model.now.model bounder.now.horizon bounder.now.look made.now.value.front game.old }
-    requires unassigned { IsUnassigned agent class made.now.value.front.agents }
+        (is_wide model.now.model bounder.now.horizon above front.now.front ≡ false) }
+    requires game { IsGameOf model.now.model bounder.now.horizon bounder.now.look front.now.front game.old }
+    requires unassigned { IsUnassigned agent class front.now.front.agents }
     requires look_room { IsRoomFor bounder.now.is_exact model.now.model bounder.now.look room.old }
     ensures fronts { IfOk result (λ v. map (λ (c : SpecChild SpecHeld). front_meant model.now.model c.front) v.items
-        ≡ map (front_after_choice model.now.model made.now.value.front agent class)
+        ≡ map (front_after_choice model.now.model front.now.front agent class)
         (range_with_len 0 (get_or model.now.model.actions agent 0))) }
-    ensures children { IfOk result (λ v. (merging : Bool) → (merging ≡ true →
+    ensures children { IfOk result (λ v. (merging : Bool) →
+        IsPath model.now.model bounder.now.horizon merging path.now.value → (merging ≡ true →
         is_exact_mode model.now.model bounder.now.horizon ≡ true →
-        HasNoEquivalent model.now.model made.now.value.front) →
+        HasNoEquivalent model.now.model front.now.front) →
         All (IsHeldChild model.now.model bounder.now.horizon bounder.now.look merging) v.items) }
     ensures look_room { IsRoomFor bounder.now.is_exact model.now.model bounder.now.look room.new }
 {
@@ -376,7 +483,7 @@ fn children_of(
             class,
             action,
         };
-        let child = held_child_of(alloc, model, bounder, made, game, choice, room)?;
+        let child = held_child_of(alloc, model, bounder, path, front, game, choice, room)?;
         children.push(child)?;
     }
     Ok(children)
@@ -388,25 +495,28 @@ fn held_child_of(
     alloc: Global,
     model: &Model,
     bounder: &Bounder,
-    made: &Rc<Front>,
+    path: &Rc<Path>,
+    front: &Front,
     game: &mut Game,
     choice: Choice,
     room: &mut LookRoom,
 ) -> Result<Child<HeldFront>, Memory>
     requires bounder { IsBounderOf model.now.model bounder.now }
-    requires front { IsPlannerFront model.now.model bounder.now.horizon made.now.value }
-    requires stage { made.now.value.front.stage < bounder.now.horizon }
+    requires path { path_front model.now.model path.now.value ≡ front.now.front }
+    requires front { IsPlannerFront model.now.model bounder.now.horizon front.now }
+    requires stage { front.now.front.stage < bounder.now.horizon }
     requires narrow { (above : ℕ) ×
-        (is_wide model.now.model bounder.now.horizon above made.now.value.front ≡ false) }
-    requires game { IsGameOf model.now.model bounder.now.horizon bounder.now.look made.now.value.front game.old }
-    requires unassigned { IsUnassigned choice.agent choice.class made.now.value.front.agents }
+        (is_wide model.now.model bounder.now.horizon above front.now.front ≡ false) }
+    requires game { IsGameOf model.now.model bounder.now.horizon bounder.now.look front.now.front game.old }
+    requires unassigned { IsUnassigned choice.agent choice.class front.now.front.agents }
     requires action { choice.action < get_or model.now.model.actions choice.agent 0 }
     requires look_room { IsRoomFor bounder.now.is_exact model.now.model bounder.now.look room.old }
     ensures front { IfOk result (λ c. front_meant model.now.model c.front ≡
-        front_after_choice model.now.model made.now.value.front choice.agent choice.class choice.action) }
-    ensures child { IfOk result (λ c. (merging : Bool) → (merging ≡ true →
+        front_after_choice model.now.model front.now.front choice.agent choice.class choice.action) }
+    ensures child { IfOk result (λ c. (merging : Bool) →
+        IsPath model.now.model bounder.now.horizon merging path.now.value → (merging ≡ true →
         is_exact_mode model.now.model bounder.now.horizon ≡ true →
-        HasNoEquivalent model.now.model made.now.value.front) →
+        HasNoEquivalent model.now.model front.now.front) →
         IsHeldChild model.now.model bounder.now.horizon bounder.now.look merging c) }
     ensures game { OnOk result (game.new ≡ game.old) }
     ensures look_room { IsRoomFor bounder.now.is_exact model.now.model bounder.now.look room.new }
@@ -415,7 +525,7 @@ fn held_child_of(
         alloc,
         model,
         bounder,
-        made.as_ref(),
+        front,
         game,
         choice.agent,
         choice.class,
@@ -423,7 +533,10 @@ fn held_child_of(
         room,
     )?;
     let bound = copied(&child.bound);
-    let held = HeldFront::after(alloc, model, made, choice, child.front, bound)?;
+    let after = Path::chosen(path, choice)?;
+    let after = Rc::new(alloc, after)?;
+    let next = Rc::new(alloc, child.front)?;
+    let held = HeldFront::of(model, after, next, bound);
     Ok(Child { front: held, bound })
 }
 

@@ -8,17 +8,21 @@ use crate::chooser::Chooser;
 use crate::completion::completed;
 use crate::expansion::expanded;
 use crate::held_front::HeldFront;
+use crate::made_fronts::MadeFronts;
+use crate::making::start_at;
 use crate::options::PlanOpts;
+use crate::path::Path;
 use crate::place::Place;
 use crate::planner::{Child, Expanded, Planner};
 use crate::policies::{constant_of_version, full_of_version, policy_worth};
+use crate::room::SearchRoom;
 use dp_base::Memory;
 use dp_cluster::Front;
 use dp_game::Bounder;
 use dp_model::{Fit, Model};
 use dp_policy::Shared;
-use dp_pomdp::LookRoom;
 use std::alloc::Global;
+use std::rc::Rc;
 
 /// What a planner is made of: a model, a horizon that fits it, what is asked for, the bounds, the best
 /// constant policy, and a branching rule.
@@ -49,15 +53,15 @@ impl<'a, F: Fn(&[Place]) -> usize> Planner for FrontPlanner<'a, F> {
 
     type Policy = Shared;
 
-    type Room = LookRoom;
+    type Room = SearchRoom;
 
     ghost use Rattle.dp_spec.specs.ConstantPolicy.{constant_policy};
     ghost use Rattle.dp_spec.specs.SharedPolicy.{unfolded};
-    ghost use Rattle.dp_pomdp.specs.Rooms.{IsRoomFor};
     ghost use Rattle.dp_search.specs.Constants.{constant_low_worth};
     ghost use Rattle.dp_search.specs.FrontPlanners.{IsPlannerPolicy, planner_space, planner_worth, widest};
     ghost use Rattle.dp_search.specs.FrontPlanning.{IsReadyPlanner, planner_deep};
     ghost use Rattle.dp_search.specs.HeldFronts.{IsHeldFront, front_meant};
+    ghost use Rattle.dp_search.specs.MadeFronts.{IsSearchRoom};
     ghost use Rattle.dp_search.specs.Rules.{MayAnswer};
 
     ghost IsReady = { λ p. IsReadyPlanner F.Fn p.model.now.model p.fit p.options p.bounder.now p.best
@@ -71,7 +75,8 @@ impl<'a, F: Fn(&[Place]) -> usize> Planner for FrontPlanner<'a, F> {
 
     ghost IsPolicy = { λ p q. IsPlannerPolicy p.model.now.model p.fit.horizon p.options.version q };
 
-    ghost IsRoom = { λ p r. IsRoomFor p.bounder.now.is_exact p.model.now.model p.bounder.now.look r };
+    ghost IsRoom = { λ p r. IsSearchRoom p.bounder.now.is_exact p.model.now.model p.fit.horizon
+        p.bounder.now.look p.options.merge r };
 
     ghost worth = { λ p q. planner_worth p.model.now.model p.fit q };
 
@@ -87,9 +92,13 @@ impl<'a, F: Fn(&[Place]) -> usize> Planner for FrontPlanner<'a, F> {
         widest(self.model)
     }
 
-    fn room(&self, alloc: Global) -> Result<LookRoom, Memory> {
-        let room = self.bounder.room(alloc, self.model)?;
-        Ok(room)
+    fn room(&self, alloc: Global) -> Result<SearchRoom, Memory> {
+        self.model.invariant();
+        let root = Front::root(alloc, self.model, self.fit)?;
+        Ok(SearchRoom {
+            look: self.bounder.room(alloc, self.model)?,
+            made: MadeFronts::new(alloc, root)?,
+        })
     }
 
     fn best_constant(&self, alloc: Global) -> Result<Shared, Memory> {
@@ -103,16 +112,16 @@ impl<'a, F: Fn(&[Place]) -> usize> Planner for FrontPlanner<'a, F> {
         Ok(worth)
     }
 
-    fn root(&self, alloc: Global, room: &mut LookRoom) -> Result<Child<HeldFront>, Memory> {
-        self.model.invariant();
-        let front = Front::root(alloc, self.model, self.fit)?;
-        let bound = own_bound(alloc, self.model, self.bounder, &front, room)?;
-        let held = HeldFront::of(alloc, self.model, front, bound)?;
+    fn root(&self, alloc: Global, room: &mut SearchRoom) -> Result<Child<HeldFront>, Memory> {
+        let front = room.made.root()?;
+        let bound = own_bound(alloc, self.model, self.bounder, front.as_ref(), &mut room.look)?;
+        let path = Rc::new(alloc, Path::Root)?;
+        let held = HeldFront::of(self.model, path, front, bound);
         Ok(Child { front: held, bound })
     }
 
     fn is_full(&self, front: &HeldFront) -> bool {
-        front.full
+        front.full.is_some()
     }
 
     fn is_wide(&self, above: u32, front: &HeldFront) -> bool {
@@ -120,26 +129,38 @@ impl<'a, F: Fn(&[Place]) -> usize> Planner for FrontPlanner<'a, F> {
     }
 
     fn policy(&self, alloc: Global, front: &HeldFront) -> Result<Shared, Memory> {
-        let full = front.front(alloc, self.model)?;
-        let version = self.options.version;
-        let policy = full_of_version(alloc, self.model, self.fit, version, full.as_ref())?;
-        Ok(policy)
+        match &front.full {
+            None => unreachable!(),
+            Some(full) => {
+                let version = self.options.version;
+                let policy = full_of_version(alloc, self.model, self.fit, version, full.as_ref())?;
+                Ok(policy)
+            }
+        }
     }
 
     fn completion(
         &self,
         alloc: Global,
-        room: &mut LookRoom,
+        room: &mut SearchRoom,
         front: &HeldFront,
     ) -> Result<Option<Shared>, Memory> {
-        let made = front.front(alloc, self.model)?;
+        let merging = self.options.merge;
+        let start = start_at(
+            alloc,
+            self.model,
+            self.bounder,
+            merging,
+            &front.path,
+            &mut room.made,
+        )?;
         let found = completed(
             alloc,
             self.model,
             self.bounder,
-            self.options.merge,
-            made.as_ref(),
-            room,
+            merging,
+            start.front.as_ref(),
+            &mut room.look,
         )?;
         match found {
             None => Ok(None),
@@ -154,7 +175,7 @@ impl<'a, F: Fn(&[Place]) -> usize> Planner for FrontPlanner<'a, F> {
     fn expand(
         &self,
         alloc: Global,
-        room: &mut LookRoom,
+        room: &mut SearchRoom,
         front: &HeldFront,
     ) -> Result<Expanded<HeldFront>, Memory> {
         let made = expanded(

@@ -15,9 +15,11 @@ ghost use Rattle.dp_search.specs.FrontPlanners.{IsPlannerFront};
 ghost use Rattle.dp_search.specs.Expansions.{mode_bound};
 ghost use Rattle.dp_search.specs.HeldFronts.{IsHeldChild, front_meant};
 ghost use Rattle.dp_search.specs.LastChoices.{IsLastStep};
+ghost use Rattle.dp_search.specs.Paths.{IsPath, path_front};
 
-use crate::held_front::{Choice, HeldFront};
+use crate::held_front::HeldFront;
 use crate::look::copied;
+use crate::path::{Choice, Path};
 use crate::planner::Child;
 use dp_base::Memory;
 use dp_cluster::Front;
@@ -47,24 +49,27 @@ pub(crate) fn last_children(
     alloc: Global,
     model: &Model,
     bounder: &Bounder,
-    made: &Rc<Front>,
+    path: &Rc<Path>,
+    front: &Front,
     agent: u32,
     class: u32,
     room: &mut LookRoom,
 ) -> Result<Vec<Child<HeldFront>>, Memory>
     requires bounder { IsBounderOf model.now.model bounder.now }
-    requires front { IsPlannerFront model.now.model bounder.now.horizon made.now.value }
-    requires last { IsLastStep bounder.now.look made.now.value }
+    requires path { path_front model.now.model path.now.value ≡ front.now.front }
+    requires front { IsPlannerFront model.now.model bounder.now.horizon front.now }
+    requires last { IsLastStep bounder.now.look front.now }
     requires narrow { (above : ℕ) ×
-        (is_wide model.now.model bounder.now.horizon above made.now.value.front ≡ false) }
-    requires unassigned { IsUnassigned agent class made.now.value.front.agents }
+        (is_wide model.now.model bounder.now.horizon above front.now.front ≡ false) }
+    requires unassigned { IsUnassigned agent class front.now.front.agents }
     requires look_room { IsRoomFor bounder.now.is_exact model.now.model bounder.now.look room.old }
     ensures fronts { IfOk result (λ v. map (λ (c : SpecChild SpecHeld). front_meant model.now.model c.front) v.items
-        ≡ map (front_after_choice model.now.model made.now.value.front agent class)
+        ≡ map (front_after_choice model.now.model front.now.front agent class)
         (range_with_len 0 (get_or model.now.model.actions agent 0))) }
-    ensures children { IfOk result (λ v. (merging : Bool) → (merging ≡ true →
+    ensures children { IfOk result (λ v. (merging : Bool) →
+        IsPath model.now.model bounder.now.horizon merging path.now.value → (merging ≡ true →
         is_exact_mode model.now.model bounder.now.horizon ≡ true →
-        HasNoEquivalent model.now.model made.now.value.front) →
+        HasNoEquivalent model.now.model front.now.front) →
         All (IsHeldChild model.now.model bounder.now.horizon bounder.now.look merging) v.items) }
     ensures look_room { IsRoomFor bounder.now.is_exact model.now.model bounder.now.look room.new }
 {
@@ -75,7 +80,7 @@ pub(crate) fn last_children(
             class,
             action,
         };
-        let child = last_child(alloc, model, bounder, made, choice, room)?;
+        let child = last_child(alloc, model, bounder, path, front, choice, room)?;
         children.push(child)?;
     }
     Ok(children)
@@ -86,31 +91,34 @@ fn last_child(
     alloc: Global,
     model: &Model,
     bounder: &Bounder,
-    made: &Rc<Front>,
+    path: &Rc<Path>,
+    front: &Front,
     choice: Choice,
     room: &mut LookRoom,
 ) -> Result<Child<HeldFront>, Memory>
     requires bounder { IsBounderOf model.now.model bounder.now }
-    requires front { IsPlannerFront model.now.model bounder.now.horizon made.now.value }
-    requires last { IsLastStep bounder.now.look made.now.value }
+    requires path { path_front model.now.model path.now.value ≡ front.now.front }
+    requires front { IsPlannerFront model.now.model bounder.now.horizon front.now }
+    requires last { IsLastStep bounder.now.look front.now }
     requires narrow { (above : ℕ) ×
-        (is_wide model.now.model bounder.now.horizon above made.now.value.front ≡ false) }
-    requires unassigned { IsUnassigned choice.agent choice.class made.now.value.front.agents }
+        (is_wide model.now.model bounder.now.horizon above front.now.front ≡ false) }
+    requires unassigned { IsUnassigned choice.agent choice.class front.now.front.agents }
     requires action { choice.action < get_or model.now.model.actions choice.agent 0 }
     requires look_room { IsRoomFor bounder.now.is_exact model.now.model bounder.now.look room.old }
     ensures front { IfOk result (λ c. front_meant model.now.model c.front ≡
-        front_after_choice model.now.model made.now.value.front choice.agent choice.class choice.action) }
-    ensures child { IfOk result (λ c. (merging : Bool) → (merging ≡ true →
+        front_after_choice model.now.model front.now.front choice.agent choice.class choice.action) }
+    ensures child { IfOk result (λ c. (merging : Bool) →
+        IsPath model.now.model bounder.now.horizon merging path.now.value → (merging ≡ true →
         is_exact_mode model.now.model bounder.now.horizon ≡ true →
-        HasNoEquivalent model.now.model made.now.value.front) →
+        HasNoEquivalent model.now.model front.now.front) →
         IsHeldChild model.now.model bounder.now.horizon bounder.now.look merging c) }
     ensures look_room { IsRoomFor bounder.now.is_exact model.now.model bounder.now.look room.new }
 {
-    let bound = last_bound(alloc, model, bounder, made.as_ref(), choice, room)?;
+    let bound = last_bound(alloc, model, bounder, front, choice, room)?;
+    let after = Path::chosen(path, choice)?;
     let held = HeldFront {
-        made: made.clone()?,
-        choice: Some(choice),
-        full: false,
+        path: Rc::new(alloc, after)?,
+        full: None,
         wide: false,
         bound: copied(&bound),
     };

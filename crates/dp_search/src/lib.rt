@@ -18,11 +18,15 @@ mod held_leaves;
 mod large_game;
 mod last_choice;
 mod look;
+mod made_fronts;
+mod making;
 mod options;
+mod path;
 mod place;
 mod planner;
 mod planning;
 mod policies;
+mod room;
 mod search;
 mod state;
 #[cfg(test)]
