@@ -1,7 +1,7 @@
 -- What is known of the fronts that a search holds.
 use Rattle.std.proofs.Common.{◌≡◌, ℕ, zero, suc, ◌<◌, Bool, true, false, List, [], ◌∷◌, length, get_or, set}
 use Rattle.std.proofs.Common.{ℤ, Option, None, Some, refl, sym, ap, subst, ◌∙◌, arith}
-use Rattle.std.specs.Prelude.{◌&&◌, ◌||◌, ◌==◌, not, nat_lt, nat_le, IfOk, IfSome, Result, Ok, Err}
+use Rattle.std.specs.Prelude.{◌&&◌, ◌||◌, ◌==◌, not, nat_lt, nat_le, is_none, is_some, IfSome}
 use Rattle.dp_spec.specs.Arithmetic.{arithmetic}
 use Rattle.dp_spec.specs.Fitting.{front_bound}
 use Rattle.dp_spec.specs.Front.{AgentFront, Front}
@@ -15,13 +15,13 @@ use Rattle.dp_spec.specs.Steps.{IsUnassigned, chosen_front, front_after_choice, 
 use Rattle.dp_spec.specs.Wide.{is_wide, unassigned_count, widens}
 use Rattle.dp_laws.proofs.ChosenFronts.{chosen_equivalence}
 use Rattle.dp_cluster.specs.KeptFronts.{IsFrontOf, KeptFront}
-use Rattle.dp_search.specs.declared.held_front.Choice.{Choice}
 use Rattle.dp_search.specs.declared.held_front.HeldFront.{HeldFront}
 use Rattle.dp_search.specs.FrontPlanners.{IsPlannerFront}
 use Rattle.dp_search.specs.FrontPlanning.{IsSearchFront}
 use Rattle.dp_search.specs.Expansions.{IsChild, mode_bound}
-use Rattle.dp_search.specs.HeldFronts.{IsChoiceAt, IsHeldChild, IsHeldFront, front_after, front_meant}
-use Rattle.dp_search.proofs.Expansions.{merged_is_child, of_some}
+use Rattle.dp_search.specs.HeldFronts.{IsHeldChild, IsHeldFront, front_meant}
+use Rattle.dp_search.specs.Paths.{IsPath}
+use Rattle.dp_search.proofs.Expansions.{merged_is_child}
 use Rattle.dp_search.proofs.MergedBounds.{merged_bound_is}
 use Rattle.dp_search.proofs.UnfinishedFronts.{same_stage_chosen}
 
@@ -51,24 +51,37 @@ no_pair_after m F i c a none j x y lt first second alike =
     none j x y lt (unassigned_before i c a F.agents j x first) (unassigned_before i c a F.agents j y second)
     ((chosen_equivalence m F i c a j x y).0 alike)
 
+-- what follows of an answer, if there is one
+pub if_some_weaker : {X : Type 0} (P Q : X → Type 0) → ((x : X) → P x → Q x) → (o : Option X) → IfSome o P
+    → IfSome o Q
+if_some_weaker P Q follows None p = tt
+if_some_weaker P Q follows (Some x) p = follows x p
+
 -- ---- what a held front stands for
 
+-- where no front is kept none is said to be
+none_is : {X : Type 0} (o : Option X) → is_none o ≡ not (is_some o)
+none_is None = refl
+none_is (Some x) = refl
+
 module _ (m : Model) (h look : ℕ) (merging : Bool) (s : HeldFront) where
-  pub held_is : (k : KeptFront) → front_meant m s ≡ k.front → IsPlannerFront m h s.made.value
-      → IfSome s.choice (IsChoiceAt m h merging s.made.value)
-      → s.full ≡ not (nat_lt k.front.stage k.horizon) → s.wide ≡ is_wide m k.horizon 0 k.front
-      → IsSearchFront m h k → s.bound ≡ mode_bound m h look k.front → IsHeldFront m h look merging s
-  held_is k meant made choice full wide is bound =
-      let same = is.of_planner.horizon in
-      let back = sym meant in
+  pub held_is : (k : KeptFront) → IsPath m h merging s.path.value → k.front ≡ front_meant m s
+      → is_some s.full ≡ not (nat_lt k.front.stage k.horizon) → IfSome s.full (λ f. f.value ≡ k)
+      → s.wide ≡ is_wide m k.horizon 0 k.front → IsSearchFront m h k → s.bound ≡ mode_bound m h look k.front
+      → IsHeldFront m h look merging s
+  held_is k path is full kept wide search bound =
+      let same = search.of_planner.horizon in
       record {
-        made = made;
-        choice = choice;
-        unfinished = λ early. ap (λ (F : Front). is_complete F.agents) meant
-            ∙ is.unfinished (subst (λ (F : Front). F.stage < h) meant early);
-        full = full ∙ (λ j. not (nat_lt (back j).stage (same j)));
-        wide = wide ∙ (λ j. is_wide m (same j) 0 (back j));
-        bound = bound ∙ ap (mode_bound m h look) back;
+        path = path;
+        unfinished = λ early. ap (λ (F : Front). is_complete F.agents) (sym is)
+            ∙ search.unfinished (subst (λ (F : Front). F.stage < h) (sym is) early);
+        is_full = full ∙ (λ j. not (nat_lt (is j).stage (same j)));
+        full = if_some_weaker (λ f. f.value ≡ k) (λ f. IsPlannerFront m h f.value)
+            (λ f e. subst (IsPlannerFront m h) (sym e) search.of_planner) s.full kept;
+        same = if_some_weaker (λ f. f.value ≡ k) (λ f. f.value.front ≡ front_meant m s)
+            (λ f e. ap (λ (o : KeptFront). o.front) e ∙ is) s.full kept;
+        wide = wide ∙ (λ j. is_wide m (same j) 0 (is j));
+        bound = bound ∙ ap (mode_bound m h look) is;
       }
 
   module _ (held : IsHeldFront m h look merging s) where
@@ -79,40 +92,24 @@ module _ (m : Model) (h look : ℕ) (merging : Bool) (s : HeldFront) where
           ∙ held.unfinished (subst (λ (F : Front). F.stage < h) is early);
     }
 
-    pub settled_is : (k : KeptFront) (c : Choice) → s.choice ≡ Some c → k.front ≡ front_meant m s
-        → k.front.stage ≡ s.made.value.front.stage → merging ≡ true → is_exact_mode m h ≡ true
-        → HasNoEquivalent m k.front
-    settled_is k c chosen is stage on exact =
-        let F = s.made.value.front in
-        let there : IsChoiceAt m h merging s.made.value c =
-        of_some (IsChoiceAt m h merging s.made.value) s.choice c chosen held.choice in
-        let meant : k.front ≡ front_after_choice m F c.agent c.class c.action = is ∙ ap (front_after m F) chosen in
-        let same = sym (ap (λ (G : Front). G.stage) meant) ∙ stage in
-        let after = meant ∙ same_stage_chosen m F c.agent c.class c.action same in
-        subst (HasNoEquivalent m) (sym after)
-        (no_pair_after m F c.agent c.class c.action (there.settled on exact))
-
     -- full fronts are not wide, and neither is one below few steps where the last choice leads to room
     both : (t a x : Bool) → (not (not t) && (a || (t && (false || x)))) ≡ (t && (a || x))
     both true a x = refl
     both false a x = refl
 
-    pub wide_is : (above : ℕ) → (not s.full && (nat_le 2048 above || s.wide)) ≡ is_wide m h above (front_meant m s)
+    pub wide_is : (above : ℕ) → (is_none s.full && (nat_le 2048 above || s.wide))
+        ≡ is_wide m h above (front_meant m s)
     unfolding is_wide
     wide_is above =
         let F = front_meant m s in
-        (λ j. not (held.full j) && (nat_le 2048 above || held.wide j))
+        ap (λ t. t && (nat_le 2048 above || s.wide)) (none_is s.full)
+        ∙ (λ j. not (held.is_full j) && (nat_le 2048 above || held.wide j))
         ∙ both (nat_lt F.stage h) (nat_le 2048 above) (unassigned_count F.agents == 1 && widens m h F)
 
 -- by cases
 pub settled_or : {P : Type 0} (t : Bool) → (t ≡ true → P) → (t ≡ false → P) → P
 settled_or true on off = on refl
 settled_or false on off = off refl
-
-pub if_ok_weaker : {X E : Type 0} (P Q : X → Type 0) → ((x : X) → P x → Q x) → (r : Result X E) → IfOk r P
-    → IfOk r Q
-if_ok_weaker P Q follows (Ok x) p = follows x p
-if_ok_weaker P Q follows (Err e) p = tt
 
 -- ---- a child that is held
 
@@ -124,35 +121,6 @@ child_is_held m h look merging k s x child meant held = record {
   held = held (record { of_planner = child.of_planner; unfinished = child.unfinished }) child.bound;
   bound = child.bound ∙ ap (mode_bound m h look) (sym meant);
 }
-
--- ---- the choice at a held front
-
-module _ (m : Model) (s : HeldFront) (c : Choice) (chosen : s.choice ≡ Some c)
-    (held : (h : ℕ) × ((look : ℕ) × ((merging : Bool) × IsHeldFront m h look merging s))) where
-  abbrev k : KeptFront
-  k = s.made.value
-
-  -- in the horizon of the front
-  own_choice : IsChoiceAt m k.horizon held.1.1.0 k c
-  own_choice = subst (λ (n : ℕ). IsChoiceAt m n held.1.1.0 k c) (sym held.1.1.1.made.horizon)
-      (of_some (IsChoiceAt m held.0 held.1.1.0 k) s.choice c chosen held.1.1.1.choice)
-
-  pub may_be_chosen : (own : KeptFront) → own ≡ k → IsChoiceAt m own.horizon held.1.1.0 own c
-  may_be_chosen own same = subst (λ (o : KeptFront). IsChoiceAt m o.horizon held.1.1.0 o c) (sym same) own_choice
-
-  pub chosen_from : (own : KeptFront) → own ≡ k → IsPlannerFront m own.horizon own
-  chosen_from own same =
-      subst (λ (o : KeptFront). IsPlannerFront m o.horizon o) (sym same)
-      (subst (λ (n : ℕ). IsPlannerFront m n k) (sym held.1.1.1.made.horizon) held.1.1.1.made)
-
-  -- the front after it
-  pub chosen_search : (next made : KeptFront) → made ≡ next
-      → next.front ≡ front_after_choice m k.front c.agent c.class c.action → IsPlannerFront m k.horizon next
-      → (h look : ℕ) (merging : Bool) → IsHeldFront m h look merging s → IsSearchFront m h made
-  chosen_search next made same is planner h look merging of =
-      let meant = is ∙ sym (ap (front_after m k.front) chosen) in
-      let own = subst (λ (n : ℕ). IsPlannerFront m n next) of.made.horizon planner in
-      subst (IsSearchFront m h) (sym same) (search_is m h look merging s of next meant own)
 
 -- the bound of a merged front is that of the front before
 merged_mode_bound : (m : Model) (h look : ℕ) (k : KeptFront) (i a b : ℕ) → IsPlannerFront m h k

@@ -1,7 +1,7 @@
 -- The choice of the one class without an action, and the front after it.
 use Rattle.std.proofs.Common.{◌≡◌, ℕ, zero, suc, ◌+◌, ◌*◌, ◌<◌, ◌≤◌, Bool, true, false, List, [], ◌∷◌, length, get_or}
 use Rattle.std.proofs.Common.{drop, Option, None, Some, add-one, length-append, refl, sym, ap, subst, ◌∙◌, arith}
-use Rattle.std.specs.Prelude.{◌==◌, ◌||◌, is_none, not, nat_lt, replicate, IfSome}
+use Rattle.std.specs.Prelude.{◌==◌, ◌||◌, is_none, is_some, not, nat_lt, replicate, IfSome}
 use Rattle.std.specs.List.{flat_map, range_with_len}
 use Rattle.std.proofs.lemmas.Bool.Decides.{nat_tests}
 use Rattle.std.proofs.lemmas.List.{length-replicate}
@@ -29,8 +29,9 @@ use Rattle.dp_search.specs.declared.held_front.HeldFront.{HeldFront}
 use Rattle.dp_search.specs.Expansions.{mode_bound}
 use Rattle.dp_search.specs.FrontPlaces.{agent_places_of, place_at, places_below}
 use Rattle.dp_search.specs.FrontPlanners.{IsPlannerFront}
-use Rattle.dp_search.specs.HeldFronts.{IsChoiceAt, IsHeldFront, front_meant}
+use Rattle.dp_search.specs.HeldFronts.{IsHeldFront, front_meant}
 use Rattle.dp_search.specs.LastChoices.{IsLastStep}
+use Rattle.dp_search.specs.Paths.{IsPath}
 use Rattle.dp_search.proofs.FrontSteps.{after_complete}
 use Rattle.dp_search.proofs.PlaceLists.{agent_more, place_more, place_skipped}
 use Rattle.dp_search.proofs.UnfinishedFronts.{after_choice_unfinished}
@@ -133,6 +134,10 @@ advanced_many f (n ∷ ns) (d ∷ ds) some =
       advanced_many f ns ds (positive_right own others 0 some),
     )
 
+-- nothing is to be shown of what is not there
+if_none : {X : Type 0} (P : X → Type 0) (o : Option X) → o ≡ None → IfSome o P
+if_none P o none = subst (λ o. IfSome o P) (sym none) tt
+
 -- ---- the front after it
 
 not_one : (n : ℕ) → 2 ≤ n → (n == 1) ≡ false
@@ -187,17 +192,17 @@ module _ (m : Model) (h look : ℕ) (k : KeptFront) (is : IsPlannerFront m h k) 
 
   -- held without being made
   pub last_held : (merging : Bool) (s : HeldFront) → front_meant m s ≡ front_after_choice m F i c a
-      → IsPlannerFront m h s.made.value → IfSome s.choice (IsChoiceAt m h merging s.made.value)
-      → s.full ≡ false → s.wide ≡ false
+      → IsPath m h merging s.path.value → s.full ≡ None → s.wide ≡ false
       → s.bound ≡ mode_bound m h look (front_after_choice m F i c a) → IsHeldFront m h look merging s
-  last_held merging s meant made choice full wide bound =
+  last_held merging s meant path none wide bound =
       let back = sym meant in
       record {
-        made = made;
-        choice = choice;
+        path = path;
         unfinished = λ early. ap (λ (G : Front). is_complete G.agents) meant
             ∙ after_choice_unfinished m h F i c a is.of_model.model (subst (IsFront m h) (sym after) next);
-        full = full ∙ before_end _ h next_early ∙ ap (λ (G : Front). not (nat_lt G.stage h)) back;
+        is_full = ap is_some none ∙ before_end _ h next_early ∙ ap (λ (G : Front). not (nat_lt G.stage h)) back;
+        full = if_none _ s.full none;
+        same = if_none _ s.full none;
         wide = wide ∙ next_narrow ∙ ap (is_wide m h 0) back;
         bound = bound ∙ ap (mode_bound m h look) back;
       }

@@ -1,29 +1,32 @@
-use Rattle.std.proofs.Common.{◌≡◌, ◌∙◌, ap, refl, sym, subst, arith, rules}
+use Rattle.std.proofs.Common.{◌∙◌, ap, refl, subst, arith, rules}
 use Rattle.std.specs.Int.{w128}
 use Rattle.std.proofs.lemmas.Int.{to_z-of_z}
 use mir.Val.{SFits}
+use Rattle.dp_spec.specs.Front.{Front}
 use Rattle.dp_spec.specs.Steps.{front_after_choice}
-use Rattle.dp_cluster.specs.KeptFronts.{KeptFront}
 use Rattle.dp_search.specs.Expansions.{mode_bound}
-use Rattle.dp_search.specs.FrontPlanners.{IsPlannerFront}
-use Rattle.dp_search.specs.HeldFronts.{IsChoiceAt}
+use Rattle.dp_search.specs.Paths.{IsChoiceAt}
 use Rattle.dp_search.proofs.LastChoices.{last_held}
 use Rattle.dp_search.proofs.last_choice.last_child.Goals as goal
 
+pub returns-clause-front : goal.returns-clause-front
+returns-clause-front c =
+    let m = c.args.model.now.model in
+    let choice = c.args.choice in
+    ap (path_front m) c.in_ok-new.ensures.ok ∙ c.in_ok-after.ensures.front m
+    ∙ ap (λ (F : Front). front_after_choice m F choice.agent choice.class choice.action) c.requires.path
+
 pub returns-clause-child : goal.returns-clause-child
-returns-clause-child c merging settled =
+returns-clause-child c merging path settled =
     let m = c.args.model.now.model in
     let b = c.args.bounder.now in
-    let k = c.args.made.now.value in
+    let k = c.args.front.now in
     let choice = c.args.choice in
     let fits-bound : SFits w128 c.in_ok-bound.bound = search (rules, c.last_bound.type_inv) in
     let fits-copied : SFits w128 c.copied.result = search (rules, c.copied.type_inv) in
-    let bound = to_z-of_z w128 _ fits-bound ∙ c.in_ok-bound.ensures.bound
-    ∙ ap (λ (f : KeptFront). mode_bound m b.horizon b.look (front_after_choice m f.front choice.agent choice.class
-    choice.action)) c.as_ref.ensures in
-    let same : c.in_ok-clone.field-0.value ≡ k = search (rules, c.in_ok-clone.ensures.cases) in
-    let meant = ap (λ (f : KeptFront). front_after_choice m f.front choice.agent choice.class choice.action) same in
-    let at : IsChoiceAt m b.horizon merging k choice = record {
+    let bound = to_z-of_z w128 _ fits-bound ∙ c.in_ok-bound.ensures.bound in
+    let meant = returns-clause-front c in
+    let at : IsChoiceAt m b.horizon merging k.front choice = record {
       early = let step = c.requires.last.step in omega (arith, step, c.requires.front.horizon);
       unassigned = c.requires.unassigned;
       action = c.requires.action;
@@ -33,8 +36,7 @@ returns-clause-child c merging settled =
     record {
       held = last_held m b.horizon b.look k c.requires.front c.requires.last c.requires.bounder.some_look
           choice.agent choice.class choice.action c.requires.unassigned c.requires.action merging _ meant
-          (subst (IsPlannerFront m b.horizon) (sym same) c.requires.front)
-          (subst (λ (f : KeptFront). IsChoiceAt m b.horizon merging f choice) (sym same) at) refl refl
+          _ refl refl
           (to_z-of_z w128 _ fits-copied ∙ c.copied.ensures ∙ bound);
       bound = bound ∙ ap (mode_bound m b.horizon b.look) (sym meant);
     }
