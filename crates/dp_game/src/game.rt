@@ -185,6 +185,19 @@ impl Game {
         Ok(game)
     }
 
+    /// Takes back the action that is chosen for a class. It takes no memory.
+    pub fn unchoose(&mut self, agent: u32, class: u32)
+        requires agent { agent < length self.old.choices }
+        requires class { class < length (get_or self.old.choices agent []) }
+        requires chosen { (a : ℕ) × (own_choice self.old agent class ≡ Some a) }
+        ensures is { self.new ≡ with_own_choice self.old agent class None }
+        ensures of_front { (m : PlainModel) (h look : ℕ) (F : PlainFront) → IsGameOf m h look F self.old →
+            IsGameOf m h look (unchosen_front F agent class) self.new }
+    {
+        self.invariant();
+        self.put(agent as usize, class as usize, None);
+    }
+
     // The same game, to be changed apart from this one.
     fn copy(&self, alloc: Global) -> Result<Game, Memory>
         ensures { IfOk result (λ g. g ≡ self.now) }
@@ -199,19 +212,6 @@ impl Game {
             earned: self.earned,
             bound: self.bound,
         })
-    }
-
-    /// Takes back the action that is chosen for a class. It takes no memory.
-    pub fn unchoose(&mut self, agent: u32, class: u32)
-        requires agent { agent < length self.old.choices }
-        requires class { class < length (get_or self.old.choices agent []) }
-        requires chosen { (a : ℕ) × (own_choice self.old agent class ≡ Some a) }
-        ensures is { self.new ≡ with_own_choice self.old agent class None }
-        ensures of_front { (m : PlainModel) (h look : ℕ) (F : PlainFront) → IsGameOf m h look F self.old →
-            IsGameOf m h look (unchosen_front F agent class) self.new }
-    {
-        self.invariant();
-        self.put(agent as usize, class as usize, None);
     }
 
     // Makes a choice for a class.
