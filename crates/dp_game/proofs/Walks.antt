@@ -206,35 +206,37 @@ written n new old e =
     ap (λ (k : ℕ). take k (new ++ drop (length new) old)) e ∙ take-append-le (length new) new
     (drop (length new) old) (omega arith) ∙ take_all (length new) new (omega arith)
 
-pub kept_before : (g : KeptGame) (oss : List (List (Option ℕ))) (table best' : List ℤ)
+pub kept_before : (g : KeptGame) (bs : List ℕ) (oss : List (List (Option ℕ))) (table best' : List ℤ)
     (wanted wanted' : List (Option ℕ)) (best : List ℤ)
-    → oss ≡ g.choices → table ≡ g.table → wanted' ≡ wanted → best' ≡ best →
+    → bs ≡ g.actions → oss ≡ g.choices → table ≡ g.table → wanted' ≡ wanted → best' ≡ best →
     ((C : ℕ) → C < joint_classes g → IsKeptAt g wanted best C)
-    → (C : ℕ) → C < product (own_counts oss) → IsKeptAt (game_with g.actions oss table (pos 0)) wanted' best' C
-kept_before g oss table best' wanted wanted' best eo et ew eb at C lt =
+    → (C : ℕ) → C < product (own_counts oss) → IsKeptAt (game_with bs oss table (pos 0)) wanted' best' C
+kept_before g bs oss table best' wanted wanted' best ea eo et ew eb at C lt =
     let lt' : C < joint_classes g = subst (λ (l : List (List (Option ℕ))). C < product (own_counts l)) eo lt in
     let kept = at C lt' in
     let here : IsKeptAt (game_with g.actions g.choices g.table (pos 0)) wanted best C = record
     { choices = kept.choices; best = kept.best } in
-    subst (λ l. IsKeptAt (game_with g.actions l table (pos 0)) wanted' best' C) (sym eo)
+    subst (λ a. IsKeptAt (game_with a oss table (pos 0)) wanted' best' C) (sym ea)
+    (subst (λ l. IsKeptAt (game_with g.actions l table (pos 0)) wanted' best' C) (sym eo)
     (subst (λ t. IsKeptAt (game_with g.actions g.choices t (pos 0)) wanted' best' C) (sym et)
     (subst (λ w. IsKeptAt (game_with g.actions g.choices g.table (pos 0)) w best' C) (sym ew)
-    (subst (λ b. IsKeptAt (game_with g.actions g.choices g.table (pos 0)) wanted b C) (sym eb) here)))
+    (subst (λ b. IsKeptAt (game_with g.actions g.choices g.table (pos 0)) wanted b C) (sym eb) here))))
 
-pub kept_after : (g : KeptGame) (i c : ℕ) (o : Option ℕ) (oss oss' : List (List (Option ℕ))) (table : List ℤ)
-    (wanted wanted' : List (Option ℕ))
+pub kept_after : (g : KeptGame) (i c : ℕ) (o : Option ℕ) (bs : List ℕ) (oss oss' : List (List (Option ℕ)))
+    (table : List ℤ) (wanted wanted' : List (Option ℕ))
     (best best' : List ℤ) (bound : ℤ) → i < length g.choices → c < length (get_or g.choices i [])
     → IsOfSomeFront
     (with_own_choice g i c o)
-    → oss ≡ g.choices → table ≡ g.table → oss' ≡ set g.choices i (set (get_or g.choices i []) c o)
+    → bs ≡ g.actions → oss ≡ g.choices → table ≡ g.table
+    → oss' ≡ set g.choices i (set (get_or g.choices i []) c o)
     → ((C : ℕ) → C < product (own_counts oss) → IsKeptAt
-    (with_own_choice (game_with g.actions oss table (pos 0)) i c o) wanted best C)
+    (with_own_choice (game_with bs oss table (pos 0)) i c o) wanted best C)
     → length wanted ≡ joint_classes g * length g.choices → length best ≡ joint_classes g → wanted' ≡ wanted
     → best'
     ≡ best
     → bound ≡ game_bound (with_own_choice g i c o) → IsKept (game_with g.actions oss' g.table g.earned) wanted'
     best' bound
-kept_after g i c o oss oss' table wanted wanted' best best' bound hi hc after eo et eo' at long one ew eb is =
+kept_after g i c o bs oss oss' table wanted wanted' best best' bound hi hc after ea eo et eo' at long one ew eb is =
     let counts = ap product (same_counts g i c o hi hc) in
     let many : length (set g.choices i (set (get_or g.choices i []) c o))
     ≡ length g.choices = length-set g.choices
@@ -244,7 +246,8 @@ kept_after g i c o oss oss' table wanted wanted' best best' bound hi hc after eo
     λ C lt.
     subst (λ l. IsKeptAt (with_own_choice (game_with g.actions l g.table (pos 0)) i c o) wanted best C) eo
     (subst (λ t. IsKeptAt (with_own_choice (game_with g.actions oss t (pos 0)) i c o) wanted best C) et
-    (at C (subst (λ (l : List (List (Option ℕ))). C < product (own_counts l)) (sym eo) lt))) in
+    (subst (λ a. IsKeptAt (with_own_choice (game_with a oss table (pos 0)) i c o) wanted best C) ea
+    (at C (subst (λ (l : List (List (Option ℕ))). C < product (own_counts l)) (sym eo) lt)))) in
     let here : IsKept (with_own_choice g i c o) wanted best bound = record {
       of_front = after;
       as_many = long ∙ (λ j. sym counts j * sym many j);

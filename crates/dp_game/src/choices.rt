@@ -36,6 +36,15 @@ impl AgentChoices {
         Ok(AgentChoices { classes })
     }
 
+    // The same choices, to be changed apart from these.
+    fn copy(&self, alloc: Global) -> Result<AgentChoices, Memory>
+        ensures { IfOk result (λ own. own ≡ self.now) }
+    {
+        Ok(AgentChoices {
+            classes: Vec::from_slice(alloc, &self.classes)?,
+        })
+    }
+
     // How many classes there are.
     #[inline]
     pub(crate) fn count(&self) -> usize
@@ -90,4 +99,18 @@ pub(crate) fn choices_of(
         choices.push(AgentChoices::of(alloc, front, agent)?)?;
     }
     Ok(choices)
+}
+
+// The choices of each agent, to be changed apart from these.
+pub(crate) fn copied_choices(
+    alloc: Global,
+    choices: &[AgentChoices],
+) -> Result<Vec<AgentChoices>, Memory>
+    ensures { IfOk result (λ v. v.items ≡ choices.now) }
+{
+    let mut copied = Vec::new(alloc);
+    for own in choices {
+        copied.push(own.copy(alloc)?)?;
+    }
+    Ok(copied)
 }

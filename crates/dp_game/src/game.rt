@@ -17,7 +17,7 @@ ghost use Rattle.dp_game.specs.Kept.{IsOfSomeFront};
 use crate::Bounder;
 use crate::actions::JointActions;
 use crate::change::{bound_with, change_class, greatest_entries, moved};
-use crate::choices::{AgentChoices, choices_of};
+use crate::choices::{AgentChoices, choices_of, copied_choices};
 use crate::places::{joint_count, wanted_choices};
 use crate::table::look_ahead_table;
 use dp_base::Memory;
@@ -25,6 +25,7 @@ use dp_cluster::Front;
 use dp_model::Model;
 use dp_pomdp::LookRoom;
 use std::alloc::Global;
+use std::rc::Rc;
 
 /// The game of a front (a collaborative Bayesian game: Oliehoek and Amato, A Concise Introduction to
 /// Decentralized POMDPs, chapter 5): its joint classes choose joint actions, and each class is to have
@@ -35,9 +36,10 @@ use std::alloc::Global;
 /// `IsGameOf` says that these are those of a front.
 #[derive(Drop)]
 pub struct Game {
-    actions: JointActions,
+    actions: Rc<JointActions>,
     choices: Vec<AgentChoices>,
-    table: Vec<i128>,
+    // The choices leave it as it is, so the games of a stage share it.
+    table: Rc<Vec<i128>>,
     // Joint class by joint class, the choice for each agent's class.
     wanted: Vec<Option<u8>>,
     // Joint class by joint class, the greatest entry that agrees with these.
@@ -52,10 +54,10 @@ impl std::marker::Model for Game {
 
     ghost Value = { KeptGame };
 
-    ghost view = { λ g. game_with g.actions g.choices.items g.table.items g.earned };
+    ghost view = { λ g. game_with g.actions.value g.choices.items g.table.value.items g.earned };
 
-    ghost invariant = { λ g. IsKept (game_with g.actions g.choices.items g.table.items g.earned) g.wanted.items
-        g.greatest.items g.bound };
+    ghost invariant = { λ g. IsKept (game_with g.actions.value g.choices.items g.table.value.items g.earned)
+        g.wanted.items g.greatest.items g.bound };
 }
 
 impl Game {
@@ -109,9 +111,9 @@ impl Game {
         let earned = front.earned().high;
         let bound = bound_with(earned, &greatest);
         Ok(Game {
-            actions,
+            actions: Rc::new(alloc, actions)?,
             choices,
-            table,
+            table: Rc::new(alloc, table)?,
             wanted,
             greatest,
             earned,
@@ -161,6 +163,28 @@ impl Game {
         self.put(agent as usize, class as usize, Some(action as u8));
     }
 
+    /// The game after an action is chosen for a class that has none. The table is shared with this one.
+    /// The only error is want of memory.
+    pub fn with_choice(
+        &self,
+        alloc: Global,
+        agent: u32,
+        class: u32,
+        action: u32,
+    ) -> Result<Game, Memory>
+        requires agent { agent < length self.now.choices }
+        requires class { class < length (get_or self.now.choices agent []) }
+        requires unassigned { own_choice self.now agent class ≡ None }
+        requires action { action < slice_index self.now.actions agent }
+        ensures is { IfOk result (λ g. g ≡ with_own_choice self.now agent class (Some action)) }
+        ensures of_front { IfOk result (λ g. (m : PlainModel) (h look : ℕ) (F : PlainFront) →
+            IsGameOf m h look F self.now → IsGameOf m h look (chosen_front F agent class action) g) }
+    {
+        let mut game = self.copy(alloc)?;
+        game.choose(agent, class, action);
+        Ok(game)
+    }
+
     /// Takes back the action that is chosen for a class. It takes no memory.
     pub fn unchoose(&mut self, agent: u32, class: u32)
         requires agent { agent < length self.old.choices }
@@ -174,6 +198,22 @@ impl Game {
         self.put(agent as usize, class as usize, None);
     }
 
+    // The same game, to be changed apart from this one.
+    fn copy(&self, alloc: Global) -> Result<Game, Memory>
+        ensures { IfOk result (λ g. g ≡ self.now) }
+    {
+        let choices = copied_choices(alloc, &self.choices)?;
+        Ok(Game {
+            actions: self.actions.clone()?,
+            choices,
+            table: self.table.clone()?,
+            wanted: Vec::from_slice(alloc, &self.wanted)?,
+            greatest: Vec::from_slice(alloc, &self.greatest)?,
+            earned: self.earned,
+            bound: self.bound,
+        })
+    }
+
     // Makes a choice for a class.
     fn put(&mut self, agent: usize, class: usize, choice: Option<u8>)
         requires agent { agent < length self.old.choices }
@@ -182,9 +222,9 @@ impl Game {
         ensures { self.new ≡ with_own_choice self.old agent class choice }
     {
         let change = change_class(
-            &self.actions,
+            self.actions.as_ref(),
             &self.choices,
-            &self.table,
+            self.table.as_ref(),
             agent,
             class,
             choice,

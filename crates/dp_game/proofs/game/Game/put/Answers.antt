@@ -14,16 +14,17 @@ use Rattle.dp_game.proofs.game.Game.put.Goals as goal
 pub change_class-change-requires-clause-before : goal.change_class-change-requires-clause-before
 change_class-change-requires-clause-before c =
     let i = c.self.inside in
-    kept_before (game_with i.actions i.choices.items i.table.items i.earned)
-    c.deref.result.now c.deref-2.result.now
+    kept_before (game_with i.actions.value i.choices.items i.table.value.items i.earned)
+    c.as_ref.result.now c.deref.result.now c.deref-2.result.now
     _ i.wanted.items _ i.greatest.items
-    c.deref.ensures.value c.deref-2.ensures.value c.deref_mut.ensures.value c.deref_mut-2.ensures.value
+    c.as_ref.ensures c.deref.ensures.value (c.deref-2.ensures.value ∙ ap (λ t. t.items) c.as_ref-2.ensures)
+    c.deref_mut.ensures.value c.deref_mut-2.ensures.value
     c.self.invariant.at
 
 pub moved-self-inside-requires-clause-less : goal.moved-self-inside-requires-clause-less
 moved-self-inside-requires-clause-less c =
     let i = c.self.inside in
-    let g = game_with i.actions i.choices.items i.table.items i.earned in
+    let g = game_with i.actions.value i.choices.items i.table.value.items i.earned in
     let hi : c.args.agent < length g.choices = subst (λ (k : KeptGame). c.args.agent < length k.choices)
     (sym c.self.view_is) c.requires.agent in
     let hc : c.args.class < length (get_or g.choices c.args.agent []) =
@@ -35,16 +36,17 @@ moved-self-inside-requires-clause-less c =
     let fits : SFits w128 c.self.inside.bound = search rules in
     let fits-gone : SFits w128 c.change_class-change.result.gone = search rules in
     let fits-come : SFits w128 c.change_class-change.result.come = search rules in
+    let ea = c.as_ref.ensures in
     let eo = c.deref.ensures.value in
-    let et = c.deref-2.ensures.value in
+    let et = c.deref-2.ensures.value ∙ ap (λ t. t.items) c.as_ref-2.ensures in
     let is = to_z-of_z w128 _ fits ∙ c.self.invariant.is_bound in
     let gone = to_z-of_z w128 _ fits-gone ∙ c.change_class-change.ensures.gone
     ∙ (λ j. int_sum (product (without c.args.agent (own_counts (eo j))))
-    (λ x. best_entry (game_with i.actions (eo j) (et j) (pos 0))
+    (λ x. best_entry (game_with (ea j) (eo j) (et j) (pos 0))
     (placed_number c.args.agent (own_counts (eo j)) c.args.class x))) in
     let come = to_z-of_z w128 _ fits-come ∙ c.change_class-change.ensures.come
     ∙ (λ j. int_sum (product (without c.args.agent (own_counts (eo j)))) (λ x.
-    best_entry (with_own_choice (game_with i.actions (eo j) (et j) (pos 0))
+    best_entry (with_own_choice (game_with (ea j) (eo j) (et j) (pos 0))
     c.args.agent c.args.class c.args.choice)
     (placed_number c.args.agent (own_counts (eo j)) c.args.class x))) in
     less_fits g c.args.agent c.args.class c.args.choice hi hc c.self.invariant.of_front after _ _ _ is gone come
@@ -52,7 +54,7 @@ moved-self-inside-requires-clause-less c =
 pub moved-self-inside-requires-clause-after : goal.moved-self-inside-requires-clause-after
 moved-self-inside-requires-clause-after c =
     let i = c.self.inside in
-    let g = game_with i.actions i.choices.items i.table.items i.earned in
+    let g = game_with i.actions.value i.choices.items i.table.value.items i.earned in
     let hi : c.args.agent < length g.choices = subst (λ (k : KeptGame). c.args.agent < length k.choices)
     (sym c.self.view_is) c.requires.agent in
     let hc : c.args.class < length (get_or g.choices c.args.agent []) =
@@ -64,16 +66,17 @@ moved-self-inside-requires-clause-after c =
     let fits : SFits w128 c.self.inside.bound = search rules in
     let fits-gone : SFits w128 c.change_class-change.result.gone = search rules in
     let fits-come : SFits w128 c.change_class-change.result.come = search rules in
+    let ea = c.as_ref.ensures in
     let eo = c.deref.ensures.value in
-    let et = c.deref-2.ensures.value in
+    let et = c.deref-2.ensures.value ∙ ap (λ t. t.items) c.as_ref-2.ensures in
     let is = to_z-of_z w128 _ fits ∙ c.self.invariant.is_bound in
     let gone = to_z-of_z w128 _ fits-gone ∙ c.change_class-change.ensures.gone
     ∙ (λ j. int_sum (product (without c.args.agent (own_counts (eo j))))
-    (λ x. best_entry (game_with i.actions (eo j) (et j) (pos 0))
+    (λ x. best_entry (game_with (ea j) (eo j) (et j) (pos 0))
     (placed_number c.args.agent (own_counts (eo j)) c.args.class x))) in
     let come = to_z-of_z w128 _ fits-come ∙ c.change_class-change.ensures.come
     ∙ (λ j. int_sum (product (without c.args.agent (own_counts (eo j)))) (λ x.
-    best_entry (with_own_choice (game_with i.actions (eo j) (et j) (pos 0))
+    best_entry (with_own_choice (game_with (ea j) (eo j) (et j) (pos 0))
     c.args.agent c.args.class c.args.choice)
     (placed_number c.args.agent (own_counts (eo j)) c.args.class x))) in
     after_fits g c.args.agent c.args.class c.args.choice hi hc c.self.invariant.of_front after _ _ _ is gone
@@ -82,7 +85,7 @@ moved-self-inside-requires-clause-after c =
 pub invariant_of-self : goal.invariant_of-self
 invariant_of-self c =
     let i = c.self.inside in
-    let g = game_with i.actions i.choices.items i.table.items i.earned in
+    let g = game_with i.actions.value i.choices.items i.table.value.items i.earned in
     let hi : c.args.agent < length g.choices = subst (λ (k : KeptGame). c.args.agent < length k.choices)
     (sym c.self.view_is) c.requires.agent in
     let hc : c.args.class < length (get_or g.choices c.args.agent []) =
@@ -94,16 +97,17 @@ invariant_of-self c =
     let fits : SFits w128 c.self.inside.bound = search rules in
     let fits-gone : SFits w128 c.change_class-change.result.gone = search rules in
     let fits-come : SFits w128 c.change_class-change.result.come = search rules in
+    let ea = c.as_ref.ensures in
     let eo = c.deref.ensures.value in
-    let et = c.deref-2.ensures.value in
+    let et = c.deref-2.ensures.value ∙ ap (λ t. t.items) c.as_ref-2.ensures in
     let is = to_z-of_z w128 _ fits ∙ c.self.invariant.is_bound in
     let gone = to_z-of_z w128 _ fits-gone ∙ c.change_class-change.ensures.gone
     ∙ (λ j. int_sum (product (without c.args.agent (own_counts (eo j))))
-    (λ x. best_entry (game_with i.actions (eo j) (et j) (pos 0))
+    (λ x. best_entry (game_with (ea j) (eo j) (et j) (pos 0))
     (placed_number c.args.agent (own_counts (eo j)) c.args.class x))) in
     let come = to_z-of_z w128 _ fits-come ∙ c.change_class-change.ensures.come
     ∙ (λ j. int_sum (product (without c.args.agent (own_counts (eo j)))) (λ x.
-    best_entry (with_own_choice (game_with i.actions (eo j) (et j) (pos 0))
+    best_entry (with_own_choice (game_with (ea j) (eo j) (et j) (pos 0))
     c.args.agent c.args.class c.args.choice)
     (placed_number c.args.agent (own_counts (eo j)) c.args.class x))) in
     let fits-moved : SFits w128 c.moved-self-inside.result = search rules in
@@ -118,9 +122,10 @@ invariant_of-self c =
     c.deref_mut-2.ensures.value in
     let own = c.put.ensures ∙ ap (λ l. set l c.args.class c.args.choice)
     (c.index_mut-own.ensures.value ∙ get_or_default i.choices.items c.args.agent _ [] hi) in
-    kept_after g c.args.agent c.args.class c.args.choice c.deref.result.now _ c.deref-2.result.now
+    kept_after g c.args.agent c.args.class c.args.choice c.as_ref.result.now c.deref.result.now _
+    c.deref-2.result.now
     c.change_class-change.new.wanted _ c.change_class-change.new.greatest _ _
-    hi hc after eo et (ap (set i.choices.items c.args.agent) own) c.change_class-change.ensures.after
+    hi hc after ea eo et (ap (set i.choices.items c.args.agent) own) c.change_class-change.ensures.after
     (wanted_len ∙ wanted_same ∙ c.self.invariant.as_many) (greatest_len ∙ greatest_same
     ∙ c.self.invariant.one_each)
     (written i.wanted.len c.change_class-change.new.wanted i.wanted.items

@@ -95,7 +95,8 @@ bound_with-bound-requires c = λ n le.
     (c.in_ok-wanted.ensures ∙ ap (λ oss. rows_of (choices_in oss) c.joint_count-count.result)
     c.deref-2.ensures.value) c.in_ok-greatest.greatest.items (pos 0)
     (c.in_ok-greatest.ensures ∙ (λ j. map (greatest_in c.in_ok-actions.actions (c.deref-3.ensures.value j)
-    (c.deref-4.ensures.value j)) (range_with_len 0 c.joint_count-count.result))) n within)
+    (c.deref-4.ensures.value j))
+    (range_with_len 0 c.joint_count-count.result))) n within)
 
 pub invariant_of-result : goal.invariant_of-result
 invariant_of-result c =
@@ -104,47 +105,53 @@ invariant_of-result c =
     let e = c.deref-5.ensures.value in
     let bound = to_z-of_z w128 _ fits-bound ∙ c.bound_with-bound.ensures
     ∙ (λ j. to_z-of_z w128 _ fits-earned j +ℤ int_sum (length (e j)) (λ C. get_or (e j) C (pos 0))) in
-    subst (λ (x : ℤ). IsKept (game_with c.in_ok-actions.actions c.in_ok-choices.choices.items
-    c.in_ok-table.table.items x) c.in_ok-wanted.wanted.items c.in_ok-greatest.greatest.items
+    subst (λ (x : ℤ). IsKept (game_with c.in_ok-new.field-0.value c.in_ok-choices.choices.items
+    c.in_ok-new-2.field-0.value.items x) c.in_ok-wanted.wanted.items c.in_ok-greatest.greatest.items
     (to_z w128 (of_z w128 c.bound_with-bound.result)))
     (sym (to_z-of_z w128 _ fits-earned))
     (kept c.args.model.now.model c.args.front.now c.args.bounder.now c.requires.of_model c.requires.bounder
     c.requires.horizon c.requires.stage c.requires.room c.args.bounder.now.look
-    c.in_ok-actions.actions c.in_ok-choices.choices.items
-    c.joint_count-count.result c.in_ok-table.table.items c.earned-earned.result c.in_ok-actions.ensures
+    c.in_ok-new.field-0.value c.in_ok-choices.choices.items
+    c.joint_count-count.result c.in_ok-new-2.field-0.value.items c.earned-earned.result
+    (c.in_ok-new.ensures.ok ∙ c.in_ok-actions.ensures)
     c.in_ok-choices.ensures (c.joint_count-count.ensures ∙ ap (λ oss. product (own_counts oss))
-    c.deref.ensures.value) c.in_ok-table.ensures.rows
+    c.deref.ensures.value) (ap (λ t. t.items) c.in_ok-new-2.ensures.ok ∙ c.in_ok-table.ensures.rows)
     (c.earned-earned.ensures.is c.args.model.now.model c.requires.of_model) c.in_ok-wanted.wanted.items
     (c.in_ok-wanted.ensures ∙ ap (λ oss. rows_of (choices_in oss) c.joint_count-count.result)
     c.deref-2.ensures.value) c.in_ok-greatest.greatest.items _
-    (c.in_ok-greatest.ensures ∙ (λ j. map (greatest_in c.in_ok-actions.actions (c.deref-3.ensures.value j)
-    (c.deref-4.ensures.value j)) (range_with_len 0 c.joint_count-count.result))) bound)
+    (c.in_ok-greatest.ensures ∙ (λ j. map (greatest_in (sym c.in_ok-new.ensures.ok j)
+    ((c.deref-3.ensures.value ∙ ap (λ t. t.items) (sym c.in_ok-new-2.ensures.ok)) j) (c.deref-4.ensures.value j))
+    (range_with_len 0 c.joint_count-count.result))) bound)
 
 pub returns-clause-is : goal.returns-clause-is
 returns-clause-is c =
     let fits-earned : SFits w128 c.earned-earned.result.high = search rules in
     subst (λ (x : ℤ). IsGameOf c.args.model.now.model c.args.front.now.horizon c.args.bounder.now.look
-    c.args.front.now.front (game_with c.in_ok-actions.actions c.in_ok-choices.choices.items
-    c.in_ok-table.table.items x))
+    c.args.front.now.front (game_with c.in_ok-new.field-0.value c.in_ok-choices.choices.items
+    c.in_ok-new-2.field-0.value.items x))
     (sym (to_z-of_z w128 _ fits-earned)) (game c.args.model.now.model c.args.front.now c.args.bounder.now
     c.requires.of_model c.requires.bounder c.requires.horizon c.requires.stage c.requires.room
-    c.args.bounder.now.look c.in_ok-actions.actions c.in_ok-choices.choices.items c.joint_count-count.result
-    c.in_ok-table.table.items c.earned-earned.result c.in_ok-actions.ensures c.in_ok-choices.ensures
-    (c.joint_count-count.ensures ∙ ap (λ oss. product (own_counts oss)) c.deref.ensures.value)
-    c.in_ok-table.ensures.rows (c.earned-earned.ensures.is c.args.model.now.model c.requires.of_model))
+    c.args.bounder.now.look c.in_ok-new.field-0.value c.in_ok-choices.choices.items c.joint_count-count.result
+    c.in_ok-new-2.field-0.value.items c.earned-earned.result
+    (c.in_ok-new.ensures.ok ∙ c.in_ok-actions.ensures)
+    c.in_ok-choices.ensures (c.joint_count-count.ensures ∙ ap (λ oss. product (own_counts oss)) c.deref.ensures.value)
+    (ap (λ t. t.items) c.in_ok-new-2.ensures.ok ∙ c.in_ok-table.ensures.rows)
+    (c.earned-earned.ensures.is c.args.model.now.model c.requires.of_model))
 
 pub returns-clause-sound : goal.returns-clause-sound
 returns-clause-sound c =
     let fits-earned : SFits w128 c.earned-earned.result.high = search rules in
     subst (λ (x : ℤ). BoundsKeepers c.args.model.now.model c.args.front.now.horizon c.args.front.now.front
-    (game_bound (game_with c.in_ok-actions.actions c.in_ok-choices.choices.items c.in_ok-table.table.items x)))
+    (game_bound (game_with c.in_ok-new.field-0.value c.in_ok-choices.choices.items
+    c.in_ok-new-2.field-0.value.items x)))
     (sym (to_z-of_z w128 _ fits-earned))
     (bounds_keepers c.args.model.now.model c.args.front.now.horizon c.args.bounder.now.look
     c.args.front.now.front _
     (game c.args.model.now.model c.args.front.now c.args.bounder.now c.requires.of_model c.requires.bounder
     c.requires.horizon c.requires.stage c.requires.room c.args.bounder.now.look
-    c.in_ok-actions.actions c.in_ok-choices.choices.items
-    c.joint_count-count.result c.in_ok-table.table.items c.earned-earned.result c.in_ok-actions.ensures
+    c.in_ok-new.field-0.value c.in_ok-choices.choices.items
+    c.joint_count-count.result c.in_ok-new-2.field-0.value.items c.earned-earned.result
+    (c.in_ok-new.ensures.ok ∙ c.in_ok-actions.ensures)
     c.in_ok-choices.ensures (c.joint_count-count.ensures ∙ ap (λ oss. product (own_counts oss))
-    c.deref.ensures.value) c.in_ok-table.ensures.rows
+    c.deref.ensures.value) (ap (λ t. t.items) c.in_ok-new-2.ensures.ok ∙ c.in_ok-table.ensures.rows)
     (c.earned-earned.ensures.is c.args.model.now.model c.requires.of_model)))
