@@ -39,8 +39,9 @@ impl HeldFront {
             bound ≡ mode_bound model.now.model h look front.value.front →
             IsHeldFront model.now.model h look merging result }
     {
-        let wide = front.as_ref().is_wide(model, 0);
-        let early = front.as_ref().stage() < front.as_ref().horizon();
+        let made = front.as_ref();
+        let wide = made.is_wide(model, 0);
+        let early = made.stage() < made.horizon();
         let full = if early { None } else { Some(front) };
         HeldFront {
             path,

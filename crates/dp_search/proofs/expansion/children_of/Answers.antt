@@ -10,7 +10,7 @@ use Rattle.dp_search.proofs.expansion.children_of.Goals as goal
 
 pub actions-action-end-requires : goal.actions-action-end-requires
 actions-action-end-requires c =
-    let within = unassigned_in c.args.made.now.value.front.agents c.args.agent c.args.class c.requires.unassigned in
+    let within = unassigned_in c.args.front.now.front.agents c.args.agent c.args.class c.requires.unassigned in
     omega (arith, within.0, agents_of c.requires.front.of_model.front.agents)
 
 pub held_child_of-requires-clause-action : goal.held_child_of-requires-clause-action
@@ -22,11 +22,11 @@ loop-action-preserved c =
     let kept = c.loop-action.children.items in (
       c.in_ok-child.ensures.game ∙ c.loop-action.invariant.0,
       rw c.in_ok-push.ensures.items (child_more (λ (x : Child HeldFront). front_meant m x.front)
-          (front_after_choice m c.args.made.now.value.front c.args.agent c.args.class) c.loop-action.action kept
+          (front_after_choice m c.args.front.now.front c.args.agent c.args.class) c.loop-action.action kept
           c.in_ok-child.child c.loop-action.invariant.1 c.in_ok-child.ensures.front),
-      (λ merging settled. rw c.in_ok-push.ensures.items (all_more
+      (λ merging path settled. rw c.in_ok-push.ensures.items (all_more
           (IsHeldChild m c.args.bounder.now.horizon c.args.bounder.now.look merging)
-          kept c.in_ok-child.child (c.loop-action.invariant.2 merging settled)
-          (c.in_ok-child.ensures.child merging settled))),
+          kept c.in_ok-child.child (c.loop-action.invariant.2 merging path settled)
+          (c.in_ok-child.ensures.child merging path settled))),
       c.held_child_of.ensures.look_room,
     )

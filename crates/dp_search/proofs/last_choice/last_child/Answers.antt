@@ -1,11 +1,11 @@
-use Rattle.std.proofs.Common.{◌∙◌, ap, refl, subst, arith, rules}
+use Rattle.std.proofs.Common.{◌≡◌, ◌∙◌, ap, refl, sym, subst, arith, rules}
 use Rattle.std.specs.Int.{w128}
 use Rattle.std.proofs.lemmas.Int.{to_z-of_z}
 use mir.Val.{SFits}
 use Rattle.dp_spec.specs.Front.{Front}
 use Rattle.dp_spec.specs.Steps.{front_after_choice}
 use Rattle.dp_search.specs.Expansions.{mode_bound}
-use Rattle.dp_search.specs.Paths.{IsChoiceAt}
+use Rattle.dp_search.specs.Paths.{IsChoiceAt, IsPath, path_front}
 use Rattle.dp_search.proofs.LastChoices.{last_held}
 use Rattle.dp_search.proofs.last_choice.last_child.Goals as goal
 
@@ -36,7 +36,10 @@ returns-clause-child c merging path settled =
     record {
       held = last_held m b.horizon b.look k c.requires.front c.requires.last c.requires.bounder.some_look
           choice.agent choice.class choice.action c.requires.unassigned c.requires.action merging _ meant
-          _ refl refl
+          (subst (IsPath m b.horizon merging) (sym c.in_ok-new.ensures.ok)
+          (c.in_ok-after.ensures.path m b.horizon merging path
+          (subst (λ (F : Front). IsChoiceAt m b.horizon merging F choice) (sym c.requires.path) at)))
+          refl refl
           (to_z-of_z w128 _ fits-copied ∙ c.copied.ensures ∙ bound);
       bound = bound ∙ ap (mode_bound m b.horizon b.look) (sym meant);
     }

@@ -10,6 +10,6 @@ pub returns-else-above-ge-MOST_ABOVE : goal.returns-else-above-ge-MOST_ABOVE
 returns-else-above-ge-MOST_ABOVE c m h look merging held =
     search (rules, wide_is m h look merging c.args.self.now held c.args.above)
 
-pub returns-else-not-self : goal.returns-else-not-self
-returns-else-not-self c m h look merging held =
+pub returns-else-is_none : goal.returns-else-is_none
+returns-else-is_none c m h look merging held =
     search (rules, wide_is m h look merging c.args.self.now held c.args.above)
