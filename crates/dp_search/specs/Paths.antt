@@ -1,5 +1,5 @@
 -- The paths of steps from the root front, and the fronts that they lead to. (Own.)
-use Rattle.std.specs.Prelude.{◌≡◌, ℕ, ◌<◌, Bool, true, false, Unit, get_or}
+use Rattle.std.specs.Prelude.{◌≡◌, ℕ, ◌<◌, Bool, true, false, get_or}
 use Rattle.dp_spec.specs.Front.{Front}
 use Rattle.dp_spec.specs.Merge.{merged_front}
 use Rattle.dp_spec.specs.Mode.{is_exact_mode}
