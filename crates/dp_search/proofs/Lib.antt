@@ -15,6 +15,7 @@ pub mod BranchPlaces
 pub mod Expansions
 pub mod MergedBounds
 pub mod HeldFronts
+pub mod MadeFronts
 pub mod PlannerFronts
 pub mod PlannedCertificates
 pub mod UnderwayFronts

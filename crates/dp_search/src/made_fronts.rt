@@ -1,5 +1,5 @@
 //! The fronts and games of a search that were used last.
-ghost use Rattle.std.specs.Prelude.{◌≡◌, ◌<◌, ℕ, Bool, IfOk, IfErr, IfSome, OnOk};
+ghost use Rattle.std.specs.Prelude.{◌≡◌, ◌<◌, ℕ, Bool, IfOk, IfErr, IfSome, OnOk, option_map};
 ghost use Rattle.dp_spec.specs.Model.{Model as PlainModel};
 ghost use Rattle.dp_spec.specs.Steps.{root_front};
 ghost use Rattle.dp_cluster.specs.KeptFronts.{IsFrontOf};
@@ -35,7 +35,10 @@ pub(crate) struct MadeFront {
 impl MadeFront {
     /// The same, shared.
     pub(crate) fn shared(&self) -> Result<MadeFront, Memory>
-        ensures { IfOk result (λ f. f ≡ self.now) }
+        ensures front { IfOk result (λ f. f.front.value ≡ self.now.front.value) }
+        ensures game { IfOk result (λ f. option_map (λ g. g.value) f.game ≡
+            option_map (λ g. g.value) self.now.game) }
+        ensures settled { IfOk result (λ f. f.settled ≡ self.now.settled) }
     {
         let game = match &self.game {
             None => None,
@@ -122,7 +125,7 @@ impl MadeFronts {
         ensures fails { IfErr result (λ _. (m : PlainModel) (h look : ℕ) (merging : Bool) →
             AreMade m h look merging self.old → AreMade m h look merging self.new) }
     {
-        let numbers = numbers_of(model, made.front.as_ref());
+        let numbers = numbers_of(model, &made);
         let number = path.as_ref().number();
         let entry = Entry {
             path: path.clone()?,
@@ -154,18 +157,14 @@ impl MadeFronts {
     }
 }
 
-// For how many numbers a front counts with its game: two for each weight, one for each entry of the game's
-// table, and a few for each joint class and for the rest.
-fn numbers_of(model: &Model, front: &Front) -> u64
-    requires of_model { IsFrontOf model.now.model front.now }
-    requires stage { front.now.front.stage < front.now.horizon }
+// For how many numbers a front counts: two for each weight, and a few for each joint class and for the rest. With
+// its game, one more for each entry of the game's table.
+fn numbers_of(model: &Model, made: &MadeFront) -> u64
+    requires of_model { IsFrontOf model.now.model made.now.front.value }
+    requires stage { made.now.front.value.front.stage < made.now.front.value.horizon }
 {
     model.invariant();
-    let each = u64::from(model.states())
-        .saturating_mul(2)
-        .saturating_add(u64::from(model.joint_actions()))
-        .saturating_add(4);
-    (front.joint_classes() as u64)
-        .saturating_mul(each)
-        .saturating_add(ENTRY)
+    let table = if made.game.is_some() { model.joint_actions() } else { 0 };
+    let each = 2 * model.states() + table + 4;
+    made.front.as_ref().joint_classes() as u64 * u64::from(each) + ENTRY
 }
