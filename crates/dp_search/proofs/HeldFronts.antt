@@ -20,8 +20,12 @@ use Rattle.dp_search.specs.FrontPlanners.{IsPlannerFront}
 use Rattle.dp_search.specs.FrontPlanning.{IsSearchFront}
 use Rattle.dp_search.specs.Expansions.{IsChild, mode_bound}
 use Rattle.dp_search.specs.HeldFronts.{IsHeldChild, IsHeldFront, front_meant}
-use Rattle.dp_search.specs.Paths.{IsPath}
-use Rattle.dp_search.proofs.Expansions.{merged_is_child}
+use Rattle.dp_game.specs.Games.{IsGameOf}
+use Rattle.dp_search.specs.declared.made_fronts.MadeFront.{MadeFront}
+use Rattle.dp_search.specs.declared.path.Pair.{Pair}
+use Rattle.dp_search.specs.MadeFronts.{IsMadeFront}
+use Rattle.dp_search.specs.Paths.{IsMergeAt, IsPath}
+use Rattle.dp_search.proofs.Expansions.{merged_is_child, merged_of_planner}
 use Rattle.dp_search.proofs.MergedBounds.{merged_bound_is}
 use Rattle.dp_search.proofs.UnfinishedFronts.{same_stage_chosen}
 
@@ -145,3 +149,24 @@ merged_child m h look merging k next s x i a b is lt pair on bound merged of_mod
     bound ∙ sym (merged_mode_bound m h look k i a b is lt pair on) ∙ ap (mode_bound m h look) (sym merged) in
     child_is_held m h look merging next s x
     (merged_is_child m h look k is lt i a b pair next merged of_model horizon x own) meant held
+
+-- the merge may be made, and the front after it was made
+pub merge_at : (m : Model) (h : ℕ) (k : KeptFront) → IsPlannerFront m h k → k.front.stage < h → (q : Pair)
+    → IsPair m k.front q.agent q.first q.second → k.is_exact ≡ true → IsMergeAt m h k.front q
+merge_at m h k is lt q pair on = record {
+  early = lt;
+  exact = sym (is.of_model.mode ∙ ap (is_exact_mode m) is.horizon) ∙ on;
+  pair = pair;
+}
+
+pub merged_made : (m : Model) (h look : ℕ) (merging : Bool) (k next : KeptFront) (i a b : ℕ) → IsPlannerFront m h k
+    → k.front.stage < h → IsPair m k.front i a b → next.front ≡ merged_front k.front i a b → IsFrontOf m next
+    → next.horizon ≡ k.horizon → (F : Front) → F ≡ next.front → (made : MadeFront) → made.front.value ≡ next
+    → made.game ≡ None → made.settled ≡ false → IsMadeFront m h look merging F made
+merged_made m h look merging k next i a b is lt pair merged of_model horizon F at made same none unsettled = record {
+  of_planner = subst (IsPlannerFront m h) (sym same)
+      (merged_of_planner m h look k is lt i a b pair next merged of_model horizon);
+  front = ap (λ (o : KeptFront). o.front) same ∙ sym at;
+  game = subst (λ o. IfSome o (λ g. IsGameOf m h look F g.value)) (sym none) tt;
+  settled = λ on. absurd (let no : true ≡ false = sym on ∙ unsettled in cc);
+}

@@ -435,6 +435,7 @@ fn children_at(
         is_exact_mode model.now.model bounder.now.horizon ≡ true →
         HasNoEquivalent model.now.model front.now.front) →
         All (IsHeldChild model.now.model bounder.now.horizon bounder.now.look merging) v.items) }
+    ensures game { OnOk result (game.new ≡ game.old) }
     ensures look_room { IsRoomFor bounder.now.is_exact model.now.model bounder.now.look room.new }
 {
     if is_last_step(bounder, front, one) {
@@ -474,6 +475,7 @@ fn children_of(
         is_exact_mode model.now.model bounder.now.horizon ≡ true →
         HasNoEquivalent model.now.model front.now.front) →
         All (IsHeldChild model.now.model bounder.now.horizon bounder.now.look merging) v.items) }
+    ensures game { OnOk result (game.new ≡ game.old) }
     ensures look_room { IsRoomFor bounder.now.is_exact model.now.model bounder.now.look room.new }
 {
     let mut children = Vec::new(alloc);

@@ -10,10 +10,11 @@ use Rattle.dp_search.specs.Paths.{IsChoiceAt, IsPath, path_front}
 use Rattle.dp_search.proofs.HeldFronts.{child_is_held}
 use Rattle.dp_search.proofs.expansion.held_child_of.Goals as goal
 
-pub of-requires : goal.of-requires
-of-requires c =
-    subst (IsFrontOf c.args.model.now.model) (sym c.in_ok-next.ensures.ok)
-    c.in_ok-child.ensures.child.of_planner.of_model
+pub of-held-requires : goal.of-held-requires
+of-held-requires c = record {
+  of_model = subst (IsFrontOf c.args.model.now.model) (sym c.in_ok-next.ensures.ok)
+      c.in_ok-child.ensures.child.of_planner.of_model;
+}
 
 pub returns-clause-front : goal.returns-clause-front
 returns-clause-front c =
