@@ -73,16 +73,22 @@ module _ (m : Model) (h look : ℕ) (merging : Bool) (F : Front) (made : MadeFro
     pub next_front : next.front ≡ after m F c
     next_front = front ∙ ap (λ (G : Front). after m G c) is.front
 
-    -- at the same stage
-    module _ (same : next.front ≡ chosen_front k.front c.agent c.class c.action) where
-      pub chosen_next : chosen_front F c.agent c.class c.action ≡ after m F c
-      chosen_next =
-          ap (λ (G : Front). chosen_front G c.agent c.class c.action) (sym is.front) ∙ sym same ∙ next_front
+  -- at the same stage
+  module _ (G : Front) (front : G ≡ after m F c) (same : G ≡ chosen_front k.front c.agent c.class c.action) where
+    pub chosen_next : chosen_front F c.agent c.class c.action ≡ after m F c
+    chosen_next =
+        ap (λ (G : Front). chosen_front G c.agent c.class c.action) (sym is.front) ∙ sym same ∙ front
 
-      pub no_pair_next : merging ≡ true → is_exact_mode m h ≡ true → HasNoEquivalent m (after m F c)
-      no_pair_next on exact =
-          subst (HasNoEquivalent m) chosen_next
-          (no_pair_after m F c.agent c.class c.action (at.settled on exact))
+    pub no_pair_next : merging ≡ true → is_exact_mode m h ≡ true → HasNoEquivalent m (after m F c)
+    no_pair_next on exact =
+        subst (HasNoEquivalent m) chosen_next
+        (no_pair_after m F c.agent c.class c.action (at.settled on exact))
+
+    -- the game follows from the one before
+    pub game_next : (o : Option KeptGame)
+        → IfSome o (IsGameOf m h look (chosen_front F c.agent c.class c.action))
+        → IfSome o (IsGameOf m h look (after m F c))
+    game_next o game = subst (λ (G : Front). IfSome o (IsGameOf m h look G)) chosen_next game
 
 -- after a choice at the same stage nothing else changes
 pub same_next : (m : Model) (k next : KeptFront) (c : Choice) → next.front ≡ after m k.front c

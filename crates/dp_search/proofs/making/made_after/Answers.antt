@@ -29,10 +29,11 @@ returns-clause-is c h look merging F is at =
     ∙ ap (λ (f : KeptFront). after m f.front choice) c.as_ref-front.ensures in
     let own = subst (IsPlannerFront m c.as_ref-front.result.now.horizon) (sym made) c.in_ok-next.ensures.of_planner in
     let planner = subst (λ (f : KeptFront). IsPlannerFront m f.horizon next) c.as_ref-front.ensures own in
+    let own_front = next_front m h look merging F c.args.made.now is choice at next front planner in
     record {
       of_planner = next_planner m h look merging F c.args.made.now is choice at next front planner;
-      front = next_front m h look merging F c.args.made.now is choice at next front planner;
+      front = own_front;
       game = tt;
-      settled = λ on. no_pair_next m h look merging F c.args.made.now is choice at next front planner
+      settled = λ on. no_pair_next m h look merging F c.args.made.now is choice at next.front own_front
           (returns-clause-same c on);
     }
