@@ -16,6 +16,8 @@ pub mod Expansions
 pub mod MergedBounds
 pub mod HeldFronts
 pub mod MadeFronts
+pub mod Paths
+pub mod MadeSteps
 pub mod PlannerFronts
 pub mod PlannedCertificates
 pub mod UnderwayFronts

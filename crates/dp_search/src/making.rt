@@ -31,15 +31,8 @@ pub(crate) struct Start {
     pub settled: bool,
 }
 
-// A front that was made, and whether its weights are its own.
-#[derive(Drop)]
-struct Anew {
-    front: Rc<Front>,
-    fresh: bool,
-}
-
 /// The front that a path leads to: the one that is kept, or else one that is made from the front before it.
-/// Where `hold` says so it is kept, if its weights are not those of the front before.
+/// Where `hold` says so it is kept, unless its weights are those of the front before.
 #[cycle(making)]
 pub(crate) fn front_at(
     alloc: Global,
@@ -60,13 +53,8 @@ pub(crate) fn front_at(
     if let Some(found) = made.find(path.as_ref())? {
         return Ok(found);
     }
-    let anew = front_anew(alloc, model, bounder, merging, path.as_ref(), made)?;
-    let front = MadeFront {
-        front: anew.front,
-        game: None,
-        settled: !anew.fresh,
-    };
-    if hold && anew.fresh {
+    let front = front_anew(alloc, model, bounder, merging, path.as_ref(), made)?;
+    if hold && !front.settled {
         let same = front.shared()?;
         made.keep(model, path, same)?;
     }
@@ -82,36 +70,59 @@ fn front_anew(
     merging: bool,
     path: &Path,
     made: &mut MadeFronts,
-) -> Result<Anew, Memory>
+) -> Result<MadeFront, Memory>
     requires path { IsPath model.now.model bounder.now.horizon merging path.now }
     requires made { AreMade model.now.model bounder.now.horizon bounder.now.look merging made.old }
-    ensures of_planner { IfOk result (λ a. IsPlannerFront model.now.model bounder.now.horizon a.front.value) }
-    ensures front { IfOk result (λ a. a.front.value.front ≡ path_front model.now.model path.now) }
-    ensures settled { IfOk result (λ a. a.fresh ≡ false → merging ≡ true →
-        is_exact_mode model.now.model bounder.now.horizon ≡ true →
-        HasNoEquivalent model.now.model (path_front model.now.model path.now)) }
+    ensures is { IfOk result (IsMadeFront model.now.model bounder.now.horizon bounder.now.look merging
+        (path_front model.now.model path.now)) }
     ensures made { AreMade model.now.model bounder.now.horizon bounder.now.look merging made.new }
 {
     match path {
         Path::Root => {
             let front = made.root()?;
-            Ok(Anew { front, fresh: true })
+            Ok(MadeFront {
+                front,
+                game: None,
+                settled: false,
+            })
         }
         Path::Chosen { before, choice, .. } => {
             let start = front_at(alloc, model, bounder, merging, before, true, made)?;
-            let front = start.front.as_ref();
-            let next = after_choice(alloc, model, front, choice.agent, choice.class, choice.action)?;
-            let fresh = next.stage() != front.stage();
-            let front = Rc::new(alloc, next)?;
-            Ok(Anew { front, fresh })
+            made_after(alloc, model, &start, *choice)
         }
         Path::Merged { before, pair, .. } => {
             let start = front_at(alloc, model, bounder, merging, before, false, made)?;
             let next = joined(alloc, start.front.as_ref(), *pair)?;
-            let front = Rc::new(alloc, next)?;
-            Ok(Anew { front, fresh: true })
+            Ok(MadeFront {
+                front: Rc::new(alloc, next)?,
+                game: None,
+                settled: false,
+            })
         }
     }
+}
+
+// The front after a choice at one that was made. At the same stage nothing else changes, and there is still nothing
+// to merge.
+fn made_after(alloc: Global, model: &Model, made: &MadeFront, choice: Choice) -> Result<MadeFront, Memory>
+    requires of_planner { IsPlannerFront model.now.model made.now.front.value.horizon made.now.front.value }
+    requires choice { (merging : Bool) × IsChoiceAt model.now.model made.now.front.value.horizon merging
+        made.now.front.value.front choice }
+    ensures is { IfOk result (λ f. (h look : ℕ) (merging : Bool) (F : PlainFront) →
+        IsMadeFront model.now.model h look merging F made.now → IsChoiceAt model.now.model h merging F choice →
+        IsMadeFront model.now.model h look merging
+        (front_after_choice model.now.model F choice.agent choice.class choice.action) f) }
+    ensures same { IfOk result (λ f. f.settled ≡ true → f.front.value.front ≡
+        chosen_front made.now.front.value.front choice.agent choice.class choice.action) }
+{
+    let front = made.front.as_ref();
+    let next = after_choice(alloc, model, front, choice.agent, choice.class, choice.action)?;
+    let settled = next.stage() == front.stage();
+    Ok(MadeFront {
+        front: Rc::new(alloc, next)?,
+        game: None,
+        settled,
+    })
 }
 
 /// The front that a path leads to, for a step that is made there. After a choice of the same stage its game
@@ -163,22 +174,19 @@ fn start_after(
     ensures made { AreMade model.now.model bounder.now.horizon bounder.now.look merging made.new }
 {
     let before = front_at(alloc, model, bounder, merging, path, true, made)?;
-    let front = before.front.as_ref();
-    let next = after_choice(alloc, model, front, choice.agent, choice.class, choice.action)?;
-    let same = next.stage() == front.stage();
-    let game = if same { game_after(alloc, &before, choice)? } else { None };
-    let front = Rc::new(alloc, next)?;
+    let next = made_after(alloc, model, &before, choice)?;
+    let game = if next.settled { game_after(alloc, &before, choice)? } else { None };
     Ok(Start {
-        front,
+        front: next.front,
         game,
-        settled: same,
+        settled: next.settled,
     })
 }
 
 // The game after a choice at a front that was made, where its game is kept.
 fn game_after(alloc: Global, made: &MadeFront, choice: Choice) -> Result<Option<Game>, Memory>
-    requires unassigned { IfSome made.now.game (λ g. IsFreeIn g.value choice) }
-    ensures is { IfOk result (λ o. IfSome o (λ g. (m : PlainModel) (h look : ℕ) (merging : Bool) (F : PlainFront) →
+    requires { IfSome made.now.game (λ g. IsFreeIn g.value choice) }
+    ensures { IfOk result (λ o. IfSome o (λ g. (m : PlainModel) (h look : ℕ) (merging : Bool) (F : PlainFront) →
         IsMadeFront m h look merging F made.now →
         IsGameOf m h look (chosen_front F choice.agent choice.class choice.action) g)) }
 {
