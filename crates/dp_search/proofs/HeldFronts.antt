@@ -1,7 +1,7 @@
 -- What is known of the fronts that a search holds.
 use Rattle.std.proofs.Common.{◌≡◌, ℕ, zero, suc, ◌<◌, Bool, true, false, List, [], ◌∷◌, length, get_or, set}
 use Rattle.std.proofs.Common.{ℤ, Option, None, Some, refl, sym, ap, subst, ◌∙◌, arith}
-use Rattle.std.specs.Prelude.{◌&&◌, ◌||◌, ◌==◌, not, nat_lt, nat_le, is_none, is_some, IfSome}
+use Rattle.std.specs.Prelude.{◌&&◌, ◌||◌, ◌==◌, not, nat_lt, nat_le, is_none, is_some, IfSome, OnOk, Result, Ok, Err}
 use Rattle.dp_spec.specs.Arithmetic.{arithmetic}
 use Rattle.dp_spec.specs.Fitting.{front_bound}
 use Rattle.dp_spec.specs.Front.{AgentFront, Front}
@@ -60,6 +60,10 @@ pub if_some_weaker : {X : Type 0} (P Q : X → Type 0) → ((x : X) → P x → 
     → IfSome o Q
 if_some_weaker P Q follows None p = tt
 if_some_weaker P Q follows (Some x) p = follows x p
+
+pub on_ok_weaker : {X E P Q : Type 0} → (P → Q) → (r : Result X E) → OnOk r P → OnOk r Q
+on_ok_weaker follows (Ok x) p = follows p
+on_ok_weaker follows (Err e) p = tt
 
 -- ---- what a held front stands for
 

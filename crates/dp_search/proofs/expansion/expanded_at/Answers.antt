@@ -11,7 +11,7 @@ use Rattle.dp_search.specs.FrontPlanners.{IsPlannerFront, planner_space, widest}
 use Rattle.dp_search.specs.HeldFronts.{IsExpansion}
 use Rattle.dp_search.specs.Rules.{MayAnswer}
 use Rattle.dp_search.proofs.Expansions.{if_ok_all, merge_expands, of_some}
-use Rattle.dp_search.proofs.HeldFronts.{settled_or}
+use Rattle.dp_search.proofs.HeldFronts.{on_ok_weaker, settled_or}
 use Rattle.dp_search.proofs.expansion.expanded_at.Goals as goal
 
 pub pair_at-requires-clause-of_model : goal.pair_at-requires-clause-of_model
@@ -57,3 +57,16 @@ returns-in-Some-clause-is g c =
     (of_some _ _ pair c.in-Some.is c.in_ok-pair.ensures.exact)
     (of_some _ _ pair c.in-Some.is c.in_ok-pair.ensures.merging))
     c.merged.result c.merged.ensures.step c.merged.ensures.fronts c.merged.ensures.children)
+
+pub returns-in-Some-clause-room : goal.returns-in-Some-clause-room
+returns-in-Some-clause-room g c =
+    let m = c.args.model.now.model in
+    let h = c.args.bounder.now.horizon in
+    let look = c.args.bounder.now.look in
+    let is = subst (IsPlannerFront m h) (sym c.as_ref-front.ensures) c.requires.start.of_planner in
+    on_ok_weaker
+    (λ goes_on. record {
+      look_room = c.requires.room.look_room;
+      made = goes_on h look c.args.options.merge is c.requires.room.made;
+    })
+    c.merged.result c.merged.ensures.made
