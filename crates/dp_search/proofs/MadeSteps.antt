@@ -65,7 +65,8 @@ module _ (m : Model) (h look : ℕ) (merging : Bool) (F : Front) (made : MadeFro
 
   -- ---- the front after
 
-  module _ (next : KeptFront) (front : next.front ≡ after m k.front c) (planner : IsPlannerFront m k.horizon next) where
+  module _ (next : KeptFront) (front : next.front ≡ after m k.front c)
+      (planner : IsPlannerFront m k.horizon next) where
     pub next_planner : IsPlannerFront m h next
     next_planner =
         next_of_planner m h look k is.of_planner at_front.early c.agent c.class c.action next front planner
