@@ -1,9 +1,7 @@
 //! The fronts that paths lead to, made where they are not kept.
-ghost use Rattle.std.specs.Prelude.{◌≡◌, ◌<◌, ℕ, Bool, true, false, IfOk, IfSome};
+ghost use Rattle.std.specs.Prelude.{◌≡◌, ◌<◌, ℕ, Bool, true, IfOk, IfSome};
 ghost use Rattle.dp_spec.specs.Front.{Front as PlainFront};
-ghost use Rattle.dp_spec.specs.Mode.{is_exact_mode};
 ghost use Rattle.dp_spec.specs.Model.{Model as PlainModel};
-ghost use Rattle.dp_spec.specs.Qualities.{HasNoEquivalent};
 ghost use Rattle.dp_spec.specs.Steps.{chosen_front, front_after_choice};
 ghost use Rattle.dp_game.specs.Games.{IsGameOf};
 ghost use Rattle.dp_search.specs.FrontPlanners.{IsPlannerFront};
