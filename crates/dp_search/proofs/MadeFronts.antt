@@ -18,7 +18,6 @@ use Rattle.dp_search.specs.declared.made_fronts.MadeFront.{MadeFront}
 use Rattle.dp_search.specs.declared.made_fronts.MadeFronts.{MadeFronts}
 use Rattle.dp_search.specs.FrontPlanners.{IsPlannerFront}
 use Rattle.dp_search.specs.MadeFronts.{AreMade, IsEntry, IsMadeFront}
-use Rattle.dp_search.specs.Paths.{path_front}
 
 -- all but the last of some entries are fewer
 pub fewer : {X : Type 0} (es : List X) (e : X) → slice_get es (length es - 1) ≡ Some e

@@ -1,13 +1,12 @@
 -- The steps at fronts that were made.
-use Rattle.std.proofs.Common.{◌≡◌, ℕ, ◌<◌, Bool, true, false, Option, None, Some, refl, sym, ap, subst, ◌∙◌}
-use Rattle.std.specs.Prelude.{IfSome, get_or}
+use Rattle.std.proofs.Common.{◌≡◌, ℕ, Bool, true, Option, None, Some, sym, ap, subst, ◌∙◌}
+use Rattle.std.specs.Prelude.{IfSome}
 use Rattle.std.specs.declared.rc.Rc.{Rc}
 use Rattle.std.specs.declared.alloc.Global.{Global}
 use Rattle.dp_spec.specs.Front.{Front}
 use Rattle.dp_spec.specs.Merge.{merged_front}
 use Rattle.dp_spec.specs.Mode.{is_exact_mode}
 use Rattle.dp_spec.specs.Model.{Model}
-use Rattle.dp_spec.specs.Pairs.{IsPair}
 use Rattle.dp_spec.specs.Qualities.{HasNoEquivalent}
 use Rattle.dp_spec.specs.Steps.{chosen_front, front_after_choice}
 use Rattle.dp_cluster.specs.KeptFronts.{IsFrontOf, KeptFront}
@@ -32,16 +31,8 @@ module _ (m : Model) (h look : ℕ) (merging : Bool) (F : Front) (made : MadeFro
   abbrev k : KeptFront
   k = made.front.value
 
-  -- ---- the front before, in its own horizon
-
-  pub own_planner : IsPlannerFront m k.horizon k
-  own_planner = subst (λ (n : ℕ). IsPlannerFront m n k) (sym is.of_planner.horizon) is.of_planner
-
   at_front : IsChoiceAt m h merging k.front c
   at_front = subst (λ (G : Front). IsChoiceAt m h merging G c) (sym is.front) at
-
-  pub own_choice : IsChoiceAt m k.horizon merging k.front c
-  own_choice = subst (λ (n : ℕ). IsChoiceAt m n merging k.front c) (sym is.of_planner.horizon) at_front
 
   -- ---- the game before
 
@@ -65,7 +56,8 @@ module _ (m : Model) (h look : ℕ) (merging : Bool) (F : Front) (made : MadeFro
 
   -- ---- the front after
 
-  module _ (next : KeptFront) (front : next.front ≡ after m k.front c) (planner : IsPlannerFront m k.horizon next) where
+  module _ (next : KeptFront) (front : next.front ≡ after m k.front c)
+      (planner : IsPlannerFront m k.horizon next) where
     pub next_planner : IsPlannerFront m h next
     next_planner =
         next_of_planner m h look k is.of_planner at_front.early c.agent c.class c.action next front planner
@@ -107,27 +99,17 @@ module _ (m : Model) (h look : ℕ) (merging : Bool) (F : Front) (made : MadeFro
   merge_at : IsMergeAt m h before.front q
   merge_at = subst (λ (G : Front). IsMergeAt m h G q) (sym is.front) at
 
-  -- what is asked of a merge, in the front's own horizon
-  module _ (k : KeptFront) (same : k ≡ before) where
-    pub merge_pair : (n : Model) × (IsFrontOf n k × IsPair n k.front q.agent q.first q.second)
-    merge_pair = subst (λ (f : KeptFront). (n : Model) × (IsFrontOf n f × IsPair n f.front q.agent q.first q.second))
-        (sym same) (m, (is.of_planner.of_model, merge_at.pair))
+  module _ (k : KeptFront) (same : k ≡ before) (next : KeptFront)
+      (front : next.front ≡ merged_front k.front q.agent q.first q.second) (horizon : next.horizon ≡ k.horizon)
+      (of_model : IsFrontOf m k → IsFrontOf m next) where
+    own_front : next.front ≡ merged_front before.front q.agent q.first q.second
+    own_front = front ∙ ap (λ (f : KeptFront). merged_front f.front q.agent q.first q.second) same
 
-    pub merge_exact : k.is_exact ≡ true
-    merge_exact =
-        ap (λ (f : KeptFront). f.is_exact) same ∙ is.of_planner.of_model.mode
-        ∙ ap (is_exact_mode m) is.of_planner.horizon ∙ at.exact
+    pub merged_planner : IsPlannerFront m h next
+    merged_planner =
+        merged_of_planner m h look before is.of_planner merge_at.early q.agent q.first q.second merge_at.pair next
+        own_front (of_model (subst (IsFrontOf m) (sym same) is.of_planner.of_model))
+        (horizon ∙ ap (λ (f : KeptFront). f.horizon) same)
 
-    module _ (next : KeptFront) (front : next.front ≡ merged_front k.front q.agent q.first q.second)
-        (horizon : next.horizon ≡ k.horizon) (of_model : IsFrontOf m k → IsFrontOf m next) where
-      own_front : next.front ≡ merged_front before.front q.agent q.first q.second
-      own_front = front ∙ ap (λ (f : KeptFront). merged_front f.front q.agent q.first q.second) same
-
-      pub merged_planner : IsPlannerFront m h next
-      merged_planner =
-          merged_of_planner m h look before is.of_planner merge_at.early q.agent q.first q.second merge_at.pair next
-          own_front (of_model (subst (IsFrontOf m) (sym same) is.of_planner.of_model))
-          (horizon ∙ ap (λ (f : KeptFront). f.horizon) same)
-
-      pub merged_is : next.front ≡ merged_front F q.agent q.first q.second
-      merged_is = own_front ∙ ap (λ (G : Front). merged_front G q.agent q.first q.second) is.front
+    pub merged_is : next.front ≡ merged_front F q.agent q.first q.second
+    merged_is = own_front ∙ ap (λ (G : Front). merged_front G q.agent q.first q.second) is.front

@@ -116,7 +116,12 @@ impl MadeFronts {
     }
 
     /// Keeps the front that a path leads to, as the one that was used last.
-    pub(crate) fn keep(&mut self, model: &Model, path: &Rc<Path>, made: MadeFront) -> Result<(), Memory>
+    pub(crate) fn keep(
+        &mut self,
+        model: &Model,
+        path: &Rc<Path>,
+        made: MadeFront,
+    ) -> Result<(), Memory>
         requires of_model { IsFrontOf model.now.model made.front.value }
         requires stage { made.front.value.front.stage < made.front.value.horizon }
         ensures kept { OnOk result ((m : PlainModel) (h look : ℕ) (merging : Bool) →
@@ -164,7 +169,11 @@ fn numbers_of(model: &Model, made: &MadeFront) -> u64
     requires stage { made.now.front.value.front.stage < made.now.front.value.horizon }
 {
     model.invariant();
-    let table = if made.game.is_some() { model.joint_actions() } else { 0 };
+    let table = if made.game.is_some() {
+        model.joint_actions()
+    } else {
+        0
+    };
     let each = 2 * model.states() + table + 4;
     made.front.as_ref().joint_classes() as u64 * u64::from(each) + ENTRY
 }

@@ -1,9 +1,7 @@
 //! The fronts that paths lead to, made where they are not kept.
-ghost use Rattle.std.specs.Prelude.{◌≡◌, ◌<◌, ℕ, Bool, true, false, IfOk, IfSome};
+ghost use Rattle.std.specs.Prelude.{◌≡◌, ◌<◌, ℕ, Bool, true, IfOk, IfSome};
 ghost use Rattle.dp_spec.specs.Front.{Front as PlainFront};
-ghost use Rattle.dp_spec.specs.Mode.{is_exact_mode};
 ghost use Rattle.dp_spec.specs.Model.{Model as PlainModel};
-ghost use Rattle.dp_spec.specs.Qualities.{HasNoEquivalent};
 ghost use Rattle.dp_spec.specs.Steps.{chosen_front, front_after_choice};
 ghost use Rattle.dp_game.specs.Games.{IsGameOf};
 ghost use Rattle.dp_search.specs.FrontPlanners.{IsPlannerFront};
@@ -104,7 +102,12 @@ fn front_anew(
 
 // The front after a choice at one that was made. At the same stage nothing else changes, and there is still nothing
 // to merge.
-fn made_after(alloc: Global, model: &Model, made: &MadeFront, choice: Choice) -> Result<MadeFront, Memory>
+fn made_after(
+    alloc: Global,
+    model: &Model,
+    made: &MadeFront,
+    choice: Choice,
+) -> Result<MadeFront, Memory>
     requires of_planner { IsPlannerFront model.now.model made.now.front.value.horizon made.now.front.value }
     requires choice { (merging : Bool) × IsChoiceAt model.now.model made.now.front.value.horizon merging
         made.now.front.value.front choice }
@@ -116,7 +119,14 @@ fn made_after(alloc: Global, model: &Model, made: &MadeFront, choice: Choice) ->
         chosen_front made.now.front.value.front choice.agent choice.class choice.action) }
 {
     let front = made.front.as_ref();
-    let next = after_choice(alloc, model, front, choice.agent, choice.class, choice.action)?;
+    let next = after_choice(
+        alloc,
+        model,
+        front,
+        choice.agent,
+        choice.class,
+        choice.action,
+    )?;
     let settled = next.stage() == front.stage();
     Ok(MadeFront {
         front: Rc::new(alloc, next)?,
@@ -142,7 +152,9 @@ pub(crate) fn start_at(
     ensures made { AreMade model.now.model bounder.now.horizon bounder.now.look merging made.new }
 {
     match path.as_ref() {
-        Path::Chosen { before, choice, .. } => start_after(alloc, model, bounder, merging, before, *choice, made),
+        Path::Chosen { before, choice, .. } => start_after(
+            alloc, model, bounder, merging, before, *choice, made,
+        ),
         _ => {
             let found = front_at(alloc, model, bounder, merging, path, false, made)?;
             Ok(Start {
@@ -175,7 +187,11 @@ fn start_after(
 {
     let before = front_at(alloc, model, bounder, merging, path, true, made)?;
     let next = made_after(alloc, model, &before, choice)?;
-    let game = if next.settled { game_after(alloc, &before, choice)? } else { None };
+    let game = if next.settled {
+        game_after(alloc, &before, choice)?
+    } else {
+        None
+    };
     Ok(Start {
         front: next.front,
         game,
@@ -193,7 +209,9 @@ fn game_after(alloc: Global, made: &MadeFront, choice: Choice) -> Result<Option<
     match &made.game {
         None => Ok(None),
         Some(game) => {
-            let next = game.as_ref().with_choice(alloc, choice.agent, choice.class, choice.action)?;
+            let next = game
+                .as_ref()
+                .with_choice(alloc, choice.agent, choice.class, choice.action)?;
             Ok(Some(next))
         }
     }

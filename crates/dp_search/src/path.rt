@@ -121,7 +121,8 @@ pub(crate) fn have_same_steps(one: &Path, other: &Path) -> bool
                 before: others,
                 choice: theirs,
                 ..
-            } => is_same_choice(*choice, *theirs) && have_same_steps(before.as_ref(), others.as_ref()),
+            } => is_same_choice(*choice, *theirs)
+                && have_same_steps(before.as_ref(), others.as_ref()),
             _ => false,
         },
         Path::Merged { before, pair, .. } => match other {

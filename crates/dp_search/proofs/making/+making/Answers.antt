@@ -76,8 +76,8 @@ front_at-returns-in-Some-clause-is t c =
     let h = c.args.bounder.now.horizon in
     let look = c.args.bounder.now.look in
     let merging = c.args.merging in
-    let found = of_some _ c.in_ok-found.field-0 c.in-Some.found c.in-Some.is c.in_ok-found.ensures.found m h look merging
-    c.requires.made in
+    let found = of_some _ c.in_ok-found.field-0 c.in-Some.found c.in-Some.is c.in_ok-found.ensures.found m h look
+    merging c.requires.made in
     subst (λ (F : Front). IsMadeFront m h look merging F c.in-Some.found) (ap (path_front m) c.as_ref.ensures) found
 
 pub front_at-returns-in-Some-clause-made : goal.front_at-returns-in-Some-clause-made
