@@ -1,19 +1,17 @@
 -- What is known of the fronts that a search holds.
-use Rattle.std.proofs.Common.{◌≡◌, ℕ, zero, suc, ◌<◌, Bool, true, false, List, [], ◌∷◌, length, get_or, set}
-use Rattle.std.proofs.Common.{ℤ, Option, None, Some, refl, sym, ap, subst, ◌∙◌, arith}
+use Rattle.std.proofs.Common.{◌≡◌, ℕ, ◌<◌, Bool, true, false}
+use Rattle.std.proofs.Common.{ℤ, Option, None, Some, refl, sym, ap, subst, ◌∙◌}
 use Rattle.std.specs.Prelude.{◌&&◌, ◌||◌, ◌==◌, not, nat_lt, nat_le, is_none, is_some, IfSome, OnOk, Result, Ok, Err}
 use Rattle.dp_spec.specs.Arithmetic.{arithmetic}
 use Rattle.dp_spec.specs.Fitting.{front_bound}
-use Rattle.dp_spec.specs.Front.{AgentFront, Front}
+use Rattle.dp_spec.specs.Front.{Front}
 use Rattle.dp_spec.specs.Merge.{merged_front}
 use Rattle.dp_spec.specs.Pairs.{IsPair}
 use Rattle.dp_spec.specs.WellFormed.{IsFront}
 use Rattle.dp_spec.specs.Mode.{is_exact_mode}
 use Rattle.dp_spec.specs.Model.{Model}
-use Rattle.dp_spec.specs.Qualities.{HasNoEquivalent}
-use Rattle.dp_spec.specs.Steps.{IsUnassigned, chosen_front, front_after_choice, is_complete, with_choice}
+use Rattle.dp_spec.specs.Steps.{is_complete}
 use Rattle.dp_spec.specs.Wide.{is_wide, unassigned_count, widens}
-use Rattle.dp_laws.proofs.ChosenFronts.{chosen_equivalence}
 use Rattle.dp_cluster.specs.KeptFronts.{IsFrontOf, KeptFront}
 use Rattle.dp_search.specs.declared.held_front.HeldFront.{HeldFront}
 use Rattle.dp_search.specs.FrontPlanners.{IsPlannerFront}
@@ -27,7 +25,6 @@ use Rattle.dp_search.specs.MadeFronts.{IsMadeFront}
 use Rattle.dp_search.specs.Paths.{IsMergeAt, IsPath}
 use Rattle.dp_search.proofs.Expansions.{merged_is_child, merged_of_planner}
 use Rattle.dp_search.proofs.MergedBounds.{merged_bound_is}
-use Rattle.dp_search.proofs.UnfinishedFronts.{same_stage_chosen}
 
 -- what follows of an answer, if there is one
 pub if_some_weaker : {X : Type 0} (P Q : X → Type 0) → ((x : X) → P x → Q x) → (o : Option X) → IfSome o P

@@ -82,7 +82,9 @@ pub(crate) fn expanded<F: Fn(&[Place]) -> usize>(
     let path = &held.path;
     let start = start_at(alloc, model, bounder, options.merge, path, &mut room.made)?;
     let bound = copied(&held.bound);
-    expanded_at(alloc, model, bounder, options, rule, path, start, bound, room)
+    expanded_at(
+        alloc, model, bounder, options, rule, path, start, bound, room,
+    )
 }
 
 // The same at the front that a path leads to, with its bound.

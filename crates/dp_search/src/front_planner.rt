@@ -114,7 +114,13 @@ impl<'a, F: Fn(&[Place]) -> usize> Planner for FrontPlanner<'a, F> {
 
     fn root(&self, alloc: Global, room: &mut SearchRoom) -> Result<Child<HeldFront>, Memory> {
         let front = room.made.root()?;
-        let bound = own_bound(alloc, self.model, self.bounder, front.as_ref(), &mut room.look)?;
+        let bound = own_bound(
+            alloc,
+            self.model,
+            self.bounder,
+            front.as_ref(),
+            &mut room.look,
+        )?;
         let path = Rc::new(alloc, Path::Root)?;
         let held = HeldFront::of(self.model, path, front, bound);
         Ok(Child { front: held, bound })

@@ -1,4 +1,4 @@
-use Rattle.std.proofs.Common.{true, false, ap, sym, subst, ◌∙◌}
+use Rattle.std.proofs.Common.{ap, sym, subst, ◌∙◌}
 use Rattle.dp_spec.specs.Front.{Front}
 use Rattle.dp_cluster.specs.KeptFronts.{KeptFront}
 use Rattle.dp_game.specs.Games.{IsGameOf}

@@ -24,8 +24,7 @@ expanded_at-requires-clause-stage g c =
 pub expanded_at-requires-clause-narrow : goal.expanded_at-requires-clause-narrow
 expanded_at-requires-clause-narrow g c =
     let m = c.args.model.now.model in
-    let h = c.args.bounder.now.horizon in
-    (
+    let h = c.args.bounder.now.horizon in (
       c.requires.narrow.0,
       ap (is_wide m h c.requires.narrow.0) c.in_ok-start.ensures.is.front ∙ c.requires.narrow.1,
     )

@@ -3,7 +3,7 @@ use Rattle.std.specs.Int.{w128}
 use Rattle.std.proofs.lemmas.Int.{to_z-of_z}
 use Rattle.dp_spec.specs.Front.{Front}
 use Rattle.dp_spec.specs.Merge.{merged_front}
-use Rattle.dp_cluster.specs.KeptFronts.{IsFrontOf, KeptFront}
+use Rattle.dp_cluster.specs.KeptFronts.{KeptFront}
 use Rattle.dp_search.specs.Expansions.{mode_bound}
 use Rattle.dp_search.specs.FrontPlanning.{IsSearchFront}
 use Rattle.dp_search.specs.HeldFronts.{IsHeldChild}

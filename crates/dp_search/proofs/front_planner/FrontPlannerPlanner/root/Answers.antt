@@ -1,12 +1,11 @@
-use Rattle.std.proofs.Common.{◌≡◌, ℕ, sym, ap, subst, ◌∙◌, rules}
+use Rattle.std.proofs.Common.{ℕ, sym, ap, subst, ◌∙◌, rules}
 use Rattle.std.specs.Int.{w128}
 use Rattle.std.proofs.lemmas.Int.{to_z-of_z}
 use Rattle.dp_spec.specs.Arithmetic.{arithmetic}
 use Rattle.dp_spec.specs.Fitting.{front_bound}
-use Rattle.dp_spec.specs.Front.{Front}
 use Rattle.dp_spec.specs.Steps.{root_front}
 use Rattle.dp_model.specs.declared.horizon.Fit.{Fit}
-use Rattle.dp_cluster.specs.KeptFronts.{IsFrontOf, KeptFront}
+use Rattle.dp_cluster.specs.KeptFronts.{KeptFront}
 use Rattle.dp_search.specs.Expansions.{mode_bound}
 use Rattle.dp_search.specs.FrontPlanners.{IsPlannerFront}
 use Rattle.dp_search.specs.Paths.{IsPath, path_front}
