@@ -12,13 +12,14 @@ use Rattle.dp_spec.specs.Steps.{chosen_front, front_after_choice}
 use Rattle.dp_cluster.specs.KeptFronts.{IsFrontOf, KeptFront}
 use Rattle.dp_game.specs.Games.{IsGameOf, KeptGame}
 use Rattle.dp_game.proofs.Callers.{action_in_game, unassigned_in_game}
-use Rattle.dp_search.specs.declared.made_fronts.MadeFront.{MadeFront}
 use Rattle.dp_search.specs.declared.path.Choice.{Choice}
 use Rattle.dp_search.specs.declared.path.Pair.{Pair}
 use Rattle.dp_search.specs.FrontPlanners.{IsPlannerFront}
-use Rattle.dp_search.specs.MadeFronts.{IsFreeIn, IsMadeFront}
+use Rattle.dp_search.specs.declared.making.Start.{Start}
+use Rattle.dp_search.specs.MadeFronts.{IsFreeIn, IsStart}
 use Rattle.dp_search.specs.Paths.{IsChoiceAt, IsMergeAt}
 use Rattle.dp_search.proofs.Expansions.{merged_of_planner, next_of_planner}
+use Rattle.dp_search.proofs.HeldFronts.{if_some_weaker}
 use Rattle.dp_search.proofs.Paths.{no_pair_after}
 use Rattle.dp_search.proofs.UnfinishedFronts.{same_stage_chosen}
 
@@ -26,17 +27,9 @@ use Rattle.dp_search.proofs.UnfinishedFronts.{same_stage_chosen}
 abbrev pub after : Model → Front → Choice → Front
 after m F c = front_after_choice m F c.agent c.class c.action
 
-module _ (m : Model) (h look : ℕ) (merging : Bool) (F : Front) (made : MadeFront)
-    (is : IsMadeFront m h look merging F made) (c : Choice) (at : IsChoiceAt m h merging F c) where
-  abbrev k : KeptFront
-  k = made.front.value
-
-  at_front : IsChoiceAt m h merging k.front c
-  at_front = subst (λ (G : Front). IsChoiceAt m h merging G c) (sym is.front) at
-
-  -- ---- the game before
-
-  free_in : (g : KeptGame) → IsGameOf m h look F g → IsFreeIn g c
+-- a choice that may be made at a front may be made in its game
+module _ (m : Model) (h look : ℕ) (merging : Bool) (F : Front) (c : Choice) (at : IsChoiceAt m h merging F c) where
+  pub free_in : (g : KeptGame) → IsGameOf m h look F g → IsFreeIn g c
   free_in g game =
       let free = unassigned_in_game m h look F g game c.agent c.class at.unassigned in
       record {
@@ -46,41 +39,51 @@ module _ (m : Model) (h look : ℕ) (merging : Bool) (F : Front) (made : MadeFro
         action = action_in_game m h look F g game c.agent c.class c.action at.action;
       }
 
-  free_if : (o : Option (Rc KeptGame Global)) → IfSome o (λ g. IsGameOf m h look F g.value)
+  pub free_in_kept : (o : Option (Rc KeptGame Global)) → IfSome o (λ g. IsGameOf m h look F g.value)
       → IfSome o (λ g. IsFreeIn g.value c)
-  free_if None game = tt
-  free_if (Some g) game = free_in g.value game
+  free_in_kept None game = tt
+  free_in_kept (Some g) game = free_in g.value game
 
-  pub free_in_game : IfSome made.game (λ g. IsFreeIn g.value c)
-  free_in_game = free_if made.game is.game
+  pub free_in_own : (o : Option KeptGame) → IfSome o (IsGameOf m h look F) → IfSome o (λ g. IsFreeIn g c)
+  free_in_own None game = tt
+  free_in_own (Some g) game = free_in g game
 
-  -- ---- the front after
+-- the front after a choice at front F, which is kept as k
+module _ (m : Model) (h look : ℕ) (merging : Bool) (F : Front) (k : KeptFront) (planner : IsPlannerFront m h k)
+    (is : k.front ≡ F) (c : Choice) (at : IsChoiceAt m h merging F c) where
+  at_front : IsChoiceAt m h merging k.front c
+  at_front = subst (λ (G : Front). IsChoiceAt m h merging G c) (sym is) at
 
-  module _ (next : KeptFront) (front : next.front ≡ after m k.front c)
-      (planner : IsPlannerFront m k.horizon next) where
-    pub next_planner : IsPlannerFront m h next
-    next_planner =
-        next_of_planner m h look k is.of_planner at_front.early c.agent c.class c.action next front planner
+  -- in the horizon of the front
+  pub own_planner : IsPlannerFront m k.horizon k
+  own_planner = subst (λ (n : ℕ). IsPlannerFront m n k) (sym planner.horizon) planner
 
-    pub next_front : next.front ≡ after m F c
-    next_front = front ∙ ap (λ (G : Front). after m G c) is.front
+  pub own_choice : (merges : Bool) × IsChoiceAt m k.horizon merges k.front c
+  own_choice = (merging, subst (λ (n : ℕ). IsChoiceAt m n merging k.front c) (sym planner.horizon) at_front)
 
-  -- at the same stage
-  module _ (G : Front) (front : G ≡ after m F c) (same : G ≡ chosen_front k.front c.agent c.class c.action) where
-    pub chosen_next : chosen_front F c.agent c.class c.action ≡ after m F c
-    chosen_next =
-        ap (λ (G : Front). chosen_front G c.agent c.class c.action) (sym is.front) ∙ sym same ∙ front
+  -- the start after it
+  module _ (s : Start) (own : IsPlannerFront m k.horizon s.front.value)
+      (front : s.front.value.front ≡ after m k.front c)
+      (same : s.settled ≡ true → s.front.value.front ≡ chosen_front k.front c.agent c.class c.action) where
+    next_front : s.front.value.front ≡ after m F c
+    next_front = front ∙ ap (λ (G : Front). after m G c) is
 
-    pub no_pair_next : merging ≡ true → is_exact_mode m h ≡ true → HasNoEquivalent m (after m F c)
-    no_pair_next on exact =
-        subst (HasNoEquivalent m) chosen_next
-        (no_pair_after m F c.agent c.class c.action (at.settled on exact))
+    chosen_next : s.settled ≡ true → chosen_front F c.agent c.class c.action ≡ after m F c
+    chosen_next on =
+        ap (λ (G : Front). chosen_front G c.agent c.class c.action) (sym is) ∙ sym (same on) ∙ next_front
 
-    -- the game follows from the one before
-    pub game_next : (o : Option KeptGame)
-        → IfSome o (IsGameOf m h look (chosen_front F c.agent c.class c.action))
-        → IfSome o (IsGameOf m h look (after m F c))
-    game_next o game = subst (λ (G : Front). IfSome o (IsGameOf m h look G)) chosen_next game
+    -- its game follows from the one before at the same stage, where nothing can be merged that could not before
+    pub start_after_is : IfSome s.game (λ g. (s.settled ≡ true)
+        × IsGameOf m h look (chosen_front F c.agent c.class c.action) g) → IsStart m h look merging (after m F c) s
+    start_after_is game = record {
+      of_planner =
+          next_of_planner m h look k planner at_front.early c.agent c.class c.action s.front.value front own;
+      front = next_front;
+      game = if_some_weaker _ (IsGameOf m h look (after m F c))
+          (λ g known. subst (λ (G : Front). IsGameOf m h look G g) (chosen_next known.0) known.1) s.game game;
+      settled = λ on merges exact. subst (HasNoEquivalent m) (chosen_next on)
+          (no_pair_after m F c.agent c.class c.action (at.settled merges exact));
+    }
 
 -- after a choice at the same stage nothing else changes
 pub same_next : (m : Model) (k next : KeptFront) (c : Choice) → next.front ≡ after m k.front c
@@ -91,10 +94,10 @@ same_next m k next c front stage =
 
 -- ---- after a merge
 
-module _ (m : Model) (h look : ℕ) (merging : Bool) (F : Front) (made : MadeFront)
-    (is : IsMadeFront m h look merging F made) (q : Pair) (at : IsMergeAt m h F q) where
+module _ (m : Model) (h look : ℕ) (merging : Bool) (F : Front) (start : Start)
+    (is : IsStart m h look merging F start) (q : Pair) (at : IsMergeAt m h F q) where
   abbrev before : KeptFront
-  before = made.front.value
+  before = start.front.value
 
   merge_at : IsMergeAt m h before.front q
   merge_at = subst (λ (G : Front). IsMergeAt m h G q) (sym is.front) at

@@ -80,7 +80,7 @@ pub(crate) fn expanded<F: Fn(&[Place]) -> usize>(
         bounder.now.look options.merge room.new) }
 {
     let path = &held.path;
-    let start = start_at(alloc, model, bounder, options.merge, path, &mut room.made)?;
+    let start = start_at(alloc, model, bounder, options.merge, path, room)?;
     let bound = copied(&held.bound);
     expanded_at(
         alloc, model, bounder, options, rule, path, start, bound, room,
@@ -320,8 +320,8 @@ fn branched<F: Fn(&[Place]) -> usize>(
     Ok(expanded)
 }
 
-// The game of a front: the one that is given, or one that is made.
-fn own_game(
+/// The game of a front: the one that is given, or one that is made.
+pub(crate) fn own_game(
     alloc: Global,
     model: &Model,
     bounder: &Bounder,

@@ -158,7 +158,7 @@ impl<'a, F: Fn(&[Place]) -> usize> Planner for FrontPlanner<'a, F> {
             self.bounder,
             merging,
             &front.path,
-            &mut room.made,
+            room,
         )?;
         let found = completed(
             alloc,

@@ -36,12 +36,6 @@ expanded_at-requires-clause-bound g c =
     ∙ ap (mode_bound c.args.model.now.model c.args.bounder.now.horizon c.args.options.look)
     (sym c.in_ok-start.ensures.is.front)
 
-pub expanded_at-requires-clause-room : goal.expanded_at-requires-clause-room
-expanded_at-requires-clause-room g c = record {
-  look_room = c.requires.room.look_room;
-  made = c.start_at.ensures.made;
-}
-
 pub returns-clause-is : goal.returns-clause-is
 returns-clause-is g c =
     let m = c.args.model.now.model in
