@@ -5,7 +5,6 @@ use Rattle.std.specs.declared.rc.Rc.{Rc}
 use Rattle.std.specs.declared.alloc.Global.{Global}
 use Rattle.dp_spec.specs.Front.{Front}
 use Rattle.dp_spec.specs.Merge.{merged_front}
-use Rattle.dp_spec.specs.Mode.{is_exact_mode}
 use Rattle.dp_spec.specs.Model.{Model}
 use Rattle.dp_spec.specs.Qualities.{HasNoEquivalent}
 use Rattle.dp_spec.specs.Steps.{chosen_front, front_after_choice}

@@ -152,14 +152,7 @@ impl<'a, F: Fn(&[Place]) -> usize> Planner for FrontPlanner<'a, F> {
         front: &HeldFront,
     ) -> Result<Option<Shared>, Memory> {
         let merging = self.options.merge;
-        let start = start_at(
-            alloc,
-            self.model,
-            self.bounder,
-            merging,
-            &front.path,
-            room,
-        )?;
+        let start = start_at(alloc, self.model, self.bounder, merging, &front.path, room)?;
         let found = completed(
             alloc,
             self.model,

@@ -181,7 +181,12 @@ fn kept_with_game(
 }
 
 // The front after a choice at one that was made.
-fn after_made(alloc: Global, model: &Model, made: &MadeFront, choice: Choice) -> Result<Start, Memory>
+fn after_made(
+    alloc: Global,
+    model: &Model,
+    made: &MadeFront,
+    choice: Choice,
+) -> Result<Start, Memory>
     requires of_planner { IsPlannerFront model.now.model made.now.front.value.horizon made.now.front.value }
     requires choice { (merging : Bool) × IsChoiceAt model.now.model made.now.front.value.horizon merging
         made.now.front.value.front choice }
@@ -217,7 +222,11 @@ fn after_start(alloc: Global, model: &Model, start: Start, choice: Choice) -> Re
 {
     let Start { front, game, .. } = start;
     let next = front_after(alloc, model, front.as_ref(), choice)?;
-    let game = if next.same { chosen_in(game, choice) } else { None };
+    let game = if next.same {
+        chosen_in(game, choice)
+    } else {
+        None
+    };
     Ok(Start {
         front: next.front,
         game,

@@ -1,6 +1,5 @@
-use Rattle.std.proofs.Common.{◌≡◌, ◌∙◌, ap, sym, subst, rules}
+use Rattle.std.proofs.Common.{◌≡◌, ◌∙◌, ap, rules}
 use Rattle.dp_cluster.specs.KeptFronts.{KeptFront}
-use Rattle.dp_search.specs.FrontPlanners.{IsPlannerFront}
 use Rattle.dp_search.proofs.MadeSteps.{same_next}
 use Rattle.dp_search.proofs.making.front_after.Goals as goal
 
