@@ -265,7 +265,8 @@ fn merged(
     })
 }
 
-// The branch on the place that the rule answers, with the fronts after it. The front is kept with its game.
+// The branch on the place that the rule answers, with the fronts after it. The first front of a stage is kept with
+// its game: the others of the stage follow from it.
 fn branched<F: Fn(&[Place]) -> usize>(
     alloc: Global,
     model: &Model,
@@ -298,7 +299,11 @@ fn branched<F: Fn(&[Place]) -> usize>(
     ensures room { OnOk result (IsSearchRoom bounder.now.is_exact model.now.model bounder.now.horizon
         bounder.now.look options.merge room.new) }
 {
-    let Start { front, game, .. } = start;
+    let Start {
+        front,
+        game,
+        settled,
+    } = start;
     let mut game = own_game(alloc, model, bounder, front.as_ref(), game, &mut room.look)?;
     let expanded = branched_at(
         alloc,
@@ -311,10 +316,13 @@ fn branched<F: Fn(&[Place]) -> usize>(
         &mut game,
         &mut room.look,
     )?;
+    if settled {
+        return Ok(expanded);
+    }
     let made = MadeFront {
         front,
         game: Some(Rc::new(alloc, game)?),
-        settled: false,
+        settled,
     };
     room.made.keep(model, path, made)?;
     Ok(expanded)
