@@ -16,8 +16,8 @@ use lru::LruCache;
 use std::alloc::Global;
 use std::rc::Rc;
 
-// So many numbers are kept at most, of 16 bytes each, where fronts share nothing.
-const MOST_NUMBERS: u64 = 1 << 25;
+// So many numbers of 16 bytes are kept at most, if there is more than one front.
+const MOST_NUMBERS: u64 = 1 << 24;
 
 // What an entry takes besides the numbers of its front and its game, in numbers.
 const ENTRY: u64 = 32;
@@ -151,7 +151,7 @@ impl MadeFronts {
         ensures { (m : PlainModel) (h look : ℕ) (merging : Bool) →
             AreMade m h look merging self.old → AreMade m h look merging self.new }
     {
-        while self.numbers > MOST_NUMBERS {
+        while self.numbers > MOST_NUMBERS && self.entries.len() > 1 {
             match self.entries.pop_lru() {
                 None => return,
                 Some((_, old)) => {
