@@ -67,9 +67,10 @@ module _ (e : Bool) (m : Model) (is : IsModel m) (h t : ℕ) (u : ℤ) (fit : Is
     pub base_weights : AreWeights e m t (weights_of us)
     base_weights = weights_of_times by.0 us ws by.2 e m t one_each are
 
-    entry_is : (look a : ℕ) → action_look_ahead_in A m (h - t - 1) (weights_of ws) a look
+    -- a factor times the look-ahead of a joint action from the base is that from the weights
+    pub times_action : (look a : ℕ) → action_look_ahead_in A m (h - t - 1) (weights_of ws) a look
         ≡ factor *ℤ action_look_ahead_in A m (h - t - 1) (weights_of us) a look
-    entry_is look a =
+    times_action look a =
         action_of_times by.0 us ws by.2 A C m (suc (h - t - 1)) looking
         (λ o. ap unsigned_abs (sym by.1 ∙ outward (sym (arithmetic_is_exact e m.scales) ∙ o)))
         (λ o. stay (sym (arithmetic_is_exact e m.scales) ∙ o)) (h - t - 1) look a
@@ -84,7 +85,7 @@ module _ (e : Bool) (m : Model) (is : IsModel m) (h t : ℕ) (u : ℤ) (fit : Is
         ∙ mapped_made (λ (v : ℤ). factor *ℤ v)
         (λ a. action_look_ahead_in A m (h - t - 1) (weights_of us) a look)
         (λ a. action_look_ahead_in A m (h - t - 1) (weights_of ws) a look) (joint_actions m) (pos 0)
-        (λ a p. sym (entry_is look a))
+        (λ a p. sym (times_action look a))
 
     -- and fits
     pub times_fit : (look : ℕ) (row : List ℤ) → row ≡ row_of A m (h - t) look us → (k : ℕ) → k < length row
@@ -97,6 +98,12 @@ module _ (e : Bool) (m : Model) (is : IsModel m) (h t : ℕ) (u : ℤ) (fit : Is
         let at : get_or row k (pos 0) ≡ Q k =
         ap (λ l. get_or l k (pos 0)) made ∙ get_or-map-range_with_len Q 0 n k k (pos 0) inside (omega arith) in
         let whole : factor *ℤ get_or row k (pos 0) ≡ action_look_ahead_in A m (h - t - 1) (weights_of ws) k look =
-        ap (λ (x : ℤ). factor *ℤ x) at ∙ sym (entry_is look k) in
+        ap (λ (x : ℤ). factor *ℤ x) at ∙ sym (times_action look k) in
         subst (λ (x : ℤ). unsigned_abs x < 2 ^ 127) (sym whole)
         (action_fits A C m (h - t - 1) ws looking k look inside)
+
+    pub times_action_fits : (look a : ℕ) → a < joint_actions m
+        → unsigned_abs (factor *ℤ action_look_ahead_in A m (h - t - 1) (weights_of us) a look) < 2 ^ 127
+    times_action_fits look a inside =
+        subst (λ (x : ℤ). unsigned_abs x < 2 ^ 127) (times_action look a)
+        (action_fits A C m (h - t - 1) ws looking a look inside)

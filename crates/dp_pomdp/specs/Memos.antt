@@ -1,5 +1,5 @@
 -- What was looked ahead before, kept by the steps that are left, the look and the weights. (Own.)
-use Rattle.std.specs.Prelude.{ℕ, ◌-◌, ◌≡◌, All, ℤ, List, [], ◌∷◌, map}
+use Rattle.std.specs.Prelude.{ℕ, ◌-◌, ◌/◌, ◌%◌, ◌≡◌, All, ℤ, List, [], ◌∷◌, map}
 use Rattle.std.specs.List.{range_with_len}
 use Rattle.dp_spec.specs.declared.span.Span.{Span}
 use Rattle.dp_spec.specs.Arithmetic.{Arithmetic}
@@ -32,3 +32,8 @@ look_of A m r k ws = look_ahead_in A m r (weights_of ws) k ∷ []
 abbrev pub row_of : Arithmetic → Model → ℕ → ℕ → List Span → List ℤ
 row_of A m r k ws =
     map (λ a. action_look_ahead_in A m (r - 1) (weights_of ws) a k) (range_with_len 0 (joint_actions m))
+
+-- the look-ahead of one joint action from weights, where r steps are left with it: the number n stands for the look
+-- n / 256 and the joint action n % 256
+abbrev pub action_of : Arithmetic → Model → ℕ → ℕ → List Span → List ℤ
+action_of A m r n ws = action_look_ahead_in A m (r - 1) (weights_of ws) (n % 256) (n / 256) ∷ []

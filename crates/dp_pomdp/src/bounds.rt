@@ -13,9 +13,9 @@ ghost use Rattle.dp_pomdp.specs.Memos.{AreKept, look_of};
 ghost use Rattle.dp_pomdp.specs.Rooms.{IsRoomFor};
 
 use crate::memo::Memo;
-use crate::recursion::{action_look_ahead, look_ahead};
+use crate::recursion::{action_look_ahead, look_ahead, times};
 use crate::reduce::base_of;
-use crate::rows::{kept_row, push_times};
+use crate::rows::{kept_action, kept_row, push_times};
 use dp_base::Memory;
 use dp_mdp::MdpTable;
 use dp_model::{Fit, Model};
@@ -40,6 +40,7 @@ pub struct LookRoom {
     row: Vec<i128>,
     looks: Memo,
     rows: Memo,
+    actions: Memo,
 }
 
 impl std::marker::Model for LookRoom {
@@ -52,6 +53,7 @@ impl std::marker::Model for LookRoom {
       buffers = length r.weights.items;
       looks = r.looks;
       rows = r.rows;
+      actions = r.actions;
     } };
 }
 
@@ -72,6 +74,7 @@ impl LookRoom {
             row: Vec::new(alloc),
             looks: Memo::new(alloc, MOST_NUMBERS / (2 * states + 1)),
             rows: Memo::new(alloc, MOST_NUMBERS / (2 * states + actions + 1)),
+            actions: Memo::new(alloc, MOST_NUMBERS / (2 * states + 1)),
         })
     }
 
@@ -86,6 +89,7 @@ impl LookRoom {
         ensures same { OnErr result (self.new ≡ self.old) }
         ensures looks { self.new.looks ≡ self.old.looks }
         ensures rows { self.new.rows ≡ self.old.rows }
+        ensures actions { self.new.actions ≡ self.old.actions }
     {
         let size = look as usize * model.states() as usize;
         if self.weights.len() < size {
@@ -173,6 +177,48 @@ impl LookRoom {
         )
     }
 
+    /// What `action_bound` gives. What was computed before, of these weights or of a multiple, is not computed
+    /// again. The only error is want of memory.
+    pub fn kept_action_bound(
+        &mut self,
+        model: &Model,
+        fit: Fit,
+        table: &MdpTable,
+        weights: &[Span],
+        t: u32,
+        a: u32,
+        look: u32,
+    ) -> Result<i128, Memory>
+        requires fit { IsTrueFit model.now.model fit.horizon fit.exact fit.unit }
+        requires table { IsTable (arithmetic fit.exact model.now.model.scales) model.now.model fit.horizon table.now }
+        requires time { t < fit.horizon }
+        requires action { a < joint_actions model.now.model }
+        requires some_look { 0 < look }
+        requires look { look ≤ 16 }
+        requires room { IsRoomFor fit.exact model.now.model look self.old }
+        requires one_each { length weights.now ≡ model.now.model.states }
+        requires weights { AreWeights fit.exact model.now.model t (weights_of weights.now) }
+        ensures is { IfOk result (λ x. x ≡ action_look_ahead_in (arithmetic fit.exact model.now.model.scales)
+            model.now.model (fit.horizon - t - 1) (weights_of weights.now) a look) }
+        ensures room { IsRoomFor fit.exact model.now.model look self.new }
+    {
+        model.invariant();
+        let factor = base_of(fit.exact, weights, &mut self.base)?;
+        let value = kept_action(
+            model,
+            fit,
+            table,
+            &self.base,
+            t,
+            a,
+            look,
+            &mut self.weights,
+            &mut self.looks,
+            &mut self.actions,
+        );
+        Ok(times(factor, value))
+    }
+
     /// Adds to a list the row of the weights: for each joint action what `action_bound` gives, with the
     /// same look. A row that was computed before, of these weights or of a multiple, is not computed
     /// again. The only error is want of memory.
@@ -252,8 +298,8 @@ fn look_in_mode(
     }
 }
 
-// The same of a joint action.
-fn action_in_mode(
+/// The same of a joint action.
+pub(crate) fn action_in_mode(
     model: &Model,
     fit: Fit,
     table: &MdpTable,

@@ -171,9 +171,9 @@ pub fn action_look_ahead<A: Arith>(
     total
 }
 
-// A product of 127 bits with a sign.
+/// A product of 127 bits with a sign.
 #[inline]
-fn times(factor: i128, value: i128) -> i128
+pub(crate) fn times(factor: i128, value: i128) -> i128
     requires { unsigned_abs (factor *ℤ value) < 2 ^ 127 }
     ensures { result ≡ factor *ℤ value }
 {
