@@ -71,6 +71,7 @@ pub parts_are : (m : Model) (sizes all : List ℕ) (count n : ℕ) → IsModel m
 unfolding joint_actions
 parts_are m sizes all count n is same counted rows = record {
   agents = rw same is.sizes.agents_limit;
+  some = rw same is.sizes.some_action;
   few = rw same is.sizes.joint_actions_limit;
   counted = rw same counted;
   parts = rw same rows;

@@ -45,7 +45,7 @@ both_le : (a b : ℤ) → a ≤ℤ b → b ≤ℤ a → a ≡ b
 both_le a b le ge = omega (arith, ints)
 
 -- over a list that holds one number alone
-greatest_of_one : (f : ℕ → ℤ) (c : ℕ) (xs : List ℕ) → IsIn c xs → ((x : ℕ) → IsIn x xs → x ≡ c)
+pub greatest_of_one : (f : ℕ → ℤ) (c : ℕ) (xs : List ℕ) → IsIn c xs → ((x : ℕ) → IsIn x xs → x ≡ c)
     → greatest f xs ≡ f c
 greatest_of_one f c xs here only =
     both_le _ _ (greatest_at_most f xs (f c) (some_in c xs here) (λ x i. zle_of _ _ (ap f (only x i))))

@@ -6,7 +6,7 @@ use Rattle.std.proofs.lemmas.List.{get_or_past}
 use Rattle.dp_spec.specs.Front.{AgentFront, Front}
 use Rattle.dp_spec.specs.Model.{Model}
 use Rattle.dp_spec.specs.Steps.{HasAction, IsUnassigned}
-use Rattle.dp_spec.specs.WellFormed.{AreAgentFronts}
+use Rattle.dp_spec.specs.WellFormed.{AreAgentFronts, IsFront}
 use Rattle.dp_spec.specs.WellFormed.AreAgentFronts.{and_agent, no_agents}
 use Rattle.dp_game.specs.Games.{IsGameOf, KeptGame, own_choice}
 use Rattle.dp_game.specs.Kept.{IsOfSomeFront}
@@ -63,6 +63,10 @@ own_below no_agents i c a has = absurd has
 own_below (and_agent {d = d} k ks) zero c a has = k.chosen_below c a (inside d.chosen c a has) has
 own_below (and_agent k ks) (suc i) c a has = own_below ks i c a has
 
+pub front_choice_below : (m : Model) (h : ℕ) (F : Front) → IsFront m h F → (i c a : ℕ) → i < length (choices_of F.agents)
+    → get_or (get_or (choices_of F.agents) i []) c None ≡ Some a → a < get_or m.actions i 0
+front_choice_below m h F front i c a lt e = own_below front.agents i c a (assigned_of i c a F.agents lt e)
+
 pub choice_below : (g : KeptGame) (i c a : ℕ) → IsOfSomeFront g → i < length g.choices
     → own_choice g i c ≡ Some a → a < get_or g.actions i 0
 choice_below g i c a o lt e =
@@ -71,4 +75,4 @@ choice_below g i c a o lt e =
     let within : i < length (choices_of F.agents) = subst (λ oss. i < length oss) is.choices lt in
     let at = subst (λ oss. get_or (get_or oss i []) c None ≡ Some a) is.choices e in
     subst (λ (l : List ℕ). a < get_or l i 0) (sym is.actions)
-    (own_below is.front.agents i c a (assigned_of i c a F.agents within at))
+    (front_choice_below o.0 o.1 F is.front i c a within at)

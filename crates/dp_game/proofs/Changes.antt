@@ -1,6 +1,6 @@
 -- What is kept for joint classes where the choice for a class changes.
-use Rattle.std.proofs.Common.{◌≡◌, ◌≢◌, inl, inr, ℕ, suc, ◌+◌, ◌*◌, ◌<◌, ◌≤◌, ℤ, pos, List, [], length, get_or, set}
-use Rattle.std.proofs.Common.{drop, take, Option, None, sym, ap, ◌∙◌, subst, arith}
+use Rattle.std.proofs.Common.{◌≡◌, ◌≢◌, inl, inr, ℕ, zero, suc, ◌+◌, ◌*◌, ◌<◌, ◌≤◌, ℤ, pos, List, [], ◌∷◌, length, get_or}
+use Rattle.std.proofs.Common.{set, drop, take, Option, None, sym, ap, ◌∙◌, subst, arith}
 use Rattle.std.proofs.Math.Nat.{mul-le-mul, suc-mul}
 use Rattle.std.proofs.lemmas.Bool.{cases_eq, cases_lt}
 use Rattle.std.proofs.lemmas.List.{ext_get_or, get_or-drop, get_or-map, get_or-set_other, get_or-set_same}
@@ -11,8 +11,8 @@ use Rattle.dp_spec.specs.Merge.{placed_number, without}
 use Rattle.dp_spec.proofs.JointNumberLaws.{length-parts_of, row_below, same_parts}
 use Rattle.dp_laws.proofs.JointPlaces.{placed_injective}
 use Rattle.dp_game.specs.Games.{KeptGame, allowed_actions, best_entry, choices_for, choices_in, entry, own_counts}
-use Rattle.dp_game.specs.Games.{with_own_choice}
-use Rattle.dp_game.specs.Kept.{IsKeptAt, greatest_in}
+use Rattle.dp_game.specs.Games.{own_choice, with_own_choice}
+use Rattle.dp_game.specs.Extended.{AreNumbersOf, choice_counts, choice_number, extended_number}
 use Rattle.dp_game.proofs.OwnChoices.{as_many_own, choices_for_at, counts_kept, length-choices_for}
 use Rattle.dp_game.proofs.ClassPlaces.{others, part_there, place, place_in, placed}
 
@@ -31,18 +31,40 @@ row_is oss wanted C room each =
     let lt' : j < n = omega arith in
     get_or-take n (drop (C * n) wanted) j None lt' ∙ get_or-drop (C * n) wanted j None ∙ each j lt')
 
--- the first x joint classes that hold class c of agent i have choice o there, and the others are as before
-pub record IsChanging (g : KeptGame) (i c : ℕ) (o : Option ℕ) (x : ℕ) (wanted : List (Option ℕ))
-    (best : List ℤ) :
-    Type 0 where
-  pub as_long : length wanted ≡ product (own_counts g.choices) * length g.choices
-  pub one_each : length best ≡ product (own_counts g.choices)
-  pub done : (y : ℕ) → y < x → y < product (without i (own_counts g.choices))
-      → IsKeptAt (with_own_choice g i c o) wanted best (placed_number i (own_counts g.choices) c y)
+-- the extended joint action of joint class C
+abbrev pub number_in : KeptGame → ℕ → ℕ
+number_in g C = extended_number g.actions (choices_in g.choices C)
+
+-- of the joint classes that hold class c of agent i the first x have the numbers with choice o for it, and the others
+-- have those before it
+pub record IsChanging (g : KeptGame) (i c : ℕ) (o : Option ℕ) (x : ℕ) (numbers : List ℕ) : Type 0 where
+  pub one_each : length numbers ≡ product (own_counts g.choices)
+  pub done : (y : ℕ) → y < x → y < product (without i (own_counts g.choices)) →
+      get_or numbers (placed_number i (own_counts g.choices) c y) 0
+      ≡ number_in (with_own_choice g i c o) (placed_number i (own_counts g.choices) c y)
   pub rest : (b y : ℕ) → b < get_or (own_counts g.choices) i 0
-      → y < product (without i (own_counts g.choices)) →
-      (b ≡ c → x ≤ y)
-      → IsKeptAt g wanted best (placed_number i (own_counts g.choices) b y)
+      → y < product (without i (own_counts g.choices)) → (b ≡ c → x ≤ y)
+      → get_or numbers (placed_number i (own_counts g.choices) b y) 0
+      ≡ number_in g (placed_number i (own_counts g.choices) b y)
+
+-- one choice more or less in an extended joint action
+pub number_changed : (bs : List ℕ) (os : List (Option ℕ)) (i : ℕ) (o : Option ℕ) → i < length os
+    → length bs ≡ length os →
+    extended_number bs (set os i o) + choice_number (get_or os i None) * product (drop (suc i) (choice_counts bs))
+    ≡ extended_number bs os + choice_number o * product (drop (suc i) (choice_counts bs))
+number_changed bs [] i o lt e = absurd (omega arith)
+number_changed [] (p ∷ os) i o lt e = absurd (omega arith)
+number_changed (b ∷ bs) (p ∷ os) zero o lt e =
+    swapped (choice_number o * product (choice_counts bs)) (choice_number p * product (choice_counts bs))
+    (extended_number bs os)
+  where
+    swapped : (x y n : ℕ) → x + n + y ≡ y + n + x
+    swapped x y n = omega arith
+number_changed (b ∷ bs) (p ∷ os) (suc i) o lt e =
+    moved (choice_number p * product (choice_counts bs)) _ _ _ _ (number_changed bs os i o (omega arith) (omega arith))
+  where
+    moved : (n x y z w : ℕ) → x + y ≡ z + w → n + x + y ≡ n + z + w
+    moved n x y z w e = omega arith
 
 module _ (g : KeptGame) (i c : ℕ) (o : Option ℕ) (hi : i < length g.choices)
     (hc : c < length (get_or g.choices i [])) where
@@ -131,69 +153,75 @@ module _ (g : KeptGame) (i c : ℕ) (o : Option ℕ) (hi : i < length g.choices)
   pub best_elsewhere : (C : ℕ) → get_or (parts_of counts C) i 0 ≢ c → best_entry changed C ≡ best_entry g C
   best_elsewhere C ne = ap (λ os. greatest (entry g C) (allowed_actions g.actions os)) (elsewhere C ne)
 
-  -- ---- what is kept, with as many agents as before
+  -- ---- the numbers, joint class by joint class
 
-  kept_changed : (wanted : List (Option ℕ)) (best : List ℤ) (C : ℕ)
-      → ((j : ℕ) → j < n → get_or wanted (C * n + j) None ≡ get_or (choices_in changed.choices C) j None)
-      → get_or best C (pos 0) ≡ best_entry changed C → IsKeptAt changed wanted best C
-  kept_changed wanted best C each is = record {
-    choices = λ j lt. ap (λ (k : ℕ). get_or wanted (C * k + j) None) as_many ∙ each j
-        (let e = as_many in omega arith);
-    best = is;
-  }
+  number_elsewhere : (C : ℕ) → get_or (parts_of counts C) i 0 ≢ c → number_in changed C ≡ number_in g C
+  number_elsewhere C ne = ap (extended_number g.actions) (elsewhere C ne)
 
-  changed_choice : (wanted : List (Option ℕ)) (best : List ℤ) (C : ℕ) → IsKeptAt changed wanted best C
-      → (j : ℕ) → j
-      < n
-      → get_or wanted (C * n + j) None ≡ get_or (choices_in changed.choices C) j None
-  changed_choice wanted best C kept j lt =
-      ap (λ (k : ℕ). get_or wanted (C * k + j) None) (sym as_many)
-      ∙ kept.choices j (let e = as_many in omega arith)
+  -- where the class is, its choice alone is another
+  choices_there : (C : ℕ) → get_or (parts_of counts C) i 0 ≡ c → choices_in changed.choices C
+      ≡ set (choices_in g.choices C) i o
+  choices_there C e =
+      let old_long = length-choices_for g.choices (parts_of counts C) (parts_long C) in
+      let new_long =
+      ap (λ (ns : List ℕ). length (choices_for changed.choices (parts_of ns C))) same_counts
+      ∙ length-choices_for changed.choices (parts_of counts C) (parts_long C ∙ sym as_many) ∙ as_many in
+      let set_long = length-set (choices_in g.choices C) i o in
+      ext_get_or None _ _ (new_long ∙ sym (set_long ∙ old_long)) (λ j lt. elim (cases_eq j i) [
+        | inl same ↦
+            ap (λ (z : ℕ). get_or (choices_in changed.choices C) z None) same ∙ there C e
+            ∙ sym (get_or-set_same (choices_in g.choices C) i o None (omega arith))
+            ∙ ap (λ (z : ℕ). get_or (set (choices_in g.choices C) i o) z None) (sym same)
+        | inr other ↦
+            of_others C j (omega arith) other
+            ∙ sym (get_or-set_other (choices_in g.choices C) i j o None other)
+      ])
 
-  -- ---- joint class by joint class
+  module _ (agents : length g.actions ≡ length g.choices) (W : ℕ)
+      (width : W ≡ product (drop (suc i) (choice_counts g.actions))) where
+    pub number_there : (C : ℕ) → get_or (parts_of counts C) i 0 ≡ c
+        → number_in changed C + choice_number (own_choice g i c) * W ≡ number_in g C + choice_number o * W
+    number_there C e =
+        let was : own_choice g i c ≡ get_or (choices_in g.choices C) i None =
+        sym (old_choice C i hi ∙ ap (λ (z : ℕ). get_or (get_or g.choices i []) z None) e) in
+        let long = length-choices_for g.choices (parts_of counts C) (parts_long C) in
+        (λ j. extended_number g.actions (choices_there C e j) + choice_number (was j) * width j)
+        ∙ number_changed g.actions (choices_in g.choices C) i o (omega arith) (omega arith)
+        ∙ (λ j. number_in g C + choice_number o * sym width j)
 
-  pub changing_start : (wanted : List (Option ℕ)) (best : List ℤ) → length wanted ≡ product counts * n
-      → length best
-      ≡ product counts
-      → ((C : ℕ) → C < product counts → IsKeptAt g wanted best C) → IsChanging g i c o 0 wanted best
-  changing_start wanted best long one each = record {
-    as_long = long;
-    one_each = one;
+  pub changing_start : (numbers : List ℕ) → AreNumbersOf g.actions g.choices numbers → IsChanging g i c o 0 numbers
+  changing_start numbers are = record {
+    one_each = are.one_each;
     done = λ y lt. absurd (omega arith);
-    rest = λ b y hb hy le. each (place i counts hi' b y) (place_in i counts hi' b y hb hy);
+    rest = λ b y hb hy le. are.at (place i counts hi' b y) (place_in i counts hi' b y hb hy);
   }
 
-  pub changing_end : (x : ℕ) (wanted : List (Option ℕ)) (best : List ℤ) → others i counts hi' ≤ x
-      → IsChanging g i c
-      o x wanted best
-      → (C : ℕ) → C < product counts → IsKeptAt changed wanted best C
-  changing_end x wanted best le u C lt =
-      let p = placed i counts hi' C lt in
-      elim (cases_eq p.class c) [
-        | inl e ↦
-            let lt' = p.other_below in
-            let kept = u.done p.other (omega arith) lt' in
-            subst (λ (D : ℕ). IsKeptAt changed wanted best D)
-            (ap (λ (b : ℕ). place i counts hi' b p.other) (sym e) ∙ sym p.is) kept
-        | inr ne ↦
-            let kept = u.rest p.class p.other p.class_below p.other_below (λ e. absurd (ne e)) in
-            let here = subst (λ (D : ℕ). IsKeptAt g wanted best D) (sym p.is) kept in
-            let other : get_or (parts_of counts C) i 0 ≢ c = λ e. ne (sym p.part ∙ e) in
-            kept_changed wanted best C (λ j hj. here.choices j hj ∙ sym (elsewhere_at C other j hj))
-            (here.best ∙ sym (best_elsewhere C other))
-      ]
+  pub changing_end : (x : ℕ) (numbers : List ℕ) → others i counts hi' ≤ x → IsChanging g i c o x numbers
+      → AreNumbersOf g.actions changed.choices numbers
+  changing_end x numbers le u = record {
+    one_each = u.one_each ∙ ap product (sym same_counts);
+    at = λ C lt. all C (subst (λ (l : List ℕ). C < product l) same_counts lt);
+  }
+    where
+      all : (C : ℕ) → C < product counts → get_or numbers C 0 ≡ number_in changed C
+      all C lt =
+          let p = placed i counts hi' C lt in
+          elim (cases_eq p.class c) [
+            | inl e ↦
+                let lt' = p.other_below in
+                subst (λ (D : ℕ). get_or numbers D 0 ≡ number_in changed D)
+                (ap (λ (b : ℕ). place i counts hi' b p.other) (sym e) ∙ sym p.is)
+                (u.done p.other (omega arith) lt')
+            | inr ne ↦
+                let kept = u.rest p.class p.other p.class_below p.other_below (λ e. absurd (ne e)) in
+                subst (λ (D : ℕ). get_or numbers D 0 ≡ number_in g D) (sym p.is) kept
+                ∙ sym (number_elsewhere C (λ e. ne (sym p.part ∙ e)))
+          ]
 
   -- one joint class more
-  module _ (x : ℕ) (hx : x < others i counts hi') (wanted : List (Option ℕ)) (best : List ℤ) (v : ℤ)
-      (u : IsChanging g i c o x wanted best) where
+  module _ (x : ℕ) (hx : x < others i counts hi') (numbers : List ℕ) (u : IsChanging g i c o x numbers) where
     abbrev J : ℕ
     J = place i counts hi' c x
-
-    abbrev new_wanted : List (Option ℕ)
-    new_wanted = set wanted (J * n + i) o
-
-    abbrev new_best : List ℤ
-    new_best = set best J v
 
     J_in : J < product counts
     J_in = place_in i counts hi' c x class_in hx
@@ -201,111 +229,30 @@ module _ (g : KeptGame) (i c : ℕ) (o : Option ℕ) (hi : i < length g.choices)
     here_part : get_or (parts_of counts J) i 0 ≡ c
     here_part = part_there i counts hi' c x class_in hx
 
-    pub before_best : get_or best J (pos 0) ≡ best_entry g J
-    before_best = (u.rest c x class_in hx (λ e. omega arith)).best
+    pub number_before : get_or numbers J 0 ≡ number_in g J
+    number_before = u.rest c x class_in hx (λ e. omega arith)
 
-    room : J * n + i < length wanted
-    room = let lt = row_below J (product counts) n i J_in hi in let long = u.as_long in omega arith
-
-    other_place : (D j : ℕ) → j < n → D ≢ J → D * n + j ≢ J * n + i
-    other_place D j hj ne e = ne (same_parts n D j J i hj hi e).0
-
-    new_at : (j : ℕ) → j < n → get_or new_wanted (J * n + j) None ≡ get_or (choices_in changed.choices J) j None
-    new_at j hj =
-        elim (cases_eq j i) [
-          | inl e ↦
-              ap (λ (z : ℕ). get_or new_wanted (J * n + z) None) e
-              ∙ get_or-set_same wanted (J * n + i) o None room
-              ∙ sym (there J here_part)
-              ∙ ap (λ (z : ℕ). get_or (choices_in changed.choices J) z None) (sym e)
-          | inr ne ↦
-              let apart : J * n + j ≢ J * n + i = λ e. ne (omega arith) in
-              get_or-set_other wanted (J * n + i) (J * n + j) o None apart
-              ∙ (u.rest c x class_in hx (λ e. omega arith)).choices j hj ∙ sym (of_others J j hj ne)
-        ]
-
-    new_row : take n (drop (J * n) new_wanted) ≡ choices_in changed.choices J
-    new_row =
-        let long = length-set wanted (J * n + i) o in
-        let all = u.as_long in
-        let lt = J_in in
-        let le : suc J * n ≤ product counts * n = mul-le-mul lt (omega arith) in
-        let next : suc J * n ≡ J * n + n = suc-mul J n in
-        (λ j. take (sym as_many j) (drop (J * sym as_many j) new_wanted))
-        ∙ row_is changed.choices new_wanted J (rw as_many (omega arith))
-        (λ j hj. ap (λ (k : ℕ). get_or new_wanted (J * k + j) None) as_many ∙ new_at j
-        (let e = as_many in omega arith))
-
-    module _ (agents : length g.actions ≡ n) (is : v ≡ greatest_in g.actions g.table new_wanted J) where
-      pub new_is : v ≡ best_entry changed J
-      new_is =
-          is ∙ ap (λ os. greatest (entry g J) (allowed_actions g.actions os))
-          ((λ j. take (agents j) (drop (J * agents j) new_wanted)) ∙ new_row)
-
-      kept_here : IsKeptAt changed new_wanted new_best J
-      kept_here =
-          let lt : J < length best = let one = u.one_each in let inside = J_in in omega arith in
-          kept_changed new_wanted new_best J new_at (get_or-set_same best J v (pos 0) lt ∙ new_is)
-
-      aside : (D : ℕ) → D ≢ J → IsKeptAt g wanted best D → IsKeptAt g new_wanted new_best D
-      aside D ne kept = record {
-        choices = λ j hj. get_or-set_other wanted (J * n + i) (D * n + j) o None (other_place D j hj ne) ∙
-            kept.choices j hj;
-        best = get_or-set_other best J D v (pos 0) ne ∙ kept.best;
-      }
-
-      aside_changed : (D : ℕ) → D ≢ J → IsKeptAt changed wanted best D → IsKeptAt changed new_wanted new_best D
-      aside_changed D ne kept =
-          kept_changed new_wanted new_best D
-          (λ j hj. get_or-set_other wanted (J * n + i) (D * n + j) o None (other_place D j hj ne)
-          ∙ changed_choice
-          wanted best D kept j hj)
-          (get_or-set_other best J D v (pos 0) ne ∙ kept.best)
-
-      pub changing_next : IsChanging g i c o (x + 1) new_wanted new_best
-      changing_next = record {
-        as_long = length-set wanted (J * n + i) o ∙ u.as_long;
-        one_each = length-set best J v ∙ u.one_each;
-        done = λ y lt hy. elim (cases_lt y x) [
-          | inl early ↦
-              let apart : place i counts hi' c y ≢ J =
-              λ e. let same = (placed_injective i counts c y c x hi' class_in hy class_in hx e).1 in absurd
-              (omega arith) in
-              aside_changed (place i counts hi' c y) apart (u.done y early hy)
-          | inr late ↦
-              let now : y ≡ x = omega arith in
-              subst (λ (z : ℕ). IsKeptAt changed new_wanted new_best (place i counts hi' c z)) (sym now)
-              kept_here
-        ];
-        rest = λ b y hb hy le.
-            let apart : place i counts hi' b y ≢ J =
-            λ e. let same = placed_injective i counts b y c x hi' hb hy class_in hx e in
-            let more = le same.0 in let
-            at = same.1 in absurd (omega arith) in
-            aside (place i counts hi' b y) apart (u.rest b y hb hy (λ e. let more = le e in omega arith));
-      }
-
--- the same with the lists and places as the code has them
-pub changing_on : (g : KeptGame) (i c : ℕ) (o : Option ℕ) (hi : i < length g.choices)
-    (hc : c < length (get_or g.choices i []))
-    (x : ℕ) (hx : x < product (without i (own_counts g.choices))) (wanted wanted' : List (Option ℕ))
-    (best best' : List ℤ) (v : ℤ) (J n : ℕ)
-    → IsChanging g i c o x wanted best → J ≡ placed_number i (own_counts g.choices) c x → n ≡ length g.choices
-    → length g.actions ≡ length g.choices → wanted' ≡ set wanted (J * n + i) o → best' ≡ set best J v
-    → v ≡ greatest_in g.actions g.table wanted' J → IsChanging g i c o (x + 1) wanted' best' ×
-    (v ≡ best_entry (with_own_choice g i c o) (placed_number i (own_counts g.choices) c x))
-changing_on g i c o hi hc x hx wanted wanted' best best' v J n u at many agents ew eb ev =
-    let wanted_is : wanted' ≡ set wanted (placed_number i (own_counts g.choices) c x * length g.choices + i) o =
-    ew ∙ (λ j. set wanted (at j * many j + i) o) in
-    let best_is : best' ≡ set best (placed_number i (own_counts g.choices) c x) v = eb
-    ∙ (λ j. set best (at j) v) in
-    let is : v ≡ greatest_in g.actions g.table (set wanted
-    (placed_number i (own_counts g.choices) c x * length g.choices + i) o)
-    (placed_number i (own_counts g.choices) c x) =
-    ev ∙ (λ j. greatest_in g.actions g.table (wanted_is j) (at j)) in (
-      subst (λ ws. IsChanging g i c o (x + 1) ws best') (sym wanted_is)
-          (subst (λ bs. IsChanging g i c o (x + 1)
-          (set wanted (placed_number i (own_counts g.choices) c x * length g.choices + i) o) bs) (sym best_is)
-          (changing_next g i c o hi hc x hx wanted best v u agents is)),
-      new_is g i c o hi hc x hx wanted best v u agents is,
-    )
+    pub changing_next : (v : ℕ) → v ≡ number_in changed J → IsChanging g i c o (x + 1) (set numbers J v)
+    changing_next v is = record {
+      one_each = length-set numbers J v ∙ u.one_each;
+      done = λ y lt hy. elim (cases_lt y x) [
+        | inl early ↦
+            let apart : place i counts hi' c y ≢ J =
+            λ e. let same = (placed_injective i counts c y c x hi' class_in hy class_in hx e).1 in absurd
+            (omega arith) in
+            get_or-set_other numbers J (place i counts hi' c y) v 0 apart ∙ u.done y early hy
+        | inr late ↦
+            let now : y ≡ x = omega arith in
+            let there : J < length numbers = let one = u.one_each in let lt = J_in in omega arith in
+            subst (λ (z : ℕ). get_or (set numbers J v) (place i counts hi' c z) 0
+            ≡ number_in changed (place i counts hi' c z)) (sym now)
+            (get_or-set_same numbers J v 0 there ∙ is)
+      ];
+      rest = λ b y hb hy le.
+          let apart : place i counts hi' b y ≢ J =
+          λ e. let same = placed_injective i counts b y c x hi' hb hy class_in hx e in
+          let more = le same.0 in
+          let at = same.1 in absurd (omega arith) in
+          get_or-set_other numbers J (place i counts hi' b y) v 0 apart
+          ∙ u.rest b y hb hy (λ e. let more = le e in omega arith);
+    }

@@ -5,7 +5,9 @@ pub mod Bounds
 pub mod Callers
 pub mod Changes
 pub mod Choosing
+pub mod ClassNumbers
 pub mod ClassPlaces
+pub mod Extended
 pub mod LookAheadRows
 pub mod Made
 pub mod OwnChoices

@@ -1,7 +1,7 @@
 -- The game that is made of a front.
 use Rattle.std.proofs.Common.{◌≡◌, ℕ, zero, suc, ◌+◌, ◌-◌, ◌*◌, ◌^◌, ◌<◌, ◌≤◌, true, false, eqb, ℤ, pos, ◌+ℤ◌}
 use Rattle.std.proofs.Common.{unsigned_abs, List, map, length, get_or, drop, take, Option, None, Some, inl, inr, sym}
-use Rattle.std.proofs.Common.{ap, ◌∙◌, arith}
+use Rattle.std.proofs.Common.{ap, ◌∙◌, subst, arith}
 use Rattle.std.specs.Prelude.{nat_le, ◌||◌}
 use Rattle.std.specs.List.{range_with_len}
 use Rattle.std.proofs.lemmas.Bool.{and_parts, cases_lt}
@@ -30,12 +30,13 @@ use Rattle.dp_cluster.proofs.ChosenActions.{agents_of}
 use Rattle.dp_cluster.proofs.FrontParts.{count_most}
 use Rattle.dp_cluster.proofs.OwnParts.{made_at, same_map}
 use Rattle.dp_game.specs.Bounders.{IsBounderOf, KeptBounder}
-use Rattle.dp_game.specs.Games.{IsGameOf, KeptGame, allowed_actions, best_entry, choices_in, joint_classes}
-use Rattle.dp_game.specs.Games.{each_agrees, own_counts}
-use Rattle.dp_game.specs.Kept.{IsKept, IsOfSomeFront, game_with, greatest_in, greatest_look_in, look_ahead_row}
-use Rattle.dp_game.specs.Kept.{rows_of}
+use Rattle.dp_game.specs.Games.{IsGameOf, KeptGame, allowed_actions, best_entry, choices_in, game_bound}
+use Rattle.dp_game.specs.Games.{each_agrees, joint_classes, own_counts}
+use Rattle.dp_game.specs.Extended.{AreNumbersOf, IsKeptBy, extended_number, game_kept, greatest_table, whole_table}
+use Rattle.dp_game.specs.Kept.{IsOfSomeFront, game_with, greatest_in, greatest_look_in, look_ahead_row, rows_of}
 use Rattle.dp_game.proofs.Bounds.{agents_are, all_small, few_classes, some_classes}
 use Rattle.dp_game.proofs.Changes.{row_is}
+use Rattle.dp_game.proofs.Extended.{best_kept, best_place, whole_is}
 use Rattle.dp_game.proofs.LookAheadRows.{same_mode}
 use Rattle.dp_game.proofs.OwnChoices.{as_many_choices, as_many_own, choices_of, counts_of, length-choices_for}
 use Rattle.dp_game.proofs.Rows.{rows_at, rows_length}
@@ -103,14 +104,18 @@ table_rows A m r look count F actions table ea et =
     (λ C p. length-map-range_with_len _ 0 (product m.actions))
     ∙ ap (λ (l : List ℕ). count * product l) (sym ea)
 
+pub same_length : (m : Model) (k : KeptFront) → IsFrontOf m k → (actions : List ℕ) (choices : List (List (Option ℕ)))
+    → actions ≡ m.actions → choices ≡ choices_of k.front.agents → length actions ≡ length choices
+same_length m k is actions choices ea eo =
+    ap (λ (l : List ℕ). length l) ea ∙ sym (agents_of is.front.agents)
+    ∙ sym (as_many_choices k.front.agents) ∙ ap (λ oss. length oss) (sym eo)
+
 pub wanted_rows : (m : Model) (k : KeptFront) → IsFrontOf m k → (actions : List ℕ)
     (choices : List (List (Option ℕ))) (wanted : List (Option ℕ)) (count : ℕ)
     → actions ≡ m.actions → choices ≡ choices_of k.front.agents → wanted ≡ rows_of (choices_in choices) count
     → length wanted ≡ count * length actions
 wanted_rows m k is actions choices wanted count ea eo ew =
-    let many : length choices ≡ length actions =
-    ap (λ oss. length oss) eo ∙ as_many_choices k.front.agents ∙ agents_of is.front.agents ∙ ap
-    (λ (l : List ℕ). length l) (sym ea) in
+    let many : length choices ≡ length actions = sym (same_length m k is actions choices ea eo) in
     ap (λ (l : List (Option ℕ)). length l) ew
     ∙ rows_length (choices_in choices) (length choices) count
     (λ C p. length-choices_for choices (parts_of (own_counts choices) C)
@@ -265,16 +270,75 @@ module _ (m : Model) (k : KeptFront) (b : KeptBounder) (is : IsFrontOf m k) (bo 
             let both = abs_add earned.high (int_sum n (best_entry g)) in
             rw (part_is n le) (omega arith)
 
-        pub kept : bound ≡ earned.high +ℤ int_sum (length greatest) (λ C. get_or greatest C (pos 0)) → IsKept g
-            wanted greatest bound
-        kept eb = record {
-          of_front = some_front;
-          as_many = wanted_long ∙ ap (λ (n : ℕ). n * length choices) ec;
-          one_each = greatest_long ∙ ec;
-          at = λ C hC.
-              let lt' : C < count = rw ec hC in
-              record { choices = λ j hj. wanted_at C j lt' hj; best = best_at C lt' };
-          is_bound =
-              eb ∙ ap (λ x. earned.high +ℤ x) (part_is (length greatest) (omega arith) ∙ ap
-              (λ (n : ℕ). int_sum n (best_entry g)) (greatest_long ∙ ec));
-        }
+        pub summed : bound ≡ earned.high +ℤ int_sum (length greatest) (λ C. get_or greatest C (pos 0))
+            → bound ≡ game_bound g
+        summed eb =
+            eb ∙ ap (λ x. earned.high +ℤ x) (part_is (length greatest) (omega arith) ∙ ap
+            (λ (n : ℕ). int_sum n (best_entry g)) (greatest_long ∙ ec))
+
+    -- ---- what is kept of the game
+
+    module _ (best : List ℤ) (numbers : List ℕ) (eb : best ≡ greatest_table actions table count)
+        (en : AreNumbersOf actions choices numbers) where
+      best_is : best ≡ greatest_table actions table (joint_classes g)
+      best_is = eb ∙ ap (greatest_table actions table) ec
+
+      whole : whole_table actions (product (own_counts choices)) best ≡ table
+      whole =
+          (λ j. whole_table actions (sym ec j) (eb j))
+          ∙ whole_is actions (λ C a. action_look_ahead_in (arithmetic b.is_exact m.scales) m
+          (b.horizon - k.front.stage - 1) (class_weight_in (arithmetic b.is_exact m.scales) m k.front C) a look)
+          count table (et ∙ ap (λ (n : ℕ). rows_of (λ C. map (λ a. action_look_ahead_in
+          (arithmetic b.is_exact m.scales) m (b.horizon - k.front.stage - 1)
+          (class_weight_in (arithmetic b.is_exact m.scales) m k.front C) a look) (range_with_len 0 n)) count)
+          (sym actions_are))
+
+      place_of : (C n N : ℕ) → C < joint_classes g → n ≡ extended_number actions (choices_in choices C)
+          → N ≡ joint_classes g → (n * N + C < length best) × (get_or best (n * N + C) (pos 0) ≡ best_entry g C)
+      place_of C n N lt is many = (
+        rw (is, many) (best_place g some_front C lt best best_is),
+        (λ j. get_or best (is j * many j + C) (pos 0)) ∙ best_kept g some_front C lt best best_is,
+      )
+
+      number_place : (C : ℕ) → C < length numbers →
+          (get_or numbers C 0 * length numbers + C < length best)
+          × (get_or best (get_or numbers C 0 * length numbers + C) (pos 0) ≡ best_entry g C)
+      number_place C lt =
+          let lt' : C < joint_classes g = rw (sym en.one_each) lt in
+          place_of C _ _ lt' (en.at C lt') en.one_each
+
+      pub places : (C : ℕ) → C < length numbers → get_or numbers C 0 * length numbers + C < length best
+      places C lt = (number_place C lt).0
+
+      sum_is : (n : ℕ) → n ≤ length numbers →
+          int_sum n (λ C. get_or best (get_or numbers C 0 * length numbers + C) (pos 0)) ≡ int_sum n (best_entry g)
+      sum_is n le = int_sum_ext n _ _ (λ C p. (number_place C (omega arith)).1)
+
+      pub sums_fit : (n : ℕ) → n ≤ length numbers → unsigned_abs (earned.high +ℤ int_sum n
+          (λ C. get_or best (get_or numbers C 0 * length numbers + C) (pos 0))) < 2 ^ 127
+      sums_fit n le =
+          let all = all_small g some_front in
+          let within : n ≤ joint_classes g = rw (sym en.one_each) le in
+          let part = int_sum_part n (joint_classes g) (best_entry g) within in
+          let both = abs_add earned.high (int_sum n (best_entry g)) in
+          rw (sum_is n le) (omega arith)
+
+      same_game : g ≡ game_kept actions choices best earned.high
+      same_game = ap (λ t. game_with actions choices t earned.high) (sym whole)
+
+      pub kept_game : IsGameOf m k.horizon look k.front (game_kept actions choices best earned.high)
+      kept_game = subst (IsGameOf m k.horizon look k.front) same_game game
+
+      pub kept_bound : (bound : ℤ) → bound ≡ earned.high +ℤ int_sum (length numbers)
+          (λ C. get_or best (get_or numbers C 0 * length numbers + C) (pos 0))
+          → IsKeptBy (game_kept actions choices best earned.high) best numbers bound
+      kept_bound bound is =
+          let here : IsKeptBy g best numbers bound = record {
+            of_front = some_front;
+            entries = best_is;
+            classes = en;
+            is_bound =
+                is ∙ ap (λ x. earned.high +ℤ x) (sum_is (length numbers) (omega arith) ∙ ap
+                (λ (n : ℕ). int_sum n (best_entry g)) en.one_each);
+          } in
+          subst (λ l. IsKeptBy l best numbers bound) same_game here

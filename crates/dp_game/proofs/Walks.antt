@@ -1,20 +1,26 @@
 -- The walk over the joint classes that hold a class whose choice changes, and the bound after it.
-use Rattle.std.proofs.Common.{◌≡◌, ℕ, suc, ◌+◌, ◌*◌, ◌/◌, ◌%◌, ◌^◌, ◌<◌, ◌≤◌, ℤ, pos, ◌+ℤ◌, ◌-ℤ◌, unsigned_abs, List}
-use Rattle.std.proofs.Common.{[], ◌++◌, length, get_or, set, drop, take, Option, add-one, sym, ap, ◌∙◌, subst, arith}
+use Rattle.std.proofs.Common.{◌≡◌, ℕ, suc, ◌+◌, ◌-◌, ◌*◌, ◌/◌, ◌%◌, ◌^◌, ◌<◌, ◌≤◌, ℤ, pos, ◌+ℤ◌, ◌-ℤ◌, unsigned_abs, List}
+use Rattle.std.proofs.Common.{[], ◌++◌, length, get_or, set, drop, take, Option, None, refl, add-one, sym, ap, ◌∙◌, subst, arith}
 use Rattle.std.proofs.Math.Nat.{mul-le-mul, mul_comm, suc-mul}
 use Rattle.std.proofs.lemmas.List.{length-set, take-append-le, take_all}
 use Rattle.dp_base.specs.Sums.{int_sum, nat_sum}
-use Rattle.dp_spec.specs.JointNumbers.{product}
+use Rattle.dp_spec.specs.JointNumbers.{parts_of, product}
 use Rattle.dp_spec.specs.Merge.{placed_number, without}
 use Rattle.dp_spec.proofs.JointNumberLaws.{product-drop_above}
 use Rattle.dp_laws.proofs.SizeSums.{abs_add}
 use Rattle.dp_cluster.proofs.Pairs.{divided}
-use Rattle.dp_game.specs.Games.{KeptGame, best_entry, game_bound, joint_classes, own_counts, with_own_choice}
-use Rattle.dp_game.specs.Kept.{IsKept, IsKeptAt, IsOfSomeFront, game_with, greatest_in}
-use Rattle.dp_game.proofs.Bounds.{all_small, bound_size, classes_few, classes_some, long_table, same_agents}
-use Rattle.dp_game.proofs.Changes.{IsChanging, best_elsewhere, changing_on, class_in, hi', same_counts}
+use Rattle.dp_game.specs.Games.{KeptGame, best_entry, game_bound, joint_classes, own_choice, own_counts}
+use Rattle.dp_game.specs.Games.{with_own_choice}
+use Rattle.dp_game.specs.Extended.{AreNumbersOf, IsKeptBy, choice_counts, choice_number, game_kept, greatest_table}
+use Rattle.dp_game.specs.Extended.{whole_table}
+use Rattle.dp_game.specs.Kept.{IsOfSomeFront, game_with}
+use Rattle.dp_game.proofs.Bounds.{all_small, bound_size, classes_few, classes_some, same_agents}
+use Rattle.dp_game.proofs.Changes.{IsChanging, best_elsewhere, changing_next, class_in, hi', number_before, number_in}
+use Rattle.dp_game.proofs.Changes.{number_there, same_counts}
 use Rattle.dp_game.proofs.ClassPlaces.{as_many_places, class_sum, less_is, moved_is, other_sum, other_sum_kept}
 use Rattle.dp_game.proofs.ClassPlaces.{other_sum_small, part_small, part_there, place_in, place_is, sum_splits}
+use Rattle.dp_game.proofs.OwnChoices.{counts_kept}
+use Rattle.dp_game.proofs.Extended.{best_kept, best_place, class_number_below, counts_limit}
 
 pub row_room : (J N w : ℕ) → J < N → J * w + w ≤ N * w
 row_room J N w lt =
@@ -86,70 +92,109 @@ module _ (g : KeptGame) (i c : ℕ) (o : Option ℕ) (hi : i < length g.choices)
       pub joint_room : (x / width * count + c) * width + x % width < 2 ^ 24
       joint_room = let is = joint_is in let lt = J_below in let few = few_classes in omega arith
 
-      module _ (j : ℕ) (ej : j ≡ (x / width * count + c) * width + x % width) where
+      module _ (j : ℕ) (ej : j ≡ (x / width * count + c) * width + x % width) (best : List ℤ)
+          (eb : best ≡ greatest_table g.actions g.table (joint_classes g)) (numbers : List ℕ)
+          (u : IsChanging g i c o x numbers) (up down : ℕ)
+          (eu : up ≡ choice_number o * product (drop (suc i) (choice_counts g.actions)))
+          (ed : down ≡ choice_number (own_choice g i c) * product (drop (suc i) (choice_counts g.actions))) where
         at : j ≡ J x
         at = ej ∙ joint_is
 
-        pub joint_few : j < 2 ^ 24
-        joint_few = rw ej joint_room
+        here_part : get_or (parts_of ns (J x)) i 0 ≡ c
+        here_part = part_there i ns (hi' g i c o hi hc) c x (class_in g i c o hi hc) hx
 
-        pub in_table : j * product g.actions + product g.actions ≤ length g.table
-        in_table =
-            let long = long_table (earning g before.0) before.1 in
-            let lt : j < product ns = rw at J_below in
-            let room = row_room j (product ns) (product g.actions) lt in omega arith
+        agents : length g.actions ≡ length g.choices
+        agents = same_agents (earning g before.0) before.1
 
-        module _ (wanted : List (Option ℕ)) (best : List ℤ) (u : IsChanging g i c o x wanted best) where
-          pub in_wanted : j * length g.actions + length g.actions ≤ length wanted
-          in_wanted =
-              let many = same_agents (earning g before.0) before.1 in
-              let lt : j < product ns = rw at J_below in
-              let room = row_room j (product ns) (length g.choices) lt in
-              let long = u.as_long in rw many (omega arith)
+        abbrev W : ℕ
+        W = product (drop (suc i) (choice_counts g.actions))
 
-          pub in_best : j < length best
-          in_best = let lt : j < product ns = rw at J_below in let one = u.one_each in omega arith
+        pub in_numbers : j < length numbers
+        in_numbers = let lt : j < product ns = rw at J_below in let one = u.one_each in omega arith
 
-          pub gone_is : get_or best j (pos 0) ≡ best_entry g (J x)
-          gone_is = ap (λ (z : ℕ). get_or best z (pos 0)) at ∙
-              (u.rest c x (class_in g i c o hi hc) hx (λ e. omega arith)).best
+        pub as_many : length numbers ≤ 2 ^ 24
+        as_many = rw u.one_each few_classes
 
-          pub gone_fits : (total gone : ℤ) → total ≡ int_sum x (λ y. best_entry g (J y)) → gone ≡ get_or best j
-              (pos 0)
+        was : get_or numbers j 0 ≡ number_in g (J x)
+        was = ap (λ (z : ℕ). get_or numbers z 0) at ∙ number_before g i c o hi hc x hx numbers u
+
+        pub enough : down ≤ get_or numbers j 0
+        enough =
+            let none = number_there g i c None hi hc agents W refl (J x) here_part in
+            rw (ed, was) (omega (arith, none))
+
+        becomes : get_or numbers j 0 - down + up ≡ number_in (with_own_choice g i c o) (J x)
+        becomes =
+            let step = number_there g i c o hi hc agents W refl (J x) here_part in
+            let some = enough in omega (arith, step, was, ed, eu)
+
+        below : number_in (with_own_choice g i c o) (J x) < product (choice_counts g.actions)
+        below = class_number_below (with_own_choice (earning g after.0) i c o) after.1 (J x)
+            (rw (ap product (same_counts g i c o hi hc)) J_below)
+
+        pub new_small : get_or numbers j 0 - down + up < 2 ^ 16
+        new_small =
+            let lt = below in let most = counts_limit (earning g before.0) before.1 in rw becomes (omega arith)
+
+        old_place : (n k l : ℕ) → n ≡ number_in g (J x) → k ≡ joint_classes g → l ≡ J x
+            → (n * k + l < length best) × (get_or best (n * k + l) (pos 0) ≡ best_entry g (J x))
+        old_place n k l en ek el = (
+          rw (en, ek, el) (best_place (earning g before.0) before.1 (J x) J_below best eb),
+          (λ z. get_or best (en z * ek z + el z) (pos 0))
+              ∙ best_kept (earning g before.0) before.1 (J x) J_below best eb,
+        )
+
+        new_place : (n k l : ℕ) → n ≡ number_in (with_own_choice g i c o) (J x) → k ≡ joint_classes g → l ≡ J x
+            → (n * k + l < length best) × (get_or best (n * k + l) (pos 0) ≡ best_entry (with_own_choice g i c o) (J x))
+        new_place n k l en ek el =
+            let counts = ap product (same_counts g i c o hi hc) in
+            let eb' = eb ∙ ap (greatest_table g.actions g.table) (sym counts) in
+            let lt : J x < joint_classes (with_own_choice g i c o) = rw counts J_below in
+            let ek' = ek ∙ sym counts in (
+              rw (en, ek', el) (best_place (with_own_choice (earning g after.0) i c o) after.1 (J x) lt best eb'),
+              (λ z. get_or best (en z * ek' z + el z) (pos 0))
+                  ∙ best_kept (with_own_choice (earning g after.0) i c o) after.1 (J x) lt best eb',
+            )
+
+        pub gone_place : get_or numbers j 0 * length numbers + j < length best
+        gone_place = (old_place _ _ _ was u.one_each at).0
+
+        pub come_place : (get_or numbers j 0 - down + up) * length numbers + j < length best
+        come_place = (new_place _ _ _ becomes u.one_each at).0
+
+        module _ (gone come : ℤ) (eg : gone ≡ get_or best (get_or numbers j 0 * length numbers + j) (pos 0))
+            (ec' : come ≡ get_or best ((get_or numbers j 0 - down + up) * length numbers + j) (pos 0)) where
+          gone_is : gone ≡ best_entry g (J x)
+          gone_is = eg ∙ (old_place _ _ _ was u.one_each at).1
+
+          come_is : come ≡ best_entry (with_own_choice g i c o) (J x)
+          come_is = ec' ∙ (new_place _ _ _ becomes u.one_each at).1
+
+          pub gone_fits : (total : ℤ) → total ≡ int_sum x (λ y. best_entry g (J y))
               → unsigned_abs (total +ℤ gone) < 2 ^ 127
-          gone_fits total gone et eg = rw (et, eg, gone_is) (sum_small (suc x) (omega arith))
+          gone_fits total et = rw (et, gone_is) (sum_small (suc x) (omega arith))
 
-          pub gone_next : (total gone new : ℤ) → total ≡ int_sum x (λ y. best_entry g (J y))
-              → gone ≡ get_or best j
-              (pos 0)
-              → new ≡ total +ℤ gone → new ≡ int_sum (x + 1) (λ y. best_entry g (J y))
-          gone_next total gone new et eg en =
-              en ∙ (λ k. et k +ℤ (eg ∙ gone_is) k) ∙ ap (λ (n : ℕ). int_sum n (λ y. best_entry g (J y)))
-              (sym (add-one x))
+          pub gone_next : (total new : ℤ) → total ≡ int_sum x (λ y. best_entry g (J y)) → new ≡ total +ℤ gone
+              → new ≡ int_sum (x + 1) (λ y. best_entry g (J y))
+          gone_next total new et en =
+              en ∙ (λ k. et k +ℤ gone_is k) ∙ ap (λ (n : ℕ). int_sum n (λ y. best_entry g (J y))) (sym (add-one x))
 
-          module _ (wanted' : List (Option ℕ)) (best' : List ℤ) (come : ℤ)
-              (ew' : wanted' ≡ set wanted (j * length g.actions + i) o) (eb' : best' ≡ set best j come)
-              (is : come ≡ greatest_in g.actions g.table wanted' j) where
-            both : IsChanging g i c o (x + 1) wanted' best' × (come
-                ≡ best_entry (with_own_choice g i c o) (J x))
-            both = changing_on g i c o hi hc x hx wanted wanted' best best' come j (length g.actions) u at
-                (same_agents (earning g before.0) before.1) (same_agents (earning g before.0) before.1)
-                ew' eb' is
+          pub come_fits : (total : ℤ) → total ≡ int_sum x (λ y. best_entry (with_own_choice g i c o) (J y))
+              → unsigned_abs (total +ℤ come) < 2 ^ 127
+          come_fits total et = rw (et, come_is) (sum_small_after (suc x) (omega arith))
 
-            pub walk_next : IsChanging g i c o (x + 1) wanted' best'
-            walk_next = both.0
+          pub come_next : (total new : ℤ) → total ≡ int_sum x (λ y. best_entry (with_own_choice g i c o) (J y))
+              → new ≡ total +ℤ come → new ≡ int_sum (x + 1) (λ y. best_entry (with_own_choice g i c o) (J y))
+          come_next total new et en =
+              en ∙ (λ k. et k +ℤ come_is k) ∙ ap (λ (n : ℕ). int_sum n
+              (λ y. best_entry (with_own_choice g i c o) (J y))) (sym (add-one x))
 
-            pub come_fits : (total : ℤ) → total ≡ int_sum x (λ y. best_entry (with_own_choice g i c o) (J y)) →
-                unsigned_abs (total +ℤ come) < 2 ^ 127
-            come_fits total et = rw (et, both.1) (sum_small_after (suc x) (omega arith))
-
-            pub come_next : (total new : ℤ) → total ≡ int_sum x
-                (λ y. best_entry (with_own_choice g i c o) (J y)) →
-                new ≡ total +ℤ come
-                → new ≡ int_sum (x + 1) (λ y. best_entry (with_own_choice g i c o) (J y))
-            come_next total new et en =
-                en ∙ (λ k. et k +ℤ both.1 k) ∙ ap (λ (n : ℕ). int_sum n
-                (λ y. best_entry (with_own_choice g i c o) (J y))) (sym (add-one x))
+        pub walk_next : (new : List ℕ) → new ≡ set numbers j (get_or numbers j 0 - down + up)
+            → IsChanging g i c o (x + 1) new
+        walk_next new en =
+            subst (λ l. IsChanging g i c o (x + 1) l) (sym (en ∙ ap (λ (z : ℕ). set numbers z
+            (get_or numbers j 0 - down + up)) at))
+            (changing_next g i c o hi hc x hx numbers u _ becomes)
 
 -- ---- the bound after it
 
@@ -206,56 +251,32 @@ written n new old e =
     ap (λ (k : ℕ). take k (new ++ drop (length new) old)) e ∙ take-append-le (length new) new
     (drop (length new) old) (omega arith) ∙ take_all (length new) new (omega arith)
 
-pub kept_before : (g : KeptGame) (bs : List ℕ) (oss : List (List (Option ℕ))) (table best' : List ℤ)
-    (wanted wanted' : List (Option ℕ)) (best : List ℤ)
-    → bs ≡ g.actions → oss ≡ g.choices → table ≡ g.table → wanted' ≡ wanted → best' ≡ best →
-    ((C : ℕ) → C < joint_classes g → IsKeptAt g wanted best C)
-    → (C : ℕ) → C < product (own_counts oss) → IsKeptAt (game_with bs oss table (pos 0)) wanted' best' C
-kept_before g bs oss table best' wanted wanted' best ea eo et ew eb at C lt =
-    let lt' : C < joint_classes g = subst (λ (l : List (List (Option ℕ))). C < product (own_counts l)) eo lt in
-    let kept = at C lt' in
-    let here : IsKeptAt (game_with g.actions g.choices g.table (pos 0)) wanted best C = record
-    { choices = kept.choices; best = kept.best } in
-    subst (λ a. IsKeptAt (game_with a oss table (pos 0)) wanted' best' C) (sym ea)
-    (subst (λ l. IsKeptAt (game_with g.actions l table (pos 0)) wanted' best' C) (sym eo)
-    (subst (λ t. IsKeptAt (game_with g.actions g.choices t (pos 0)) wanted' best' C) (sym et)
-    (subst (λ w. IsKeptAt (game_with g.actions g.choices g.table (pos 0)) w best' C) (sym ew)
-    (subst (λ b. IsKeptAt (game_with g.actions g.choices g.table (pos 0)) wanted b C) (sym eb) here))))
+-- the game of the parts after a choice
+pub game_after : (bs : List ℕ) (oss oss' : List (List (Option ℕ))) (best : List ℤ) (earned : ℤ) (i c : ℕ)
+    (o : Option ℕ) → oss' ≡ set oss i (set (get_or oss i []) c o)
+    → with_own_choice (game_kept bs oss best earned) i c o ≡ game_kept bs oss' best earned
+game_after bs oss oss' best earned i c o is =
+    ap (λ (n : ℕ). game_with bs (set oss i (set (get_or oss i []) c o)) (whole_table bs n best) earned)
+    (ap product (sym (counts_kept oss i c o)))
+    ∙ ap (λ l. game_kept bs l best earned) (sym is)
 
-pub kept_after : (g : KeptGame) (i c : ℕ) (o : Option ℕ) (bs : List ℕ) (oss oss' : List (List (Option ℕ)))
-    (table : List ℤ) (wanted wanted' : List (Option ℕ))
-    (best best' : List ℤ) (bound : ℤ) → i < length g.choices → c < length (get_or g.choices i [])
-    → IsOfSomeFront
-    (with_own_choice g i c o)
-    → bs ≡ g.actions → oss ≡ g.choices → table ≡ g.table
-    → oss' ≡ set g.choices i (set (get_or g.choices i []) c o)
-    → ((C : ℕ) → C < product (own_counts oss) → IsKeptAt
-    (with_own_choice (game_with bs oss table (pos 0)) i c o) wanted best C)
-    → length wanted ≡ joint_classes g * length g.choices → length best ≡ joint_classes g → wanted' ≡ wanted
-    → best'
-    ≡ best
-    → bound ≡ game_bound (with_own_choice g i c o) → IsKept (game_with g.actions oss' g.table g.earned) wanted'
-    best' bound
-kept_after g i c o bs oss oss' table wanted wanted' best best' bound hi hc after ea eo et eo' at long one ew eb is =
-    let counts = ap product (same_counts g i c o hi hc) in
-    let many : length (set g.choices i (set (get_or g.choices i []) c o))
-    ≡ length g.choices = length-set g.choices
-    i _ in
-    let all : (C : ℕ) → C < joint_classes g → IsKeptAt
-    (with_own_choice (game_with g.actions g.choices g.table (pos 0)) i c o) wanted best C =
-    λ C lt.
-    subst (λ l. IsKeptAt (with_own_choice (game_with g.actions l g.table (pos 0)) i c o) wanted best C) eo
-    (subst (λ t. IsKeptAt (with_own_choice (game_with g.actions oss t (pos 0)) i c o) wanted best C) et
-    (subst (λ a. IsKeptAt (with_own_choice (game_with a oss table (pos 0)) i c o) wanted best C) ea
-    (at C (subst (λ (l : List (List (Option ℕ))). C < product (own_counts l)) (sym eo) lt)))) in
-    let here : IsKept (with_own_choice g i c o) wanted best bound = record {
+pub kept_after : (bs bs' : List ℕ) (oss oss' oss'' : List (List (Option ℕ))) (best : List ℤ) (earned : ℤ) (i c : ℕ)
+    (o : Option ℕ) (numbers numbers' : List ℕ) (bound : ℤ)
+    → IsOfSomeFront (with_own_choice (game_kept bs oss best earned) i c o)
+    → best ≡ greatest_table bs (whole_table bs (product (own_counts oss)) best) (product (own_counts oss))
+    → bs' ≡ bs → oss'' ≡ oss → oss' ≡ set oss i (set (get_or oss i []) c o)
+    → AreNumbersOf bs' (set oss'' i (set (get_or oss'' i []) c o)) numbers → numbers' ≡ numbers
+    → bound ≡ game_bound (with_own_choice (game_kept bs oss best earned) i c o)
+    → IsKeptBy (game_kept bs oss' best earned) best numbers' bound
+kept_after bs bs' oss oss' oss'' best earned i c o numbers numbers' bound after eb ea eo eo' are en is =
+    let counts = ap product (counts_kept oss i c o) in
+    let here : IsKeptBy (with_own_choice (game_kept bs oss best earned) i c o) best numbers bound = record {
       of_front = after;
-      as_many = long ∙ (λ j. sym counts j * sym many j);
-      one_each = one ∙ sym counts;
-      at = λ C lt. let kept = all C (subst (λ (n : ℕ). C < n) counts lt) in record
-          { choices = kept.choices; best = kept.best };
+      entries = eb ∙ ap (greatest_table bs (whole_table bs (product (own_counts oss)) best)) (sym counts);
+      classes = subst (λ (l : List (List (Option ℕ))). AreNumbersOf bs
+          (set l i (set (get_or l i []) c o)) numbers) eo
+          (subst (λ (l : List ℕ). AreNumbersOf l (set oss'' i (set (get_or oss'' i []) c o)) numbers) ea are);
       is_bound = is;
     } in
-    subst (λ l. IsKept (game_with g.actions l g.table g.earned) wanted' best' bound) (sym eo')
-    (subst (λ w. IsKept (with_own_choice g i c o) w best' bound) (sym ew)
-    (subst (λ b. IsKept (with_own_choice g i c o) wanted b bound) (sym eb) here))
+    subst (λ l. IsKeptBy l best numbers' bound) (game_after bs oss oss' best earned i c o eo')
+    (subst (λ l. IsKeptBy (with_own_choice (game_kept bs oss best earned) i c o) best l bound) (sym en) here)

@@ -1,4 +1,4 @@
--- What a game keeps besides what contracts see of it.
+-- What a game is made of, and the look-aheads of a front.
 use Rattle.std.specs.Prelude.{ℕ, zero, suc, ◌+◌, ◌*◌, ◌-◌, ◌^◌, ◌<◌, ◌≤◌, ◌≡◌, false, ℤ, pos, List, [], ◌++◌, map}
 use Rattle.std.specs.Prelude.{length, get_or, drop, take, Option, None}
 use Rattle.std.specs.List.{range_with_len}
@@ -10,8 +10,7 @@ use Rattle.dp_spec.specs.Model.{Model, joint_actions, joint_observations}
 use Rattle.dp_spec.specs.Quantities.{action_look_ahead_in, class_weight_in}
 use Rattle.dp_cluster.specs.KeptFronts.{KeptFront}
 use Rattle.dp_game.specs.Bounders.{KeptBounder}
-use Rattle.dp_game.specs.Games.{IsGameOf, KeptGame, allowed_actions, best_entry, choices_in, game_bound}
-use Rattle.dp_game.specs.Games.{joint_classes}
+use Rattle.dp_game.specs.Games.{IsGameOf, KeptGame, allowed_actions}
 
 -- rows f 0 to f (n - 1), one after the other
 abbrev pub rows_of : {X : Type 0} → (ℕ → List X) → ℕ → List X
@@ -21,6 +20,7 @@ rows_of f (suc n) = rows_of f n ++ f n
 -- the part of each agent in each joint action of agents with bs actions, joint action by joint action
 pub record AreActionParts (bs : List ℕ) (count : ℕ) (all : List ℕ) : Type 0 where
   pub agents : length bs ≤ 6
+  pub some : 0 < product bs
   pub few : product bs ≤ 256
   pub counted : count ≡ product bs
   pub parts : all ≡ rows_of (parts_of bs) (product bs)
@@ -46,20 +46,6 @@ IsOfSomeFront g = (m : Model) × (h : ℕ) × (look : ℕ) × (F : Front) × IsG
 -- the game of these parts
 abbrev pub game_with : List ℕ → List (List (Option ℕ)) → List ℤ → ℤ → KeptGame
 game_with bs oss table earned = record { actions = bs; choices = oss; table = table; earned = earned }
-
--- what is kept for joint class C is right: the choices of its classes, and its greatest entry that agrees
-pub record IsKeptAt (g : KeptGame) (wanted : List (Option ℕ)) (greatest : List ℤ) (C : ℕ) : Type 0 where
-  pub choices : (j : ℕ) → j < length g.choices →
-      get_or wanted (C * length g.choices + j) None ≡ get_or (choices_in g.choices C) j None
-  pub best : get_or greatest C (pos 0) ≡ best_entry g C
-
--- it is right for each joint class, and the bound is that of the game
-pub record IsKept (g : KeptGame) (wanted : List (Option ℕ)) (greatest : List ℤ) (bound : ℤ) : Type 0 where
-  pub of_front : IsOfSomeFront g
-  pub as_many : length wanted ≡ joint_classes g * length g.choices
-  pub one_each : length greatest ≡ joint_classes g
-  pub at : (C : ℕ) → C < joint_classes g → IsKeptAt g wanted greatest C
-  pub is_bound : bound ≡ game_bound g
 
 -- the greatest entry of joint class C that agrees with the choices that are kept for it
 abbrev pub greatest_in : List ℕ → List ℤ → List (Option ℕ) → ℕ → ℤ

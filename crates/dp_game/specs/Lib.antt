@@ -1,3 +1,4 @@
 pub mod Bounders
+pub mod Extended
 pub mod Games
 pub mod Kept

@@ -1,10 +1,11 @@
 // The joint actions of a model, with the part of each agent.
-ghost use Rattle.std.specs.Prelude.{◌≡◌, ◌<◌, ◌≤◌, ◌++◌, length, get_or, pos, IfOk, cond, ◌||◌};
+ghost use Rattle.std.specs.Prelude.{◌≡◌, ◌<◌, ◌≤◌, ◌^◌, ◌∷◌, ◌++◌, [], length, get_or, drop, pos, IfOk};
+ghost use Rattle.std.specs.Prelude.{cond, ◌||◌};
 ghost use Rattle.std.specs.Int.{int_max};
-ghost use Rattle.dp_base.specs.Sums.{greatest};
 ghost use Rattle.dp_spec.specs.Bound.{agrees};
 ghost use Rattle.dp_spec.specs.JointNumbers.{parts_of, product};
 ghost use Rattle.dp_spec.specs.Model.{joint_actions};
+ghost use Rattle.dp_game.specs.Extended.{choice_counts, choice_of, choices_at};
 ghost use Rattle.dp_game.specs.Games.{allowed_actions, each_agrees};
 ghost use Rattle.dp_game.specs.Kept.{rows_of};
 
@@ -85,22 +86,100 @@ impl JointActions {
         true
     }
 
-    // The greatest of a row with an entry for each joint action, among the joint actions that agree with
-    // one choice or none for each agent; 0 where none agrees.
-    pub(crate) fn greatest_allowed(&self, row: &[i128], wanted: &[Option<u8>]) -> i128
-        requires row { length row.now ≡ product self.now }
-        requires one_each { length wanted.now ≡ length self.now }
-        ensures { result ≡ greatest (λ a. get_or row.now a (pos 0)) (allowed_actions self.now wanted.now) }
+    // What holds of them. It does nothing.
+    #[inline]
+    pub(crate) fn invariant(&self)
+        ensures agents { length self.now ≤ 6 }
+        ensures some { 0 < product self.now }
+        ensures few { product self.now ≤ 256 }
     {
-        let mut some = false;
-        let mut best = 0;
-        for action in 0..self.count() {
-            let agrees = self.agrees(action, wanted);
-            best = greater(agrees, some, best, entry_at(row, action));
-            some = either(some, agrees);
-        }
-        best
+        let _ = &self.sizes;
     }
+
+    // How many actions an agent has.
+    #[inline]
+    pub(crate) fn size(&self, agent: usize) -> usize
+        requires { agent < length self.now }
+        ensures { result ≡ get_or self.now agent 0 }
+    {
+        self.sizes[agent] as usize
+    }
+
+    // How many extended joint actions the agents from `first` on have: each has one of its actions or none.
+    pub(crate) fn extended_from(&self, first: usize) -> usize
+        requires first { first ≤ length self.now }
+        ensures is { result ≡ product (drop first (choice_counts self.now)) }
+        ensures some { 0 < result }
+        ensures limit { result ≤ 2 ^ 14 }
+    {
+        self.invariant();
+        let mut count = 1;
+        for agent in first..self.agents() {
+            count *= self.size(agent) + 1;
+        }
+        count
+    }
+
+    // The joint actions that agree with an extended joint action, the greatest first.
+    pub(crate) fn allowed(&self, alloc: Global, extended: usize) -> Result<Vec<usize>, Memory>
+        requires { extended < product (choice_counts self.now) }
+        ensures { IfOk result (λ v. v.items ≡ allowed_actions self.now (choices_at self.now extended)) }
+    {
+        let wanted = self.choices_at(alloc, extended)?;
+        let mut allowed = Vec::new(alloc);
+        for step in 0..self.count() {
+            let action = self.count() - 1 - step;
+            push_where(self.agrees(action, &wanted), action, &mut allowed)?;
+        }
+        Ok(allowed)
+    }
+
+    // The choice of each agent in an extended joint action.
+    fn choices_at(&self, alloc: Global, extended: usize) -> Result<Vec<Option<u8>>, Memory>
+        requires { extended < product (choice_counts self.now) }
+        ensures { IfOk result (λ v. v.items ≡ choices_at self.now extended) }
+    {
+        let mut wanted = Vec::new(alloc);
+        for agent in 0..self.agents() {
+            wanted.push(choice_of(self.part(extended, agent)))?;
+        }
+        Ok(wanted)
+    }
+
+    // The number of an agent's choice in an extended joint action.
+    fn part(&self, extended: usize, agent: usize) -> usize
+        requires extended { extended < product (choice_counts self.now) }
+        requires agent { agent < length self.now }
+        ensures is { result ≡ get_or (parts_of (choice_counts self.now) extended) agent 0 }
+        ensures limit { result ≤ 256 }
+    {
+        self.invariant();
+        extended / self.extended_from(agent + 1) % (self.size(agent) + 1)
+    }
+}
+
+// The choice with a number: none for 0.
+#[inline]
+fn choice_of(number: usize) -> Option<u8>
+    requires { number ≤ 256 }
+    ensures { result ≡ choice_of number }
+{
+    if number == 0 {
+        None
+    } else {
+        Some((number - 1) as u8)
+    }
+}
+
+// Adds a joint action where it counts.
+#[inline]
+fn push_where(counts: bool, action: usize, actions: &mut Vec<usize>) -> Result<(), Memory>
+    ensures { IfOk result (λ _. actions.new.items ≡ actions.old.items ++ cond counts (action ∷ []) []) }
+{
+    if counts {
+        actions.push(action)?;
+    }
+    Ok(())
 }
 
 // The entry of a joint action.

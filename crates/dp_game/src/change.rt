@@ -1,68 +1,18 @@
-// The greatest entries of the joint classes, and what becomes of them where a choice changes.
-ghost use Rattle.std.specs.Prelude.{◌≡◌, ◌<◌, ◌≤◌, ◌+◌, ◌*◌, ◌/◌, ◌%◌, ◌^◌, ℕ, ℤ, pos, ◌+ℤ◌, ◌-ℤ◌, [], map};
-ghost use Rattle.std.specs.Prelude.{set, length, get_or, drop, take, unsigned_abs, IfOk};
-ghost use Rattle.std.specs.List.{range_with_len};
+// The bound of a game from its parts, and what becomes of them where a choice changes.
+ghost use Rattle.std.specs.Prelude.{◌≡◌, ◌<◌, ◌≤◌, ◌+◌, ◌-◌, ◌*◌, ◌/◌, ◌%◌, ◌^◌, ℕ, suc, ℤ, pos, ◌+ℤ◌, ◌-ℤ◌, []};
+ghost use Rattle.std.specs.Prelude.{set, length, get_or, drop, take, unsigned_abs};
 ghost use Rattle.dp_base.specs.Sums.{int_sum};
 ghost use Rattle.dp_spec.specs.JointNumbers.{product};
 ghost use Rattle.dp_spec.specs.Merge.{placed_number, without};
+ghost use Rattle.dp_game.specs.Extended.{AreNumbersOf, choice_counts, choice_number, game_kept, greatest_table};
+ghost use Rattle.dp_game.specs.Extended.{whole_table};
 ghost use Rattle.dp_game.specs.Games.{best_entry, own_counts, with_own_choice};
-ghost use Rattle.dp_game.specs.Kept.{IsKeptAt, IsOfSomeFront, game_with, greatest_in};
+ghost use Rattle.dp_game.specs.Kept.{IsOfSomeFront};
 
 use crate::actions::{JointActions, entry_at};
 use crate::choices::AgentChoices;
+use crate::numbers::number_of;
 use crate::places::width_from;
-use dp_base::Memory;
-use std::alloc::Global;
-
-// Joint class by joint class, the greatest entry that agrees with the choices that are kept for it.
-pub(crate) fn greatest_entries(
-    alloc: Global,
-    actions: &JointActions,
-    table: &[i128],
-    wanted: &[Option<u8>],
-    count: usize,
-) -> Result<Vec<i128>, Memory>
-    requires few { count ≤ 2 ^ 24 }
-    requires table { length table.now ≡ count * product actions.now }
-    requires wanted { length wanted.now ≡ count * length actions.now }
-    ensures { IfOk result (λ v. v.items ≡ map (greatest_in actions.now table.now wanted.now)
-        (range_with_len 0 count)) }
-{
-    let mut greatest = Vec::new(alloc);
-    for joint in 0..count {
-        greatest.push(greatest_entry(actions, table, wanted, joint))?;
-    }
-    Ok(greatest)
-}
-
-// That of one joint class.
-#[inline]
-fn greatest_entry(
-    actions: &JointActions,
-    table: &[i128],
-    wanted: &[Option<u8>],
-    joint: usize,
-) -> i128
-    requires few { joint < 2 ^ 24 }
-    requires table { joint * product actions.now + product actions.now ≤ length table.now }
-    requires wanted { joint * length actions.now + length actions.now ≤ length wanted.now }
-    ensures { result ≡ greatest_in actions.now table.now wanted.now joint }
-{
-    let row = entries_of(table, joint, actions.count());
-    let choices = choices_kept(wanted, joint, actions.agents());
-    actions.greatest_allowed(row, choices)
-}
-
-// The entries of a joint class, of `count` joint actions.
-#[inline]
-fn entries_of(table: &[i128], joint: usize, count: usize) -> &[i128]
-    requires few { joint < 2 ^ 24 }
-    requires count { count ≤ 256 }
-    requires room { joint * count + count ≤ length table.now }
-    ensures { result.now ≡ take count (drop (joint * count) table.now) }
-{
-    &table[joint * count..joint * count + count]
-}
 
 // The choices that are kept for a joint class, of so many agents.
 #[inline]
@@ -88,6 +38,44 @@ pub(crate) fn bound_with(earned: i128, greatest: &[i128]) -> i128
     bound
 }
 
+// A number, and the greatest entries of all joint classes with it, each with its extended joint action.
+pub(crate) fn bound_of(earned: i128, best: &[i128], numbers: &[u16]) -> i128
+    requires places { (C : ℕ) → C < length numbers.now →
+        get_or numbers.now C 0 * length numbers.now + C < length best.now }
+    requires fits { (k : ℕ) → k ≤ length numbers.now → unsigned_abs (earned +ℤ int_sum k
+        (λ C. get_or best.now (get_or numbers.now C 0 * length numbers.now + C) (pos 0))) < 2 ^ 127 }
+    ensures { result ≡ earned +ℤ int_sum (length numbers.now)
+        (λ C. get_or best.now (get_or numbers.now C 0 * length numbers.now + C) (pos 0)) }
+{
+    let joints = numbers.len();
+    let mut bound = earned;
+    for joint in 0..joints {
+        bound += entry_at(best, numbers[joint] as usize * joints + joint);
+    }
+    bound
+}
+
+// How the extended joint action of a joint class changes where a choice for one of its classes does.
+#[derive(Clone, Copy)]
+pub(crate) struct Step {
+    up: usize,
+    down: usize,
+}
+
+// That for an agent's choice that becomes another one.
+fn step_of(actions: &JointActions, agent: usize, old: Option<u8>, new: Option<u8>) -> Step
+    requires agent { agent < length actions.now }
+    ensures up { result.up ≡ choice_number new * product (drop (suc agent) (choice_counts actions.now)) }
+    ensures down { result.down ≡ choice_number old * product (drop (suc agent) (choice_counts actions.now)) }
+{
+    actions.invariant();
+    let width = actions.extended_from(agent + 1);
+    Step {
+        up: number_of(new) * width,
+        down: number_of(old) * width,
+    }
+}
+
 // By what a sum of greatest entries changes: what is taken from it, and what is added.
 #[derive(Clone, Copy)]
 pub(crate) struct Change {
@@ -95,43 +83,40 @@ pub(crate) struct Change {
     pub come: i128,
 }
 
-// Makes a choice for a class in what is kept for each joint class that holds it.
+// Makes a choice for a class in the extended joint action of each joint class that holds it.
 pub(crate) fn change_class(
     actions: &JointActions,
     choices: &[AgentChoices],
-    table: &[i128],
+    best: &[i128],
     agent: usize,
     class: usize,
     choice: Option<u8>,
-    wanted: &mut [Option<u8>],
-    greatest: &mut [i128],
+    numbers: &mut [u16],
 ) -> Change
-    requires of_front { (e : ℤ) × IsOfSomeFront (game_with actions.now choices.now table.now e) }
-    requires after { (e : ℤ) × IsOfSomeFront (with_own_choice (game_with actions.now choices.now table.now e) agent
+    requires of_front { (e : ℤ) × IsOfSomeFront (game_kept actions.now choices.now best.now e) }
+    requires after { (e : ℤ) × IsOfSomeFront (with_own_choice (game_kept actions.now choices.now best.now e) agent
         class choice) }
     requires agent { agent < length choices.now }
     requires class { class < length (get_or choices.now agent []) }
-    requires as_many { length wanted.old ≡ product (own_counts choices.now) * length choices.now }
-    requires one_each { length greatest.old ≡ product (own_counts choices.now) }
-    requires before { (C : ℕ) → C < product (own_counts choices.now) →
-        IsKeptAt (game_with actions.now choices.now table.now (pos 0)) wanted.old greatest.old C }
-    ensures after { (C : ℕ) → C < product (own_counts choices.now) →
-        IsKeptAt (with_own_choice (game_with actions.now choices.now table.now (pos 0)) agent class choice)
-        wanted.new greatest.new C }
+    requires best { best.now ≡ greatest_table actions.now (whole_table actions.now
+        (product (own_counts choices.now)) best.now) (product (own_counts choices.now)) }
+    requires before { AreNumbersOf actions.now choices.now numbers.old }
+    ensures after { AreNumbersOf actions.now (with_own_choice (game_kept actions.now choices.now best.now (pos 0))
+        agent class choice).choices numbers.new }
     ensures gone { result.gone ≡ int_sum (product (without agent (own_counts choices.now))) (λ x.
-        best_entry (game_with actions.now choices.now table.now (pos 0))
+        best_entry (game_kept actions.now choices.now best.now (pos 0))
         (placed_number agent (own_counts choices.now) class x)) }
     ensures come { result.come ≡ int_sum (product (without agent (own_counts choices.now))) (λ x.
-        best_entry (with_own_choice (game_with actions.now choices.now table.now (pos 0)) agent class choice)
+        best_entry (with_own_choice (game_kept actions.now choices.now best.now (pos 0)) agent class choice)
         (placed_number agent (own_counts choices.now) class x)) }
 {
     let count = choices[agent].count();
     let width = width_from(choices, agent + 1);
+    let step = step_of(actions, agent, choices[agent].at(class), choice);
     let mut change = Change { gone: 0, come: 0 };
-    for other in 0..greatest.len() / count {
+    for other in 0..numbers.len() / count {
         let joint = place_of(other, count, class, width);
-        let at = change_place(actions, table, joint, agent, choice, wanted, greatest);
-        change = added(change, at);
+        change = added(change, change_place(best, joint, step, numbers));
     }
     change
 }
@@ -153,32 +138,29 @@ fn place_of(other: usize, count: usize, class: usize, width: usize) -> usize
     }
 }
 
-// The same in what is kept for one joint class.
+// The same in the extended joint action of one joint class.
 #[inline]
-fn change_place(
-    actions: &JointActions,
-    table: &[i128],
-    joint: usize,
-    agent: usize,
-    choice: Option<u8>,
-    wanted: &mut [Option<u8>],
-    greatest: &mut [i128],
-) -> Change
-    requires few { joint < 2 ^ 24 }
-    requires agent { agent < length actions.now }
-    requires table { joint * product actions.now + product actions.now ≤ length table.now }
-    requires wanted { joint * length actions.now + length actions.now ≤ length wanted.old }
-    requires greatest { joint < length greatest.old }
-    ensures wanted { wanted.new ≡ set wanted.old (joint * length actions.now + agent) choice }
-    ensures greatest { greatest.new ≡ set greatest.old joint result.come }
-    ensures gone { result.gone ≡ get_or greatest.old joint (pos 0) }
-    ensures come { result.come ≡ greatest_in actions.now table.now wanted.new joint }
+fn change_place(best: &[i128], joint: usize, step: Step, numbers: &mut [u16]) -> Change
+    requires joint { joint < length numbers.old }
+    requires few { length numbers.old ≤ 2 ^ 24 }
+    requires down { step.down ≤ get_or numbers.old joint 0 }
+    requires up { get_or numbers.old joint 0 - step.down + step.up < 2 ^ 16 }
+    requires gone { get_or numbers.old joint 0 * length numbers.old + joint < length best.now }
+    requires come { (get_or numbers.old joint 0 - step.down + step.up) * length numbers.old + joint
+        < length best.now }
+    ensures numbers { numbers.new ≡ set numbers.old joint (get_or numbers.old joint 0 - step.down + step.up) }
+    ensures gone { result.gone ≡ get_or best.now (get_or numbers.old joint 0 * length numbers.old + joint) (pos 0) }
+    ensures come { result.come ≡ get_or best.now ((get_or numbers.old joint 0 - step.down + step.up)
+        * length numbers.old + joint) (pos 0) }
 {
-    let gone = entry_at(greatest, joint);
-    wanted[joint * actions.agents() + agent] = choice;
-    let come = greatest_entry(actions, table, wanted, joint);
-    greatest[joint] = come;
-    Change { gone, come }
+    let joints = numbers.len();
+    let old = numbers[joint] as usize;
+    let new = old - step.down + step.up;
+    numbers[joint] = new as u16;
+    Change {
+        gone: entry_at(best, old * joints + joint),
+        come: entry_at(best, new * joints + joint),
+    }
 }
 
 // Two changes, one after the other.

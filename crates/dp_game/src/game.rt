@@ -16,9 +16,11 @@ ghost use Rattle.dp_game.specs.Kept.{IsOfSomeFront};
 
 use crate::Bounder;
 use crate::actions::JointActions;
-use crate::change::{bound_with, change_class, greatest_entries, moved};
+use crate::change::{bound_of, change_class, moved};
 use crate::choices::{AgentChoices, choices_of, copied_choices};
-use crate::places::{joint_count, wanted_choices};
+use crate::greatest::greatest_table;
+use crate::numbers::class_numbers;
+use crate::places::joint_count;
 use crate::table::look_ahead_table;
 use dp_base::Memory;
 use dp_cluster::Front;
@@ -38,26 +40,25 @@ use std::rc::Rc;
 pub struct Game {
     actions: Rc<JointActions>,
     choices: Vec<AgentChoices>,
-    // The choices leave it as it is, so the games of a stage share it.
-    table: Rc<Vec<i128>>,
-    // Joint class by joint class, the choice for each agent's class.
-    wanted: Vec<Option<u8>>,
-    // Joint class by joint class, the greatest entry that agrees with these.
-    greatest: Vec<i128>,
+    // For each extended joint action a row of the greatest entries of the joint classes that agree with it. The
+    // choices leave them as they are, so the games of a stage share them.
+    best: Rc<Vec<i128>>,
+    // Joint class by joint class, the extended joint action of the choices for its classes.
+    numbers: Vec<u16>,
     earned: i128,
     bound: i128,
 }
 
 impl std::marker::Model for Game {
     ghost use Rattle.dp_game.specs.Games.{KeptGame};
-    ghost use Rattle.dp_game.specs.Kept.{IsKept, game_with};
+    ghost use Rattle.dp_game.specs.Extended.{IsKeptBy, game_kept};
 
     ghost Value = { KeptGame };
 
-    ghost view = { λ g. game_with g.actions.value g.choices.items g.table.value.items g.earned };
+    ghost view = { λ g. game_kept g.actions.value g.choices.items g.best.value.items g.earned };
 
-    ghost invariant = { λ g. IsKept (game_with g.actions.value g.choices.items g.table.value.items g.earned)
-        g.wanted.items g.greatest.items g.bound };
+    ghost invariant = { λ g. IsKeptBy (game_kept g.actions.value g.choices.items g.best.value.items g.earned)
+        g.best.value.items g.numbers.items g.bound };
 }
 
 impl Game {
@@ -106,16 +107,15 @@ impl Game {
         let choices = choices_of(alloc, front, model.agents())?;
         let count = joint_count(&choices);
         let table = look_ahead_table(alloc, model, front, bounder, count, room)?;
-        let wanted = wanted_choices(alloc, &choices, count)?;
-        let greatest = greatest_entries(alloc, &actions, &table, &wanted, count)?;
+        let best = greatest_table(alloc, &actions, &table, count)?;
+        let numbers = class_numbers(alloc, &actions, &choices)?;
         let earned = front.earned().high;
-        let bound = bound_with(earned, &greatest);
+        let bound = bound_of(earned, &best, &numbers);
         Ok(Game {
             actions: Rc::new(alloc, actions)?,
             choices,
-            table: Rc::new(alloc, table)?,
-            wanted,
-            greatest,
+            best: Rc::new(alloc, best)?,
+            numbers,
             earned,
             bound,
         })
@@ -163,7 +163,7 @@ impl Game {
         self.put(agent as usize, class as usize, Some(action as u8));
     }
 
-    /// The game after an action is chosen for a class that has none. The table is shared with this one.
+    /// The game after an action is chosen for a class that has none. What the joint classes can earn is shared with this one.
     /// The only error is want of memory.
     pub fn with_choice(
         &self,
@@ -206,9 +206,8 @@ impl Game {
         Ok(Game {
             actions: self.actions.clone()?,
             choices,
-            table: self.table.clone()?,
-            wanted: Vec::from_slice(alloc, &self.wanted)?,
-            greatest: Vec::from_slice(alloc, &self.greatest)?,
+            best: self.best.clone()?,
+            numbers: Vec::from_slice(alloc, &self.numbers)?,
             earned: self.earned,
             bound: self.bound,
         })
@@ -224,12 +223,11 @@ impl Game {
         let change = change_class(
             self.actions.as_ref(),
             &self.choices,
-            self.table.as_ref(),
+            self.best.as_ref(),
             agent,
             class,
             choice,
-            &mut self.wanted,
-            &mut self.greatest,
+            &mut self.numbers,
         );
         self.bound = moved(self.bound, change.gone, change.come);
         let own = &mut self.choices[agent];

@@ -8,6 +8,8 @@ mod change;
 mod choices;
 mod deeper;
 mod game;
+mod greatest;
+mod numbers;
 mod places;
 mod table;
 
