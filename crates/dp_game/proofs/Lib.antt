@@ -7,6 +7,7 @@ pub mod Changes
 pub mod Choosing
 pub mod ClassPlaces
 pub mod LookAheadRows
+pub mod LooksBefore
 pub mod Made
 pub mod OwnChoices
 pub mod Rows

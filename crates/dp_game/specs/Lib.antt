@@ -1,3 +1,4 @@
 pub mod Bounders
+pub mod DeeperLooks
 pub mod Games
 pub mod Kept

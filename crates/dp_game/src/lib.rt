@@ -7,9 +7,11 @@ mod bounder;
 mod change;
 mod choices;
 mod deeper;
+mod deeper_looks;
 mod game;
 mod places;
 mod table;
 
 pub use bounder::Bounder;
+pub use deeper_looks::DeeperLooks;
 pub use game::Game;
