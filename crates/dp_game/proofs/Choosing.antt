@@ -18,10 +18,10 @@ use Rattle.dp_game.proofs.OwnChoices.{as_many_choices, assigned_of, choices_made
 use Rattle.dp_game.proofs.OwnChoices.{unassigned_of}
 
 -- two fronts of one stage have as many classes, weigh alike and have earned the same
-record AreAlike (A : Arithmetic) (m : Model) (h : ℕ) (F G : Front) : Type 0 where
-  counts : class_counts G.agents ≡ class_counts F.agents
-  weights : class_weight_in A m G ≡ class_weight_in A m F
-  earned : earned_reward_in A m (fixed_joint_action m G) h F.stage
+pub record AreAlike (A : Arithmetic) (m : Model) (h : ℕ) (F G : Front) : Type 0 where
+  pub counts : class_counts G.agents ≡ class_counts F.agents
+  pub weights : class_weight_in A m G ≡ class_weight_in A m F
+  pub earned : earned_reward_in A m (fixed_joint_action m G) h F.stage
       ≡ earned_reward_in A m (fixed_joint_action m F) h
       F.stage
 
@@ -33,7 +33,7 @@ module _ (A : Arithmetic) (m : Model) (h : ℕ) (F : Front) (i c a : ℕ) where
       cond (eqb (joint_class_chosen m F i c a k H) C) (history_weight_in A m (actions_chosen m F i c a k) H s)
       (point (pos 0)))
 
-  chosen_alike : AreAlike A m h F (chosen_front F i c a)
+  pub chosen_alike : AreAlike A m h F (chosen_front F i c a)
   chosen_alike = record {
     counts = counts_chosen i c a F.agents;
     weights = weights_chosen;

@@ -9,6 +9,7 @@ pub mod ClassNumbers
 pub mod ClassPlaces
 pub mod Extended
 pub mod LookAheadRows
+pub mod LooksBefore
 pub mod Made
 pub mod OwnChoices
 pub mod Rows

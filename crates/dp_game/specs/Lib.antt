@@ -1,4 +1,5 @@
 pub mod Bounders
+pub mod DeeperLooks
 pub mod Extended
 pub mod Games
 pub mod Kept

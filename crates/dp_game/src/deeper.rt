@@ -16,6 +16,7 @@ ghost use Rattle.dp_cluster.specs.KeptFronts.{IsFrontOf};
 ghost use Rattle.dp_pomdp.specs.Looking.{weights_of};
 ghost use Rattle.dp_pomdp.specs.Rooms.{IsRoomFor};
 ghost use Rattle.dp_game.specs.Bounders.{IsBounderOf};
+ghost use Rattle.dp_game.specs.DeeperLooks.{AreLooksBefore, AreLooksFor};
 ghost use Rattle.dp_game.specs.Games.{allowed_actions};
 ghost use Rattle.dp_game.specs.Kept.{IsWithinCells, greatest_look_in};
 
@@ -23,6 +24,7 @@ use crate::Bounder;
 use crate::actions::{JointActions, either, greater};
 use crate::change::{bound_with, choices_kept};
 use crate::choices::choices_of;
+use crate::deeper_looks::DeeperLooks;
 use crate::places::{joint_count, wanted_choices};
 use dp_base::Memory;
 use dp_cluster::Front;
@@ -33,13 +35,15 @@ use std::alloc::Global;
 
 impl Bounder {
     /// The bound of a front before the horizon, with room, with a look of one step more than the bounder's,
-    /// which is less than 16. Only joint actions that agree with the choices are looked at, so it takes the
-    /// least time where most classes have an action. The only error is want of memory.
+    /// which is less than 16. Only joint actions that agree with the choices are looked at, and those of a joint
+    /// class only where the looks of the front before the last choice (`Bounder::deeper_looks`) have none for
+    /// its choices. The only error is want of memory.
     pub fn deeper_bound(
         &self,
         alloc: Global,
         model: &Model,
         front: &Front,
+        before: &DeeperLooks,
         room: &mut LookRoom,
     ) -> Result<i128, Memory>
         requires bounder { IsBounderOf model.now.model self.now }
@@ -48,6 +52,7 @@ impl Bounder {
         requires horizon { front.now.horizon ≡ self.now.horizon }
         requires stage { front.now.front.stage < front.now.horizon }
         requires room { has_room model.now.model front.now.horizon front.now.front ≡ true }
+        requires before { AreLooksBefore model.now.model self.now front.now.front before.now }
         requires look_room { IsRoomFor self.now.is_exact model.now.model self.now.look room.old }
         ensures is { IfOk result (λ x. x ≡ front_bound
             (arithmetic (is_exact_mode model.now.model front.now.horizon) model.now.model.scales) model.now.model
@@ -56,7 +61,7 @@ impl Bounder {
     {
         let look = self.look() + 1;
         room.reach(alloc, model, look)?;
-        let bound = bound_of(alloc, model, front, self, look, room)?;
+        let bound = bound_of(alloc, model, front, self, look, before, room)?;
         Ok(bound)
     }
 }
@@ -68,6 +73,7 @@ fn bound_of(
     front: &Front,
     bounder: &Bounder,
     look: u32,
+    before: &DeeperLooks,
     room: &mut LookRoom,
 ) -> Result<i128, Memory>
     requires of_model { IsFrontOf model.now.model front.now }
@@ -76,6 +82,8 @@ fn bound_of(
     requires stage { front.now.front.stage < front.now.horizon }
     requires room { has_room model.now.model front.now.horizon front.now.front ≡ true }
     requires some_look { 0 < look }
+    requires look { look ≤ 16 }
+    requires before { AreLooksFor model.now.model bounder.now front.now.front look before.now }
     requires look_room { IsRoomFor bounder.now.is_exact model.now.model look room.old }
     ensures is { IfOk result (λ x. x ≡ front_bound
         (arithmetic (is_exact_mode model.now.model front.now.horizon) model.now.model.scales) model.now.model
@@ -87,7 +95,7 @@ fn bound_of(
     let count = joint_count(&choices);
     let wanted = wanted_choices(alloc, &choices, count)?;
     let greatest = greatest_looks(
-        alloc, model, front, bounder, look, &actions, &wanted, count, room,
+        alloc, model, front, bounder, look, &actions, &wanted, count, before, room,
     )?;
     let bound = bound_with(front.earned().high, &greatest);
     Ok(bound)
@@ -104,6 +112,7 @@ fn greatest_looks(
     actions: &JointActions,
     wanted: &[Option<u8>],
     count: usize,
+    before: &DeeperLooks,
     room: &mut LookRoom,
 ) -> Result<Vec<i128>, Memory>
     requires of_model { IsFrontOf model.now.model front.now }
@@ -116,6 +125,8 @@ fn greatest_looks(
     requires few { count ≤ 2 ^ 24 }
     requires wanted { length wanted.now ≡ count * length actions.now }
     requires some_look { 0 < look }
+    requires look { look ≤ 16 }
+    requires before { AreLooksFor model.now.model bounder.now front.now.front look before.now }
     requires room { IsRoomFor bounder.now.is_exact model.now.model look room.old }
     ensures is { IfOk result (λ v. v.items ≡ map (greatest_look_in
         (arithmetic bounder.now.is_exact model.now.model.scales) model.now.model
@@ -125,14 +136,16 @@ fn greatest_looks(
 {
     let mut greatest = Vec::new(alloc);
     for joint in 0..count {
-        let value = greatest_look(model, front, bounder, look, actions, wanted, joint, room);
+        let value = look_at(
+            model, front, bounder, look, actions, wanted, joint, before, room,
+        )?;
         greatest.push(value)?;
     }
     Ok(greatest)
 }
 
-// That of one joint class.
-fn greatest_look(
+// That of one joint class, which need not be computed where it is among those before.
+fn look_at(
     model: &Model,
     front: &Front,
     bounder: &Bounder,
@@ -140,8 +153,9 @@ fn greatest_look(
     actions: &JointActions,
     wanted: &[Option<u8>],
     joint: usize,
+    before: &DeeperLooks,
     room: &mut LookRoom,
-) -> i128
+) -> Result<i128, Memory>
     requires of_model { IsFrontOf model.now.model front.now }
     requires bounder { IsBounderOf model.now.model bounder.now }
     requires horizon { front.now.horizon ≡ bounder.now.horizon }
@@ -152,14 +166,53 @@ fn greatest_look(
     requires few { joint < 2 ^ 24 }
     requires wanted { joint * length actions.now + length actions.now ≤ length wanted.now }
     requires some_look { 0 < look }
+    requires look { look ≤ 16 }
+    requires before { AreLooksFor model.now.model bounder.now front.now.front look before.now }
     requires room { IsRoomFor bounder.now.is_exact model.now.model look room.old }
-    ensures is { result ≡ greatest_look_in (arithmetic bounder.now.is_exact model.now.model.scales) model.now.model
-        (bounder.now.horizon - front.now.front.stage - 1) front.now.front look actions.now wanted.now joint }
+    ensures is { IfOk result (λ x. x ≡ greatest_look_in (arithmetic bounder.now.is_exact model.now.model.scales)
+        model.now.model (bounder.now.horizon - front.now.front.stage - 1) front.now.front look actions.now
+        wanted.now joint) }
+    ensures room { IsRoomFor bounder.now.is_exact model.now.model look room.new }
+{
+    let own = choices_kept(wanted, joint, actions.agents());
+    if let Some(value) = before.look_for(joint, own) {
+        return Ok(value);
+    }
+    let value = greatest_look(model, front, bounder, look, actions, wanted, joint, room)?;
+    Ok(value)
+}
+
+// The greatest look-ahead of one joint class.
+pub(crate) fn greatest_look(
+    model: &Model,
+    front: &Front,
+    bounder: &Bounder,
+    look: u32,
+    actions: &JointActions,
+    wanted: &[Option<u8>],
+    joint: usize,
+    room: &mut LookRoom,
+) -> Result<i128, Memory>
+    requires of_model { IsFrontOf model.now.model front.now }
+    requires bounder { IsBounderOf model.now.model bounder.now }
+    requires horizon { front.now.horizon ≡ bounder.now.horizon }
+    requires stage { front.now.front.stage < front.now.horizon }
+    requires cells { IsWithinCells model.now.model front.now }
+    requires actions { actions.now ≡ model.now.model.actions }
+    requires joint { joint < product (class_counts front.now.front.agents) }
+    requires few { joint < 2 ^ 24 }
+    requires wanted { joint * length actions.now + length actions.now ≤ length wanted.now }
+    requires some_look { 0 < look }
+    requires look { look ≤ 16 }
+    requires room { IsRoomFor bounder.now.is_exact model.now.model look room.old }
+    ensures is { IfOk result (λ x. x ≡ greatest_look_in (arithmetic bounder.now.is_exact model.now.model.scales)
+        model.now.model (bounder.now.horizon - front.now.front.stage - 1) front.now.front look actions.now
+        wanted.now joint) }
     ensures room { IsRoomFor bounder.now.is_exact model.now.model look room.new }
 {
     let own = choices_kept(wanted, joint, actions.agents());
     let weights = front.class_weights(joint);
-    look_of_best(
+    let best = look_of_best(
         model,
         front.stage(),
         bounder,
@@ -168,7 +221,8 @@ fn greatest_look(
         actions,
         own,
         room,
-    )
+    )?;
+    Ok(best)
 }
 
 // The greatest look-ahead from weights of the joint actions that agree with one choice or none for each
@@ -182,7 +236,7 @@ fn look_of_best(
     actions: &JointActions,
     wanted: &[Option<u8>],
     room: &mut LookRoom,
-) -> i128
+) -> Result<i128, Memory>
     requires bounder { IsBounderOf model.now.model bounder.now }
     requires time { stage < bounder.now.horizon }
     requires one_each { length weights.now ≡ model.now.model.states }
@@ -190,10 +244,12 @@ fn look_of_best(
     requires actions { actions.now ≡ model.now.model.actions }
     requires wanted { length wanted.now ≡ length actions.now }
     requires some_look { 0 < look }
+    requires look { look ≤ 16 }
     requires room { IsRoomFor bounder.now.is_exact model.now.model look room.old }
-    ensures is { result ≡ greatest (λ a. action_look_ahead_in (arithmetic bounder.now.is_exact model.now.model.scales)
-        model.now.model (bounder.now.horizon - stage - 1) (weights_of weights.now) a look)
-        (allowed_actions actions.now wanted.now) }
+    ensures is { IfOk result (λ x. x ≡ greatest (λ a. action_look_ahead_in
+        (arithmetic bounder.now.is_exact model.now.model.scales) model.now.model
+        (bounder.now.horizon - stage - 1) (weights_of weights.now) a look)
+        (allowed_actions actions.now wanted.now)) }
     ensures room { IsRoomFor bounder.now.is_exact model.now.model look room.new }
 {
     let mut some = false;
@@ -211,10 +267,10 @@ fn look_of_best(
             some,
             best,
             room,
-        );
+        )?;
         some = either(some, agrees);
     }
-    best
+    Ok(best)
 }
 
 // The greatest so far: where a joint action counts, the greater of its look-ahead and of those before it, if
@@ -230,23 +286,25 @@ fn look_of_greater(
     some: bool,
     best: i128,
     room: &mut LookRoom,
-) -> i128
+) -> Result<i128, Memory>
     requires bounder { IsBounderOf model.now.model bounder.now }
     requires time { stage < bounder.now.horizon }
     requires one_each { length weights.now ≡ model.now.model.states }
     requires weights { AreWeights bounder.now.is_exact model.now.model stage (weights_of weights.now) }
     requires action { action < joint_actions model.now.model }
     requires some_look { 0 < look }
+    requires look { look ≤ 16 }
     requires room { IsRoomFor bounder.now.is_exact model.now.model look room.old }
-    ensures is { (x : ℤ) → x ≡ action_look_ahead_in (arithmetic bounder.now.is_exact model.now.model.scales)
-        model.now.model (bounder.now.horizon - stage - 1) (weights_of weights.now) action look →
-        result ≡ cond counts (cond some (int_max x best) x) best }
+    ensures is { IfOk result (λ y. (x : ℤ) →
+        x ≡ action_look_ahead_in (arithmetic bounder.now.is_exact model.now.model.scales) model.now.model
+        (bounder.now.horizon - stage - 1) (weights_of weights.now) action look →
+        y ≡ cond counts (cond some (int_max x best) x) best) }
     ensures room { IsRoomFor bounder.now.is_exact model.now.model look room.new }
 {
     if !counts {
-        return best;
+        return Ok(best);
     }
-    let value = room.action_bound(
+    let value = room.kept_action_bound(
         model,
         bounder.fit(),
         bounder.table(),
@@ -254,6 +312,6 @@ fn look_of_greater(
         stage,
         action,
         look,
-    );
-    greater(true, some, best, value)
+    )?;
+    Ok(greater(true, some, best, value))
 }

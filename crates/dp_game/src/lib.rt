@@ -7,6 +7,7 @@ mod bounder;
 mod change;
 mod choices;
 mod deeper;
+mod deeper_looks;
 mod game;
 mod greatest;
 mod numbers;
@@ -14,4 +15,5 @@ mod places;
 mod table;
 
 pub use bounder::Bounder;
+pub use deeper_looks::DeeperLooks;
 pub use game::Game;

@@ -9,6 +9,7 @@ ghost use Rattle.dp_spec.specs.Wide.{is_wide, unassigned_count};
 ghost use Rattle.dp_cluster.specs.KeptFronts.{IsFrontOf};
 ghost use Rattle.dp_pomdp.specs.Rooms.{IsRoomFor};
 ghost use Rattle.dp_game.specs.Bounders.{IsBounderOf};
+ghost use Rattle.dp_game.specs.DeeperLooks.{AreDeeperLooksOf};
 ghost use Rattle.dp_search.specs.declared.held_front.HeldFront.{HeldFront as SpecHeld};
 ghost use Rattle.dp_search.specs.declared.planner.Child.{Child as SpecChild};
 ghost use Rattle.dp_search.specs.FrontPlanners.{IsPlannerFront};
@@ -23,7 +24,7 @@ use crate::path::{Choice, Path};
 use crate::planner::Child;
 use dp_base::Memory;
 use dp_cluster::Front;
-use dp_game::Bounder;
+use dp_game::{Bounder, DeeperLooks};
 use dp_model::Model;
 use dp_pomdp::LookRoom;
 use std::alloc::Global;
@@ -44,7 +45,8 @@ pub(crate) fn is_last_step(bounder: &Bounder, front: &Front, one: bool) -> bool
         && bounder.look() < 16
 }
 
-/// The fronts after the actions for the one class without an action, in order, with their bounds.
+/// The fronts after the actions for the one class without an action, in order, with their bounds. The joint classes
+/// that do not hold the class are looked at once for all of them.
 pub(crate) fn last_children(
     alloc: Global,
     model: &Model,
@@ -73,6 +75,7 @@ pub(crate) fn last_children(
         All (IsHeldChild model.now.model bounder.now.horizon bounder.now.look merging) v.items) }
     ensures look_room { IsRoomFor bounder.now.is_exact model.now.model bounder.now.look room.new }
 {
+    let before = bounder.deeper_looks(alloc, model, front, room)?;
     let mut children = Vec::new(alloc);
     for action in 0..model.actions(agent) {
         let choice = Choice {
@@ -80,19 +83,21 @@ pub(crate) fn last_children(
             class,
             action,
         };
-        let child = last_child(alloc, model, bounder, path, front, choice, room)?;
+        let child = last_child(alloc, model, bounder, path, front, &before, choice, room)?;
         children.push(child)?;
     }
     Ok(children)
 }
 
-// The front after a choice for the one class without an action, with its bound. It is held without being made.
+// The front after a choice for the one class without an action, with its bound, from the looks of the front
+// before. It is held without being made.
 fn last_child(
     alloc: Global,
     model: &Model,
     bounder: &Bounder,
     path: &Rc<Path>,
     front: &Front,
+    before: &DeeperLooks,
     choice: Choice,
     room: &mut LookRoom,
 ) -> Result<Child<HeldFront>, Memory>
@@ -102,6 +107,7 @@ fn last_child(
     requires last { IsLastStep bounder.now.look front.now }
     requires narrow { (above : ℕ) ×
         (is_wide model.now.model bounder.now.horizon above front.now.front ≡ false) }
+    requires before { AreDeeperLooksOf model.now.model bounder.now front.now.front before.now }
     requires unassigned { IsUnassigned choice.agent choice.class front.now.front.agents }
     requires action { choice.action < get_or model.now.model.actions choice.agent 0 }
     requires look_room { IsRoomFor bounder.now.is_exact model.now.model bounder.now.look room.old }
@@ -114,7 +120,7 @@ fn last_child(
         IsHeldChild model.now.model bounder.now.horizon bounder.now.look merging c) }
     ensures look_room { IsRoomFor bounder.now.is_exact model.now.model bounder.now.look room.new }
 {
-    let bound = last_bound(alloc, model, bounder, front, choice, room)?;
+    let bound = last_bound(alloc, model, bounder, front, before, choice, room)?;
     let after = Path::chosen(path, choice)?;
     let held = HeldFront {
         path: Rc::new(alloc, after)?,
@@ -131,12 +137,14 @@ fn last_bound(
     model: &Model,
     bounder: &Bounder,
     front: &Front,
+    before: &DeeperLooks,
     choice: Choice,
     room: &mut LookRoom,
 ) -> Result<i128, Memory>
     requires bounder { IsBounderOf model.now.model bounder.now }
     requires front { IsPlannerFront model.now.model bounder.now.horizon front.now }
     requires last { IsLastStep bounder.now.look front.now }
+    requires before { AreDeeperLooksOf model.now.model bounder.now front.now.front before.now }
     requires unassigned { IsUnassigned choice.agent choice.class front.now.front.agents }
     requires action { choice.action < get_or model.now.model.actions choice.agent 0 }
     requires look_room { IsRoomFor bounder.now.is_exact model.now.model bounder.now.look room.old }
@@ -145,6 +153,6 @@ fn last_bound(
     ensures look_room { IsRoomFor bounder.now.is_exact model.now.model bounder.now.look room.new }
 {
     let chosen = front.assign(alloc, choice.agent, choice.class, choice.action)?;
-    let bound = bounder.deeper_bound(alloc, model, &chosen, room)?;
+    let bound = bounder.deeper_bound(alloc, model, &chosen, before, room)?;
     Ok(bound)
 }

@@ -22,10 +22,10 @@ returns-clause-is c =
     let m = c.args.model.now.model in
     let b = c.args.bounder.now in
     let weights = c.class_weights-weights in
-    let fits : SFits w128 c.look_of_best.result = search rules in
+    let fits : SFits w128 c.in_ok-best.best = search (rules, c.look_of_best.type_inv) in
     let own = c.choices_kept-own.ensures ∙ ap (λ (n : ℕ). take n (drop (c.args.joint * n) c.args.wanted.now))
     c.agents.ensures.is in
-    to_z-of_z w128 _ fits ∙ c.look_of_best.ensures.is
+    to_z-of_z w128 _ fits ∙ c.in_ok-best.ensures.is
     ∙ (λ j. greatest (λ a. action_look_ahead_in (arithmetic b.is_exact m.scales) m
     (b.horizon - c.stage.ensures j - 1) (weights_of weights.result.now) a c.args.look)
     (allowed_actions c.args.actions.now (own j)))

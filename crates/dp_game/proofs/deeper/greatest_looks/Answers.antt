@@ -12,11 +12,11 @@ loop-joint-preserved c =
     let m = c.args.model.now.model in
     let b = c.args.bounder.now in
     let front = c.args.front.now.front in
-    let fits : SFits w128 c.greatest_look-value.result = search rules in (
+    let fits : SFits w128 c.in_ok-value.value = search (rules, c.look_at.type_inv) in (
       next_made (greatest_look_in (arithmetic b.is_exact m.scales) m (b.horizon - front.stage - 1) front
           c.args.look c.args.actions.now c.args.wanted.now)
           c.loop-joint.greatest.items c.push.new.self.items c.loop-joint.joint _
-          (to_z-of_z w128 _ fits ∙ c.greatest_look-value.ensures.is) c.in_ok-push.ensures.items
+          (to_z-of_z w128 _ fits ∙ c.in_ok-value.ensures.is) c.in_ok-push.ensures.items
           c.loop-joint.invariant.0,
-      c.greatest_look-value.ensures.room,
+      c.look_at.ensures.room,
     )

@@ -13,8 +13,8 @@ use Rattle.dp_game.specs.Games.{each_agrees}
 use Rattle.dp_game.proofs.Agreement.{next_best, next_some}
 use Rattle.dp_game.proofs.deeper.look_of_best.Goals as goal
 
-pub look_of_greater-best-requires-clause-action : goal.look_of_greater-best-requires-clause-action
-look_of_greater-best-requires-clause-action c =
+pub look_of_greater-requires-clause-action : goal.look_of_greater-requires-clause-action
+look_of_greater-requires-clause-action c =
     let m = c.args.model.now.model in
     let all : product c.args.actions.now ≡ joint_actions m =
     ap product c.requires.actions ∙ sym (actions_product m) in
@@ -24,17 +24,17 @@ pub loop-action-preserved : goal.loop-action-preserved
 loop-action-preserved c =
     let m = c.args.model.now.model in
     let b = c.args.bounder.now in
-    let fits : SFits w128 c.look_of_greater-best.result = search rules in
+    let fits : SFits w128 c.in_ok-best.best = search (rules, c.look_of_greater.type_inv) in
     let f = λ (a : ℕ). action_look_ahead_in (arithmetic b.is_exact m.scales) m (b.horizon - c.args.stage - 1)
     (weights_of c.args.weights.now) a c.args.look in
     let p = λ (a : ℕ). each_agrees c.args.wanted.now (parts_of c.args.actions.now a) in
     let k = c.loop-action.action in
-    let new = c.look_of_greater-best.ensures.is (f k) refl in
-    let step = next_best f p k c.loop-action.some c.agrees-agrees.result _ (f k) c.look_of_greater-best.result
+    let new = c.in_ok-best.ensures.is (f k) refl in
+    let step = next_best f p k c.loop-action.some c.agrees-agrees.result _ (f k) c.in_ok-best.best
     c.agrees-agrees.ensures refl c.loop-action.invariant.0 c.loop-action.invariant.1 new in
-    let some = next_some f p k c.loop-action.some c.agrees-agrees.result _ (f k) c.look_of_greater-best.result
+    let some = next_some f p k c.loop-action.some c.agrees-agrees.result _ (f k) c.in_ok-best.best
     c.agrees-agrees.ensures refl c.loop-action.invariant.0 c.loop-action.invariant.1 new in
-    (c.either-some.ensures ∙ some, to_z-of_z w128 _ fits ∙ step, c.look_of_greater-best.ensures.room)
+    (c.either-some.ensures ∙ some, to_z-of_z w128 _ fits ∙ step, c.look_of_greater.ensures.room)
 
 pub returns-clause-is : goal.returns-clause-is
 returns-clause-is c =

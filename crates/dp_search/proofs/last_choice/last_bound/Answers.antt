@@ -17,6 +17,16 @@ deeper_bound-requires-clause-room c =
     c.args.choice.action
     ∙ ap (λ (n : ℕ). has_room m n c.args.front.now.front) c.requires.front.horizon ∙ c.requires.front.room
 
+pub deeper_bound-requires-clause-before : goal.deeper_bound-requires-clause-before
+deeper_bound-requires-clause-before c = record {
+  before = c.args.front.now.front;
+  agent = c.args.choice.agent;
+  class = c.args.choice.class;
+  action = c.args.choice.action;
+  chosen = ap (λ (k : KeptFront). k.front) c.in_ok-chosen.ensures.is;
+  looks = c.requires.before;
+}
+
 pub returns-clause-bound : goal.returns-clause-bound
 returns-clause-bound c =
     let m = c.args.model.now.model in
