@@ -12,7 +12,7 @@ use Rattle.dp_cluster.proofs.ChosenActions.{agents_of}
 use Rattle.dp_game.specs.Games.{choices_in, own_counts}
 use Rattle.dp_game.specs.Kept.{game_with, greatest_look_in, look_ahead_row, rows_of}
 use Rattle.dp_game.proofs.Bounds.{bound_is}
-use Rattle.dp_game.proofs.Made.{cells, choices_small, few_front, game, kept, looks_are, parts_fit, wanted_rows}
+use Rattle.dp_game.proofs.Made.{cells, choices_small, few_front, game, looks_are, parts_fit, summed, wanted_rows}
 use Rattle.dp_game.proofs.OwnChoices.{counts_of}
 use Rattle.dp_game.proofs.deeper.bound_of.Goals as goal
 
@@ -130,8 +130,8 @@ returns-clause-is c =
     let is = game m k b c.requires.of_model c.requires.bounder c.requires.horizon c.requires.stage c.requires.room
     c.args.look actions choices count table c.earned.result c.in_ok-actions.ensures c.in_ok-choices.ensures counted
     refl earned in
-    let keeps = kept m k b c.requires.of_model c.requires.bounder c.requires.horizon c.requires.stage
+    let keeps = summed m k b c.requires.of_model c.requires.bounder c.requires.horizon c.requires.stage
     c.requires.room c.args.look actions choices count table c.earned.result c.in_ok-actions.ensures
     c.in_ok-choices.ensures counted refl earned wanted wants c.in_ok-greatest.greatest.items _ greatest bound in
-    keeps.is_bound ∙ bound_is m k.horizon c.args.look k.front (game_with actions choices table c.earned.result.high)
+    keeps ∙ bound_is m k.horizon c.args.look k.front (game_with actions choices table c.earned.result.high)
     is
