@@ -1,9 +1,6 @@
 -- Proportions in lowest terms.
 use Rattle.std.proofs.Common.{◌≡◌, ◌↔◌, ℕ, zero, suc, ◌*◌, ◌/◌, ◌<◌, sym, ap, subst, ◌∙◌, arith}
-use Rattle.std.proofs.Common.{IsTrue, Option, None, Some, nat_eq, eq-eqb}
-use Rattle.std.proofs.lemmas.Bool.{eqb-true}
 use Rattle.std.specs.Int.{◌∣◌, IsGcd}
-use Rattle.std.specs.Option.{SomeIff, option_eq}
 use Rattle.std.proofs.Math.Nat.{div-mul_cancel, dvd-mul_left, dvd_of_mul-dvd-mul_right, mul-dvd-mul_right, one-dvd}
 use Rattle.std.proofs.Math.Nat.{eq_of_mul-eq-mul_right}
 use Rattle.std.proofs.lemmas.Nat.Gcd.{same_from_IsGcd}
@@ -70,9 +67,3 @@ second_times q t u a b some first = (
   where
     turned : q * u * t ≡ a * u
     turned = omega (arith, ap (λ k. k * u) first)
-
--- a product that may not fit is compared with a number that does
-pub checked_same : (r : Option ℕ) (limit n b : ℕ) → SomeIff r (n < limit) n → b < limit
-    → IsTrue (option_eq nat_eq r (Some b)) ↔ (n ≡ b)
-checked_same None limit n b above fits = (λ yes. cc, λ e. absurd (above (omega arith)))
-checked_same (Some x) limit n b is fits = (λ yes. sym is.1 ∙ eqb-true x b yes, λ e. eq-eqb x b (is.1 ∙ e))

@@ -122,7 +122,7 @@ impl Front {
         for row in 0..places.rows {
             let one = self.run(places, first, row);
             let other = self.run(places, second, row);
-            if let Some(at) = first_apart(one, other, totals) {
+            if let Some(at) = first_apart(one, other, &totals) {
                 return Some((row * places.width + at) as u32);
             }
         }
@@ -154,11 +154,11 @@ fn run_total(run: &[Span]) -> u128
 }
 
 // The first place at which the weights of two runs are not in the proportion of their totals.
-fn first_apart(one: &[Span], other: &[Span], totals: Proportion) -> Option<usize>
+fn first_apart(one: &[Span], other: &[Span], totals: &Proportion) -> Option<usize>
     requires alike { length other.now ≡ length one.now }
     ensures { MatchOption result
-        ((j : ℕ) → j < length one.now → low_at one.now j * totals.second ≡ low_at other.now j * totals.first)
-        (IsFirstWithout (λ j. low_at one.now j * totals.second ≡ low_at other.now j * totals.first)
+        ((j : ℕ) → j < length one.now → low_at one.now j * totals.now.second ≡ low_at other.now j * totals.now.first)
+        (IsFirstWithout (λ j. low_at one.now j * totals.now.second ≡ low_at other.now j * totals.now.first)
         (length one.now)) }
 {
     for at in 0..one.len() {
