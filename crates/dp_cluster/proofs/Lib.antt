@@ -1,5 +1,5 @@
 pub mod OwnParts
-pub mod Comparing
+pub mod Proportions
 pub mod FrontParts
 pub mod FullFronts
 pub mod JoinedFronts

@@ -1,5 +1,5 @@
 -- The weights of one agent's classes, run by run: totals, and the first place where two classes differ.
-use Rattle.std.proofs.Common.{◌≡◌, ◌⊎◌, inl, inr, ℕ, zero, suc, ◌+◌, ◌-◌, ◌*◌, ◌<◌, ◌≤◌, ◌^◌, List, length, ℤ}
+use Rattle.std.proofs.Common.{◌↔◌, ◌≡◌, ◌⊎◌, inl, inr, ℕ, zero, suc, ◌+◌, ◌-◌, ◌*◌, ◌<◌, ◌≤◌, ◌^◌, List, length, ℤ}
 use Rattle.std.proofs.Common.{unsigned_abs, [], ◌∷◌, ◌++◌, map, refl, sym, ap, ◌∙◌, subst, arith}
 use Rattle.std.specs.List.{range_with_len}
 use Rattle.std.proofs.lemmas.List.{append_assoc, append-nil}
@@ -147,6 +147,15 @@ pub record AreRunsOf (ws : List Span) (rows n w row a b : ℕ) (one other : List
   pub second : (j : ℕ) → j < w → low_end other j ≡ low_end ws ((row * n + b) * w + j)
   pub first_total : t ≡ own_total ws n w (rows * w) a
   pub second_total : u ≡ own_total ws n w (rows * w) b
+
+-- facts that hold of the same numbers fail first at the same number
+pub first_alike : (P Q : ℕ → Type 0) → (n at : ℕ) → ((j : ℕ) → P j ↔ Q j) → IsFirstWithout P n at
+    → IsFirstWithout Q n at
+first_alike P Q n at same first = record {
+  below = first.below;
+  fails = λ holds. first.fails ((same at).1 holds);
+  before = λ q lt. (same q).0 (first.before q lt);
+}
 
 module _ (ws : List Span) (rows n w row a b : ℕ) (one other : List Span) (t u : ℕ)
     (are : AreRunsOf ws rows n w row a b one other t u) where

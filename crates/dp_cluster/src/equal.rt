@@ -13,7 +13,7 @@ ghost use Rattle.dp_cluster.specs.OwnPlaces.{ArePlacesOf};
 use crate::Front;
 use crate::runs::Places;
 use dp_base::Memory;
-use dp_num::primitive;
+use dp_divisor::primitive;
 use std::alloc::Global;
 use std::collections::BTreeMap;
 

@@ -3,7 +3,6 @@
 
 mod advance;
 mod equal;
-mod fractions;
 mod front;
 mod full;
 mod join;
@@ -11,6 +10,7 @@ mod key;
 mod limits;
 mod merge;
 mod part;
+mod proportion;
 mod runs;
 mod shared;
 

@@ -10,8 +10,8 @@ ghost use Rattle.dp_cluster.specs.OwnWeights.{AreInProportion, AreOwnRuns, IsFir
 ghost use Rattle.dp_cluster.specs.OwnWeights.{own_total};
 
 use crate::Front;
-use crate::fractions::same_fraction;
 use crate::join::width_behind;
+use crate::proportion::Proportion;
 use dp_base::Memory;
 use dp_spec::Span;
 use std::alloc::Global;
@@ -118,10 +118,11 @@ impl Front {
         if t == 0 || u == 0 {
             return None;
         }
+        let totals = Proportion::of(t, u);
         for row in 0..places.rows {
             let one = self.run(places, first, row);
             let other = self.run(places, second, row);
-            if let Some(at) = first_apart(one, t, other, u) {
+            if let Some(at) = first_apart(one, other, &totals) {
                 return Some((row * places.width + at) as u32);
             }
         }
@@ -152,22 +153,16 @@ fn run_total(run: &[Span]) -> u128
     total
 }
 
-// The first place at which the weights of two runs are not in the proportion of totals above 0.
-fn first_apart(one: &[Span], t: u128, other: &[Span], u: u128) -> Option<usize>
-    requires some { 0 < t }
-    requires some_other { 0 < u }
+// The first place at which the weights of two runs are not in the proportion of their totals.
+fn first_apart(one: &[Span], other: &[Span], totals: &Proportion) -> Option<usize>
     requires alike { length other.now ≡ length one.now }
     ensures { MatchOption result
-        ((j : ℕ) → j < length one.now → low_at one.now j * u ≡ low_at other.now j * t)
-        (IsFirstWithout (λ j. low_at one.now j * u ≡ low_at other.now j * t) (length one.now)) }
+        ((j : ℕ) → j < length one.now → low_at one.now j * totals.now.second ≡ low_at other.now j * totals.now.first)
+        (IsFirstWithout (λ j. low_at one.now j * totals.now.second ≡ low_at other.now j * totals.now.first)
+        (length one.now)) }
 {
     for at in 0..one.len() {
-        if !same_fraction(
-            one[at].low.unsigned_abs(),
-            t,
-            other[at].low.unsigned_abs(),
-            u,
-        ) {
+        if !totals.holds(one[at].low.unsigned_abs(), other[at].low.unsigned_abs()) {
             return Some(at);
         }
     }

@@ -1,5 +1,6 @@
 use Rattle.std.proofs.Common.{◌<◌, inl, inr, sym, subst, ℕ, ◌∙◌, arith}
-use Rattle.dp_cluster.proofs.RunsOfWeights.{difference_is, none_in_proportion, place_few, proportion_next}
+use Rattle.dp_cluster.specs.OwnWeights.{low_at}
+use Rattle.dp_cluster.proofs.RunsOfWeights.{difference_is, first_alike, none_in_proportion, place_few, proportion_next}
 use Rattle.dp_cluster.proofs.front.Front.first_difference.Goals as goal
 use Rattle.dp_cluster.proofs.front.Front.first_difference.Goals.{then-t-eq0-via-then-t-eq0}
 use Rattle.dp_cluster.proofs.front.Front.first_difference.Goals.{then-t-eq0-via-else-t-eq0+then-u-eq0}
@@ -51,7 +52,9 @@ returns-in-Some c =
       first_total = c.total-t.ensures;
       second_total = c.total-u.ensures;
     })
-    c.loop-row.invariant c.in-Some.at c.in-Some.ensures
+    c.loop-row.invariant c.in-Some.at
+    (first_alike _ _ _ _ (λ j. c.of-totals.ensures (low_at c.run-one.result.now j) (low_at c.run-other.result.now j))
+    c.in-Some.ensures)
 
 pub loop-row-preserved : goal.loop-row-preserved
 loop-row-preserved c =
@@ -70,4 +73,6 @@ loop-row-preserved c =
       first_total = c.total-t.ensures;
       second_total = c.total-u.ensures;
     })
-    c.loop-row.invariant c.in_default.ensures
+    c.loop-row.invariant
+    (λ j lt. (c.of-totals.ensures (low_at c.run-one.result.now j) (low_at c.run-other.result.now j)).0
+    (c.in_default.ensures j lt))

@@ -1,0 +1,2 @@
+pub mod CommonDivisorLaws
+pub mod InverseLaws
