@@ -1,5 +1,6 @@
 -- Division of multiples by multiplication, modulo a number.
-use Rattle.std.proofs.Common.{◌≡◌, ◌↔◌, ℕ, zero, suc, ◌+◌, ◌-◌, ◌*◌, ◌/◌, ◌%◌, ◌^◌, ◌<◌, ◌≤◌, refl, sym, ap, subst, ◌∙◌}
+use Rattle.std.proofs.Common.{◌≡◌, ◌↔◌, ℕ, zero, suc, ◌+◌, ◌-◌, ◌*◌, ◌/◌, ◌%◌, ◌^◌, ◌<◌, ◌≤◌, refl, sym, ap, subst}
+use Rattle.std.proofs.Common.{◌∙◌}
 use Rattle.std.proofs.Common.{arith, IsTrue, Option, None, Some, nat_eq, eq-eqb}
 use Rattle.std.specs.Int.{◌∣◌, bit_at, w128, trailing_zeros}
 use Rattle.std.proofs.Common.{true}

@@ -63,7 +63,8 @@ own_below no_agents i c a has = absurd has
 own_below (and_agent {d = d} k ks) zero c a has = k.chosen_below c a (inside d.chosen c a has) has
 own_below (and_agent k ks) (suc i) c a has = own_below ks i c a has
 
-pub front_choice_below : (m : Model) (h : ℕ) (F : Front) → IsFront m h F → (i c a : ℕ) → i < length (choices_of F.agents)
+pub front_choice_below : (m : Model) (h : ℕ) (F : Front) → IsFront m h F → (i c a : ℕ) → i < length (choices_of
+    F.agents)
     → get_or (get_or (choices_of F.agents) i []) c None ≡ Some a → a < get_or m.actions i 0
 front_choice_below m h F front i c a lt e = own_below front.agents i c a (assigned_of i c a F.agents lt e)
 

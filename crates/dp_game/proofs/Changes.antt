@@ -1,14 +1,13 @@
 -- What is kept for joint classes where the choice for a class changes.
-use Rattle.std.proofs.Common.{◌≡◌, ◌≢◌, inl, inr, ℕ, zero, suc, ◌+◌, ◌*◌, ◌<◌, ◌≤◌, ℤ, pos, List, [], ◌∷◌, length, get_or}
+use Rattle.std.proofs.Common.{◌≡◌, ◌≢◌, inl, inr, ℕ, zero, suc, ◌+◌, ◌*◌, ◌<◌, ◌≤◌, List, [], ◌∷◌, length, get_or}
 use Rattle.std.proofs.Common.{set, drop, take, Option, None, sym, ap, ◌∙◌, subst, arith}
-use Rattle.std.proofs.Math.Nat.{mul-le-mul, suc-mul}
 use Rattle.std.proofs.lemmas.Bool.{cases_eq, cases_lt}
 use Rattle.std.proofs.lemmas.List.{ext_get_or, get_or-drop, get_or-map, get_or-set_other, get_or-set_same}
 use Rattle.std.proofs.lemmas.List.{get_or-take, length-drop, length-set, length-take-le}
 use Rattle.dp_base.specs.Sums.{greatest}
 use Rattle.dp_spec.specs.JointNumbers.{parts_of, product}
 use Rattle.dp_spec.specs.Merge.{placed_number, without}
-use Rattle.dp_spec.proofs.JointNumberLaws.{length-parts_of, row_below, same_parts}
+use Rattle.dp_spec.proofs.JointNumberLaws.{length-parts_of}
 use Rattle.dp_laws.proofs.JointPlaces.{placed_injective}
 use Rattle.dp_game.specs.Games.{KeptGame, allowed_actions, best_entry, choices_for, choices_in, entry, own_counts}
 use Rattle.dp_game.specs.Games.{own_choice, with_own_choice}
@@ -61,7 +60,8 @@ number_changed (b ∷ bs) (p ∷ os) zero o lt e =
     swapped : (x y n : ℕ) → x + n + y ≡ y + n + x
     swapped x y n = omega arith
 number_changed (b ∷ bs) (p ∷ os) (suc i) o lt e =
-    moved (choice_number p * product (choice_counts bs)) _ _ _ _ (number_changed bs os i o (omega arith) (omega arith))
+    moved (choice_number p * product (choice_counts bs)) _ _ _ _ (number_changed bs os i o (omega arith) (omega
+    arith))
   where
     moved : (n x y z w : ℕ) → x + y ≡ z + w → n + x + y ≡ n + z + w
     moved n x y z w e = omega arith

@@ -1,7 +1,8 @@
 -- The extended joint actions of joint classes and the joint actions that agree with one, as lists that are made.
-use Rattle.std.proofs.Common.{◌≡◌, ℕ, zero, suc, ◌+◌, ◌*◌, ◌/◌, ◌%◌, ◌<◌, ◌≤◌, Bool, true, false, cond, ℤ, List, []}
-use Rattle.std.proofs.Common.{◌∷◌, ◌++◌, filter, map, length, get_or, drop, Option, None, Some, refl, sym, ap, ◌∙◌, arith}
-use Rattle.std.proofs.Common.{append_assoc, subst, inl, inr, pos}
+use Rattle.std.proofs.Common.{◌≡◌, ℕ, zero, suc, ◌+◌, ◌*◌, ◌/◌, ◌%◌, ◌<◌, Bool, true, false, cond, ℤ, List, []}
+use Rattle.std.proofs.Common.{◌∷◌, ◌++◌, filter, map, length, get_or, drop, Option, None, Some, refl, sym, ap, ◌∙◌}
+use Rattle.std.proofs.Common.{arith}
+use Rattle.std.proofs.Common.{append_assoc, subst, inl, inr}
 use Rattle.std.specs.Prelude.{nat_lt}
 use Rattle.std.specs.List.{range_with_len}
 use Rattle.std.specs.Int.{int_max}
@@ -11,7 +12,7 @@ use Rattle.std.proofs.lemmas.List.{append-nil, get_or-map, get_or_default, lengt
 use Rattle.std.proofs.lemmas.List.FromFn.{length-map-range_with_len}
 use Rattle.std.proofs.lemmas.Nat.{mod_below}
 use Rattle.dp_base.specs.Sums.{greatest, numbers_below}
-use Rattle.dp_spec.specs.JointNumbers.{joint_number, parts_of, product}
+use Rattle.dp_spec.specs.JointNumbers.{parts_of, product}
 use Rattle.dp_base.proofs.Members.{IsIn, below-IsIn, filter-IsIn}
 use Rattle.dp_spec.proofs.JointNumberLaws.{part_below, positive_right, product-drop, row_below}
 use Rattle.dp_cluster.proofs.OwnParts.{made_at, next_made}
@@ -158,7 +159,8 @@ module _ (bs : List ℕ) (oss : List (List (Option ℕ))) (j k : ℕ) (own : Lis
       get_or-map (λ b. suc b) bs j 0 0 (omega arith) in
       let size = length-map bs (λ b. suc b) in
       let whole = product-drop (choice_counts bs) j (omega arith) in
-      let all = row_below (choice_number (get_or own c None)) (suc (get_or bs j 0)) width (get_or later C 0) high low in
+      let all = row_below (choice_number (get_or own c None)) (suc (get_or bs j 0)) width (get_or later C 0) high low
+      in
       let same : product (drop j (choice_counts bs)) ≡ suc (get_or bs j 0) * width =
       whole ∙ (λ i. counts i * (ap (λ (z : ℕ). product (drop z (choice_counts bs))) (sym ek) ∙ sym ew) i) in
       rw same all
@@ -211,7 +213,6 @@ some_behind [] k (suc j) e = absurd (omega arith)
 some_behind (x ∷ xs) k zero e = let some : k ≡ suc (length xs) = omega arith in
     grind (arith, nat_tests)
 some_behind (x ∷ xs) k (suc j) e = some_behind xs k j (omega arith)
-
 
 pub greatest_more : (f : ℕ → ℤ) (xs : List ℕ) (j k : ℕ) (some : Bool) (best x new : ℤ) → j < length xs → k ≡ suc j
     → some ≡ has_some (drop k xs) → best ≡ greatest f (drop k xs) → x ≡ f (get_or xs j 0)

@@ -1,7 +1,7 @@
 -- Extended joint actions, and the greatest entries that agree with them.
-use Rattle.std.proofs.Common.{◌≡◌, inl, inr, ℕ, zero, suc, ◌+◌, ◌*◌, ◌^◌, ◌<◌, ◌≤◌, true, eqb, ℤ, pos, List, []}
+use Rattle.std.proofs.Common.{◌≡◌, ℕ, zero, suc, ◌+◌, ◌*◌, ◌^◌, ◌<◌, ◌≤◌, true, eqb, ℤ, pos, List, []}
 use Rattle.std.proofs.Common.{◌∷◌, ◌++◌}
-use Rattle.std.proofs.Common.{map, length, get_or, set, drop, Option, None, Some, refl, sym, ap, ◌∙◌, subst, arith}
+use Rattle.std.proofs.Common.{map, length, get_or, Option, None, Some, refl, sym, ap, ◌∙◌, arith}
 use Rattle.std.specs.List.{range_with_len}
 use Rattle.std.proofs.Math.Nat.{mul-le-mul, pow-le-pow_right, pow-suc}
 use Rattle.std.proofs.lemmas.Bool.{and_parts, eqb-true}
@@ -10,16 +10,18 @@ use Rattle.std.proofs.lemmas.List.FromFn.{length-map-range_with_len}
 use Rattle.dp_base.specs.Sums.{greatest, numbers_below}
 use Rattle.std.proofs.lemmas.Bool.Decides.{nat_tests}
 use Rattle.std.specs.Cmp.Derive.{both_true}
-use Rattle.dp_base.proofs.Members.{IsIn, IsIn-below, IsIn-filter, below-IsIn, filter-IsIn}
-use Rattle.dp_spec.specs.Bound.{agrees}
+use Rattle.dp_base.proofs.Members.{IsIn-below, IsIn-filter, below-IsIn, filter-IsIn}
 use Rattle.dp_spec.specs.JointNumbers.{joint_number, parts_of, product}
 use Rattle.dp_spec.specs.Model.{IsModel, Model, joint_actions}
-use Rattle.dp_spec.proofs.JointNumberLaws.{AreBelow, below_each, joint_number-parts_of, joint_number_below, length-parts_of}
-use Rattle.dp_spec.proofs.JointNumberLaws.{parts_below, parts_of-joint_number, positive_left, positive_right, row_below}
+use Rattle.dp_spec.proofs.JointNumberLaws.{AreBelow, below_each, joint_number-parts_of, joint_number_below}
+use Rattle.dp_spec.proofs.JointNumberLaws.{length-parts_of}
+use Rattle.dp_spec.proofs.JointNumberLaws.{parts_below, parts_of-joint_number, positive_left, positive_right}
+use Rattle.dp_spec.proofs.JointNumberLaws.{row_below}
 use Rattle.dp_cluster.proofs.OwnParts.{made_at, same_map}
 use Rattle.dp_game.specs.Extended.{choice_counts, choice_number, choice_of, choices_at, extended_number, greatest_at}
 use Rattle.dp_game.specs.Extended.{greatest_table, whole_number, whole_table}
-use Rattle.dp_game.specs.Games.{KeptGame, allowed_actions, best_entry, choices_in, each_agrees, joint_classes, own_choice}
+use Rattle.dp_game.specs.Games.{KeptGame, allowed_actions, best_entry, choices_in, each_agrees, joint_classes}
+use Rattle.dp_game.specs.Games.{own_choice}
 use Rattle.dp_game.specs.Games.{own_counts}
 use Rattle.dp_game.specs.Kept.{IsOfSomeFront, rows_of}
 use Rattle.dp_game.proofs.AdvancedLook.{greatest_of_one}

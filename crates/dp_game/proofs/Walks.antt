@@ -1,8 +1,10 @@
 -- The walk over the joint classes that hold a class whose choice changes, and the bound after it.
-use Rattle.std.proofs.Common.{◌≡◌, ℕ, suc, ◌+◌, ◌-◌, ◌*◌, ◌/◌, ◌%◌, ◌^◌, ◌<◌, ◌≤◌, ℤ, pos, ◌+ℤ◌, ◌-ℤ◌, unsigned_abs, List}
-use Rattle.std.proofs.Common.{[], ◌++◌, length, get_or, set, drop, take, Option, None, refl, add-one, sym, ap, ◌∙◌, subst, arith}
+use Rattle.std.proofs.Common.{◌≡◌, ℕ, suc, ◌+◌, ◌-◌, ◌*◌, ◌/◌, ◌%◌, ◌^◌, ◌<◌, ◌≤◌, ℤ, pos, ◌+ℤ◌, ◌-ℤ◌, unsigned_abs}
+use Rattle.std.proofs.Common.{List}
+use Rattle.std.proofs.Common.{[], ◌++◌, length, get_or, set, drop, take, Option, None, refl, add-one, sym, ap, ◌∙◌}
+use Rattle.std.proofs.Common.{subst, arith}
 use Rattle.std.proofs.Math.Nat.{mul-le-mul, mul_comm, suc-mul}
-use Rattle.std.proofs.lemmas.List.{length-set, take-append-le, take_all}
+use Rattle.std.proofs.lemmas.List.{take-append-le, take_all}
 use Rattle.dp_base.specs.Sums.{int_sum, nat_sum}
 use Rattle.dp_spec.specs.JointNumbers.{parts_of, product}
 use Rattle.dp_spec.specs.Merge.{placed_number, without}
@@ -145,7 +147,8 @@ module _ (g : KeptGame) (i c : ℕ) (o : Option ℕ) (hi : i < length g.choices)
         )
 
         new_place : (n k l : ℕ) → n ≡ number_in (with_own_choice g i c o) (J x) → k ≡ joint_classes g → l ≡ J x
-            → (n * k + l < length best) × (get_or best (n * k + l) (pos 0) ≡ best_entry (with_own_choice g i c o) (J x))
+            → (n * k + l < length best) × (get_or best (n * k + l) (pos 0) ≡ best_entry (with_own_choice g i c o) (J
+            x))
         new_place n k l en ek el =
             let counts = ap product (same_counts g i c o hi hc) in
             let eb' = eb ∙ ap (greatest_table g.actions g.table) (sym counts) in

@@ -1,6 +1,6 @@
 -- What a game is made of, and the look-aheads of a front.
 use Rattle.std.specs.Prelude.{ℕ, zero, suc, ◌+◌, ◌*◌, ◌-◌, ◌^◌, ◌<◌, ◌≤◌, ◌≡◌, false, ℤ, pos, List, [], ◌++◌, map}
-use Rattle.std.specs.Prelude.{length, get_or, drop, take, Option, None}
+use Rattle.std.specs.Prelude.{length, get_or, drop, take, Option}
 use Rattle.std.specs.List.{range_with_len}
 use Rattle.dp_base.specs.Sums.{greatest}
 use Rattle.dp_spec.specs.Arithmetic.{Arithmetic, arithmetic}

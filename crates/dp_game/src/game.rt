@@ -163,7 +163,8 @@ impl Game {
         self.put(agent as usize, class as usize, Some(action as u8));
     }
 
-    /// The game after an action is chosen for a class that has none. What the joint classes can earn is shared with this one.
+    /// The game after an action is chosen for a class that has none. What the joint classes can earn is shared with
+    /// this one.
     /// The only error is want of memory.
     pub fn with_choice(
         &self,

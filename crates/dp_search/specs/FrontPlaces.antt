@@ -1,5 +1,6 @@
 -- The places of a front, agent by agent, and their weights as the front keeps them. (Own.)
-use Rattle.std.specs.Prelude.{ℕ, ◌==◌, Bool, cond, ℤ, pos, unsigned_abs, List, map, filter, length, get_or, None, is_none}
+use Rattle.std.specs.Prelude.{ℕ, ◌==◌, Bool, cond, ℤ, pos, unsigned_abs, List, map, filter, length, get_or, None}
+use Rattle.std.specs.Prelude.{is_none}
 use Rattle.std.specs.List.{range_with_len}
 use Rattle.dp_base.specs.Sums.{int_sum, nat_sum}
 use Rattle.dp_spec.specs.Arithmetic.{Arithmetic}

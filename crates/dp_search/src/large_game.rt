@@ -1,6 +1,6 @@
 //! A large game: a choice, and taking it back, scan only the joint classes that take part in it.
 //!
-//! The table of the game has `2^20` entries, of which a choice touches `2^11`. A game that scanned them all
+//! The game keeps `9 * 2^18` entries, of which a choice reads `2^10`. A game that scanned the joint classes
 //! at each choice would be some hundred times slower.
 ghost use Rattle.std.specs.Prelude.{◌≡◌, ◌<◌, ◌≤◌, true, [], length, get_or, slice_index, IfOk, IfSome};
 ghost use Rattle.dp_spec.specs.Front.{class_counts};

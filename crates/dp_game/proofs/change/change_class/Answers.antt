@@ -41,7 +41,8 @@ place_of-joint-requires-clause-some c =
 pub place_of-joint-requires-clause-room : goal.place_of-joint-requires-clause-room
 place_of-joint-requires-clause-room c =
     let hx : c.loop-other.other < product (without c.args.agent (own_counts c.args.choices.now)) =
-    subst (λ (n : ℕ). c.loop-other.other < n) (places_are (game_kept c.args.actions.now c.args.choices.now c.args.best.now (pos 0))
+    subst (λ (n : ℕ). c.loop-other.other < n) (places_are (game_kept c.args.actions.now c.args.choices.now
+    c.args.best.now (pos 0))
     c.args.agent c.args.class c.args.choice c.requires.agent c.requires.class c.requires.of_front c.requires.after
     c.count-count.result c.width_from-width.result
     (c.count-count.ensures ∙ count_at c.args.choices.now c.args.agent c.index-choices-agent.result c.requires.agent
@@ -57,7 +58,8 @@ place_of-joint-requires-clause-room c =
 pub change_place-requires-clause-joint : goal.change_place-requires-clause-joint
 change_place-requires-clause-joint c =
     let hx : c.loop-other.other < product (without c.args.agent (own_counts c.args.choices.now)) =
-    subst (λ (n : ℕ). c.loop-other.other < n) (places_are (game_kept c.args.actions.now c.args.choices.now c.args.best.now (pos 0))
+    subst (λ (n : ℕ). c.loop-other.other < n) (places_are (game_kept c.args.actions.now c.args.choices.now
+    c.args.best.now (pos 0))
     c.args.agent c.args.class c.args.choice c.requires.agent c.requires.class c.requires.of_front c.requires.after
     c.count-count.result c.width_from-width.result
     (c.count-count.ensures ∙ count_at c.args.choices.now c.args.agent c.index-choices-agent.result c.requires.agent
@@ -79,7 +81,8 @@ change_place-requires-clause-joint c =
 pub change_place-requires-clause-few : goal.change_place-requires-clause-few
 change_place-requires-clause-few c =
     let hx : c.loop-other.other < product (without c.args.agent (own_counts c.args.choices.now)) =
-    subst (λ (n : ℕ). c.loop-other.other < n) (places_are (game_kept c.args.actions.now c.args.choices.now c.args.best.now (pos 0))
+    subst (λ (n : ℕ). c.loop-other.other < n) (places_are (game_kept c.args.actions.now c.args.choices.now
+    c.args.best.now (pos 0))
     c.args.agent c.args.class c.args.choice c.requires.agent c.requires.class c.requires.of_front c.requires.after
     c.count-count.result c.width_from-width.result
     (c.count-count.ensures ∙ count_at c.args.choices.now c.args.agent c.index-choices-agent.result c.requires.agent
@@ -101,7 +104,8 @@ change_place-requires-clause-few c =
 pub change_place-requires-clause-down : goal.change_place-requires-clause-down
 change_place-requires-clause-down c =
     let hx : c.loop-other.other < product (without c.args.agent (own_counts c.args.choices.now)) =
-    subst (λ (n : ℕ). c.loop-other.other < n) (places_are (game_kept c.args.actions.now c.args.choices.now c.args.best.now (pos 0))
+    subst (λ (n : ℕ). c.loop-other.other < n) (places_are (game_kept c.args.actions.now c.args.choices.now
+    c.args.best.now (pos 0))
     c.args.agent c.args.class c.args.choice c.requires.agent c.requires.class c.requires.of_front c.requires.after
     c.count-count.result c.width_from-width.result
     (c.count-count.ensures ∙ count_at c.args.choices.now c.args.agent c.index-choices-agent.result c.requires.agent
@@ -123,7 +127,8 @@ change_place-requires-clause-down c =
 pub change_place-requires-clause-up : goal.change_place-requires-clause-up
 change_place-requires-clause-up c =
     let hx : c.loop-other.other < product (without c.args.agent (own_counts c.args.choices.now)) =
-    subst (λ (n : ℕ). c.loop-other.other < n) (places_are (game_kept c.args.actions.now c.args.choices.now c.args.best.now (pos 0))
+    subst (λ (n : ℕ). c.loop-other.other < n) (places_are (game_kept c.args.actions.now c.args.choices.now
+    c.args.best.now (pos 0))
     c.args.agent c.args.class c.args.choice c.requires.agent c.requires.class c.requires.of_front c.requires.after
     c.count-count.result c.width_from-width.result
     (c.count-count.ensures ∙ count_at c.args.choices.now c.args.agent c.index-choices-agent.result c.requires.agent
@@ -145,7 +150,8 @@ change_place-requires-clause-up c =
 pub change_place-requires-clause-gone : goal.change_place-requires-clause-gone
 change_place-requires-clause-gone c =
     let hx : c.loop-other.other < product (without c.args.agent (own_counts c.args.choices.now)) =
-    subst (λ (n : ℕ). c.loop-other.other < n) (places_are (game_kept c.args.actions.now c.args.choices.now c.args.best.now (pos 0))
+    subst (λ (n : ℕ). c.loop-other.other < n) (places_are (game_kept c.args.actions.now c.args.choices.now
+    c.args.best.now (pos 0))
     c.args.agent c.args.class c.args.choice c.requires.agent c.requires.class c.requires.of_front c.requires.after
     c.count-count.result c.width_from-width.result
     (c.count-count.ensures ∙ count_at c.args.choices.now c.args.agent c.index-choices-agent.result c.requires.agent
@@ -167,7 +173,8 @@ change_place-requires-clause-gone c =
 pub change_place-requires-clause-come : goal.change_place-requires-clause-come
 change_place-requires-clause-come c =
     let hx : c.loop-other.other < product (without c.args.agent (own_counts c.args.choices.now)) =
-    subst (λ (n : ℕ). c.loop-other.other < n) (places_are (game_kept c.args.actions.now c.args.choices.now c.args.best.now (pos 0))
+    subst (λ (n : ℕ). c.loop-other.other < n) (places_are (game_kept c.args.actions.now c.args.choices.now
+    c.args.best.now (pos 0))
     c.args.agent c.args.class c.args.choice c.requires.agent c.requires.class c.requires.of_front c.requires.after
     c.count-count.result c.width_from-width.result
     (c.count-count.ensures ∙ count_at c.args.choices.now c.args.agent c.index-choices-agent.result c.requires.agent
@@ -189,7 +196,8 @@ change_place-requires-clause-come c =
 pub added-change-requires-clause-gone : goal.added-change-requires-clause-gone
 added-change-requires-clause-gone c =
     let hx : c.loop-other.other < product (without c.args.agent (own_counts c.args.choices.now)) =
-    subst (λ (n : ℕ). c.loop-other.other < n) (places_are (game_kept c.args.actions.now c.args.choices.now c.args.best.now (pos 0))
+    subst (λ (n : ℕ). c.loop-other.other < n) (places_are (game_kept c.args.actions.now c.args.choices.now
+    c.args.best.now (pos 0))
     c.args.agent c.args.class c.args.choice c.requires.agent c.requires.class c.requires.of_front c.requires.after
     c.count-count.result c.width_from-width.result
     (c.count-count.ensures ∙ count_at c.args.choices.now c.args.agent c.index-choices-agent.result c.requires.agent
@@ -213,7 +221,8 @@ added-change-requires-clause-gone c =
 pub added-change-requires-clause-come : goal.added-change-requires-clause-come
 added-change-requires-clause-come c =
     let hx : c.loop-other.other < product (without c.args.agent (own_counts c.args.choices.now)) =
-    subst (λ (n : ℕ). c.loop-other.other < n) (places_are (game_kept c.args.actions.now c.args.choices.now c.args.best.now (pos 0))
+    subst (λ (n : ℕ). c.loop-other.other < n) (places_are (game_kept c.args.actions.now c.args.choices.now
+    c.args.best.now (pos 0))
     c.args.agent c.args.class c.args.choice c.requires.agent c.requires.class c.requires.of_front c.requires.after
     c.count-count.result c.width_from-width.result
     (c.count-count.ensures ∙ count_at c.args.choices.now c.args.agent c.index-choices-agent.result c.requires.agent
@@ -237,7 +246,8 @@ added-change-requires-clause-come c =
 pub loop-other-preserved : goal.loop-other-preserved
 loop-other-preserved c =
     let hx : c.loop-other.other < product (without c.args.agent (own_counts c.args.choices.now)) =
-    subst (λ (n : ℕ). c.loop-other.other < n) (places_are (game_kept c.args.actions.now c.args.choices.now c.args.best.now (pos 0))
+    subst (λ (n : ℕ). c.loop-other.other < n) (places_are (game_kept c.args.actions.now c.args.choices.now
+    c.args.best.now (pos 0))
     c.args.agent c.args.class c.args.choice c.requires.agent c.requires.class c.requires.of_front c.requires.after
     c.count-count.result c.width_from-width.result
     (c.count-count.ensures ∙ count_at c.args.choices.now c.args.agent c.index-choices-agent.result c.requires.agent
@@ -246,34 +256,39 @@ loop-other-preserved c =
     let was = c.at.ensures ∙ ap (λ os. get_or os c.args.class None)
     (c.index-choices-agent-2.is ∙ get_or_default c.args.choices.now c.args.agent _ [] c.requires.agent) in
     let down = c.step_of-step.ensures.down
-    ∙ ap (λ o. choice_number o * product (drop (suc c.args.agent) (choice_counts c.args.actions.now))) was in
-    (
+    ∙ ap (λ o. choice_number o * product (drop (suc c.args.agent) (choice_counts c.args.actions.now))) was in (
       walk_next (game_kept c.args.actions.now c.args.choices.now c.args.best.now (pos 0))
-    c.args.agent c.args.class c.args.choice c.requires.agent c.requires.class c.requires.of_front c.requires.after
-    c.count-count.result c.width_from-width.result
-    (c.count-count.ensures ∙ count_at c.args.choices.now c.args.agent c.index-choices-agent.result c.requires.agent
-    c.index-choices-agent.is) c.width_from-width.ensures
-    c.loop-other.other hx c.place_of-joint.result c.place_of-joint.ensures c.args.best.now c.requires.best
-    c.loop-other.numbers c.loop-other.invariant.0 c.step_of-step.result.up c.step_of-step.result.down
-    c.step_of-step.ensures.up down _ c.change_place.ensures.numbers,
+          c.args.agent c.args.class c.args.choice c.requires.agent c.requires.class c.requires.of_front
+          c.requires.after
+          c.count-count.result c.width_from-width.result
+          (c.count-count.ensures ∙ count_at c.args.choices.now c.args.agent c.index-choices-agent.result
+          c.requires.agent
+          c.index-choices-agent.is) c.width_from-width.ensures
+          c.loop-other.other hx c.place_of-joint.result c.place_of-joint.ensures c.args.best.now c.requires.best
+          c.loop-other.numbers c.loop-other.invariant.0 c.step_of-step.result.up c.step_of-step.result.down
+          c.step_of-step.ensures.up down _ c.change_place.ensures.numbers,
       gone_next (game_kept c.args.actions.now c.args.choices.now c.args.best.now (pos 0))
-    c.args.agent c.args.class c.args.choice c.requires.agent c.requires.class c.requires.of_front c.requires.after
-    c.count-count.result c.width_from-width.result
-    (c.count-count.ensures ∙ count_at c.args.choices.now c.args.agent c.index-choices-agent.result c.requires.agent
-    c.index-choices-agent.is) c.width_from-width.ensures
-    c.loop-other.other hx c.place_of-joint.result c.place_of-joint.ensures c.args.best.now c.requires.best
-    c.loop-other.numbers c.loop-other.invariant.0 c.step_of-step.result.up c.step_of-step.result.down
-    c.step_of-step.ensures.up down
+          c.args.agent c.args.class c.args.choice c.requires.agent c.requires.class c.requires.of_front
+          c.requires.after
+          c.count-count.result c.width_from-width.result
+          (c.count-count.ensures ∙ count_at c.args.choices.now c.args.agent c.index-choices-agent.result
+          c.requires.agent
+          c.index-choices-agent.is) c.width_from-width.ensures
+          c.loop-other.other hx c.place_of-joint.result c.place_of-joint.ensures c.args.best.now c.requires.best
+          c.loop-other.numbers c.loop-other.invariant.0 c.step_of-step.result.up c.step_of-step.result.down
+          c.step_of-step.ensures.up down
           c.change_place.result.gone c.change_place.result.come c.change_place.ensures.gone
           c.change_place.ensures.come _ _ c.loop-other.invariant.1 c.added-change.ensures.gone,
       come_next (game_kept c.args.actions.now c.args.choices.now c.args.best.now (pos 0))
-    c.args.agent c.args.class c.args.choice c.requires.agent c.requires.class c.requires.of_front c.requires.after
-    c.count-count.result c.width_from-width.result
-    (c.count-count.ensures ∙ count_at c.args.choices.now c.args.agent c.index-choices-agent.result c.requires.agent
-    c.index-choices-agent.is) c.width_from-width.ensures
-    c.loop-other.other hx c.place_of-joint.result c.place_of-joint.ensures c.args.best.now c.requires.best
-    c.loop-other.numbers c.loop-other.invariant.0 c.step_of-step.result.up c.step_of-step.result.down
-    c.step_of-step.ensures.up down
+          c.args.agent c.args.class c.args.choice c.requires.agent c.requires.class c.requires.of_front
+          c.requires.after
+          c.count-count.result c.width_from-width.result
+          (c.count-count.ensures ∙ count_at c.args.choices.now c.args.agent c.index-choices-agent.result
+          c.requires.agent
+          c.index-choices-agent.is) c.width_from-width.ensures
+          c.loop-other.other hx c.place_of-joint.result c.place_of-joint.ensures c.args.best.now c.requires.best
+          c.loop-other.numbers c.loop-other.invariant.0 c.step_of-step.result.up c.step_of-step.result.down
+          c.step_of-step.ensures.up down
           c.change_place.result.gone c.change_place.result.come c.change_place.ensures.gone
           c.change_place.ensures.come _ _ c.loop-other.invariant.2 c.added-change.ensures.come,
     )
@@ -281,7 +296,8 @@ loop-other-preserved c =
 pub returns-clause-after : goal.returns-clause-after
 returns-clause-after c =
     let le : product (without c.args.agent (own_counts c.args.choices.now)) ≤ c.loop-other.other =
-    subst (λ (n : ℕ). n ≤ c.loop-other.other) (places_are (game_kept c.args.actions.now c.args.choices.now c.args.best.now (pos 0))
+    subst (λ (n : ℕ). n ≤ c.loop-other.other) (places_are (game_kept c.args.actions.now c.args.choices.now
+    c.args.best.now (pos 0))
     c.args.agent c.args.class c.args.choice c.requires.agent c.requires.class c.requires.of_front c.requires.after
     c.count-count.result c.width_from-width.result
     (c.count-count.ensures ∙ count_at c.args.choices.now c.args.agent c.index-choices-agent.result c.requires.agent
@@ -294,14 +310,16 @@ returns-clause-after c =
 pub returns-clause-gone : goal.returns-clause-gone
 returns-clause-gone c =
     let le : product (without c.args.agent (own_counts c.args.choices.now)) ≤ c.loop-other.other =
-    subst (λ (n : ℕ). n ≤ c.loop-other.other) (places_are (game_kept c.args.actions.now c.args.choices.now c.args.best.now (pos 0))
+    subst (λ (n : ℕ). n ≤ c.loop-other.other) (places_are (game_kept c.args.actions.now c.args.choices.now
+    c.args.best.now (pos 0))
     c.args.agent c.args.class c.args.choice c.requires.agent c.requires.class c.requires.of_front c.requires.after
     c.count-count.result c.width_from-width.result
     (c.count-count.ensures ∙ count_at c.args.choices.now c.args.agent c.index-choices-agent.result c.requires.agent
     c.index-choices-agent.is) c.width_from-width.ensures
     (length c.args.numbers.now) c.requires.before.one_each) c.loop-other-test.false in
     let ge : c.loop-other.other ≤ product (without c.args.agent (own_counts c.args.choices.now)) =
-    subst (λ (n : ℕ). c.loop-other.other ≤ n) (places_are (game_kept c.args.actions.now c.args.choices.now c.args.best.now (pos 0))
+    subst (λ (n : ℕ). c.loop-other.other ≤ n) (places_are (game_kept c.args.actions.now c.args.choices.now
+    c.args.best.now (pos 0))
     c.args.agent c.args.class c.args.choice c.requires.agent c.requires.class c.requires.of_front c.requires.after
     c.count-count.result c.width_from-width.result
     (c.count-count.ensures ∙ count_at c.args.choices.now c.args.agent c.index-choices-agent.result c.requires.agent
@@ -316,14 +334,16 @@ returns-clause-gone c =
 pub returns-clause-come : goal.returns-clause-come
 returns-clause-come c =
     let le : product (without c.args.agent (own_counts c.args.choices.now)) ≤ c.loop-other.other =
-    subst (λ (n : ℕ). n ≤ c.loop-other.other) (places_are (game_kept c.args.actions.now c.args.choices.now c.args.best.now (pos 0))
+    subst (λ (n : ℕ). n ≤ c.loop-other.other) (places_are (game_kept c.args.actions.now c.args.choices.now
+    c.args.best.now (pos 0))
     c.args.agent c.args.class c.args.choice c.requires.agent c.requires.class c.requires.of_front c.requires.after
     c.count-count.result c.width_from-width.result
     (c.count-count.ensures ∙ count_at c.args.choices.now c.args.agent c.index-choices-agent.result c.requires.agent
     c.index-choices-agent.is) c.width_from-width.ensures
     (length c.args.numbers.now) c.requires.before.one_each) c.loop-other-test.false in
     let ge : c.loop-other.other ≤ product (without c.args.agent (own_counts c.args.choices.now)) =
-    subst (λ (n : ℕ). c.loop-other.other ≤ n) (places_are (game_kept c.args.actions.now c.args.choices.now c.args.best.now (pos 0))
+    subst (λ (n : ℕ). c.loop-other.other ≤ n) (places_are (game_kept c.args.actions.now c.args.choices.now
+    c.args.best.now (pos 0))
     c.args.agent c.args.class c.args.choice c.requires.agent c.requires.class c.requires.of_front c.requires.after
     c.count-count.result c.width_from-width.result
     (c.count-count.ensures ∙ count_at c.args.choices.now c.args.agent c.index-choices-agent.result c.requires.agent

@@ -1,11 +1,9 @@
-use Rattle.std.proofs.Common.{◌≡◌, ◌+◌, ◌*◌, ◌<◌, ◌≤◌, ℕ, List, length, get_or, pos, suc, subst, sym, ap, ◌∙◌, arith, rules}
+use Rattle.std.proofs.Common.{◌+◌, ◌*◌, get_or, pos, ◌∙◌, rules}
 use Rattle.std.specs.Int.{w128}
 use Rattle.std.proofs.lemmas.Int.{to_z-of_z}
 use mir.Val.{SFits}
 use Rattle.dp_base.specs.Sums.{greatest}
-use Rattle.dp_spec.specs.JointNumbers.{product}
 use Rattle.dp_game.specs.Extended.{choices_at, greatest_at}
-use Rattle.dp_game.specs.Games.{allowed_actions}
 use Rattle.dp_game.proofs.ClassNumbers.{allowed_below, pushed_map}
 use Rattle.dp_game.proofs.greatest.push_row.Goals as goal
 

@@ -1,7 +1,7 @@
-use Rattle.std.proofs.Common.{◌≡◌, ◌-◌, ◌+◌, ◌*◌, ◌<◌, ◌^◌, ℕ, List, [], Some, None, length, get_or, drop, suc, add-one}
-use Rattle.std.proofs.Common.{ap, sym, subst, ◌∙◌, arith}
+use Rattle.std.proofs.Common.{◌≡◌, ◌-◌, ◌+◌, ◌<◌, ℕ, List, length, get_or, drop, suc}
+use Rattle.std.proofs.Common.{ap, subst, ◌∙◌, arith}
 use Rattle.dp_spec.specs.JointNumbers.{product}
-use Rattle.dp_game.specs.Extended.{AreNumbersOf, choice_counts, choice_number}
+use Rattle.dp_game.specs.Extended.{choice_counts}
 use Rattle.dp_spec.proofs.JointNumberLaws.{product-drop_le}
 use Rattle.dp_game.proofs.Extended.{counts_small, some_counts}
 use Rattle.dp_game.proofs.ClassNumbers.{number_small, numbers_before, numbers_from}
@@ -26,7 +26,8 @@ numbers_with-requires-clause-small c = λ d C hd hC.
     ∙ ap (λ (z : ℕ). product (drop z (choice_counts bs))) (after at next) in
     let own = c.index-choices-agent.result in
     let own_is : own ≡ get_or oss (n - (k + 1)) own = c.index-choices-agent.is ∙ ap (λ z. get_or oss z own) at in
-    let inside : C < length c.loop-step.numbers.items = subst (λ (l : List ℕ). C < length l) c.deref.ensures.value hC in
+    let inside : C < length c.loop-step.numbers.items = subst (λ (l : List ℕ). C < length l) c.deref.ensures.value hC
+    in
     let below = number_small bs oss (n - (k + 1)) (n - k) own c.extended_from-width.result c.loop-step.numbers.items
     c.requires.agents (omega arith) next own_is width c.loop-step.invariant c.requires.below d C inside in
     let is = c.invariant.ensures in

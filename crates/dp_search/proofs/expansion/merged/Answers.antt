@@ -58,7 +58,8 @@ returns-clause-made c h look merging is are =
     let there = ap (path_front m) c.in_ok-after-2.ensures.ok ∙ c.in_ok-after.ensures.front m
     ∙ ap (λ (F : Front). merged_front F pair.agent pair.first pair.second) c.requires.path
     ∙ sym c.in_ok-next.ensures.front in
-    let same : c.in_ok-clone.field-0.value ≡ c.in_ok-next-2.next.value = search (rules, c.in_ok-clone.ensures.cases) in
+    let same : c.in_ok-clone.field-0.value ≡ c.in_ok-next-2.next.value = search (rules, c.in_ok-clone.ensures.cases)
+    in
     c.in_ok-keep.ensures.kept m h look merging are
     (merged_made m h look merging k c.in_ok-next.next pair.agent pair.first pair.second is lt c.requires.pair
     c.in_ok-next.ensures.front (c.in_ok-next.ensures.of_model m c.requires.of_model)

@@ -1,6 +1,5 @@
-use Rattle.std.proofs.Common.{◌≡◌, ◌+◌, ◌*◌, ◌^◌, ◌<◌, ◌≤◌, ℕ, List, drop, length, get_or, suc, sym, ap, subst, ◌∙◌, arith}
-use Rattle.std.proofs.lemmas.List.{get_or-map, length-map}
-use Rattle.dp_spec.specs.JointNumbers.{product}
+use Rattle.std.proofs.Common.{◌+◌, ◌<◌, ◌≤◌, length, suc, arith}
+use Rattle.std.proofs.lemmas.List.{length-map}
 use Rattle.dp_spec.proofs.JointNumberLaws.{product-drop_above, product-drop_le}
 use Rattle.dp_cluster.proofs.AdvancedParts.{factor_le}
 use Rattle.dp_game.specs.Extended.{choice_counts}

@@ -1,4 +1,4 @@
-use Rattle.std.proofs.Common.{◌≡◌, ◌<◌, ℕ, pos, List, [], length, get_or, set, ap, sym, subst, ◌∙◌, rules}
+use Rattle.std.proofs.Common.{◌<◌, ℕ, pos, List, [], length, get_or, set, ap, sym, subst, ◌∙◌, rules}
 use Rattle.std.specs.Int.{w128}
 use Rattle.std.proofs.lemmas.Int.{to_z-of_z}
 use Rattle.std.proofs.lemmas.List.{get_or_default}
@@ -114,7 +114,8 @@ invariant_of-self c =
     (placed_number c.args.agent (own_counts (eo j)) c.args.class x))) in
     let fits-moved : SFits w128 c.moved-self-inside.result = search rules in
     let bound = to_z-of_z w128 _ fits-moved ∙ c.moved-self-inside.ensures
-    ∙ bound_after g c.args.agent c.args.class c.args.choice hi hc c.self.invariant.of_front after _ _ _ is gone come in
+    ∙ bound_after g c.args.agent c.args.class c.args.choice hi hc c.self.invariant.of_front after _ _ _ is gone come
+    in
     let numbers_len = c.change_class-change.auto.numbers in
     let own = c.put.ensures ∙ ap (λ l. set l c.args.class c.args.choice)
     (c.index_mut-own.ensures.value ∙ get_or_default i.choices.items c.args.agent _ [] hi) in
@@ -131,6 +132,7 @@ returns c =
     (sym c.self.view_is) c.requires.agent in
     let own = c.put.ensures ∙ ap (λ l. set l c.args.class c.args.choice)
     (c.index_mut-own.ensures.value ∙ get_or_default i.choices.items c.args.agent _ [] hi) in
-    sym (game_after i.actions.value i.choices.items _ i.best.value.items i.earned c.args.agent c.args.class c.args.choice
+    sym (game_after i.actions.value i.choices.items _ i.best.value.items i.earned c.args.agent c.args.class
+    c.args.choice
     (ap (set i.choices.items c.args.agent) own))
     ∙ ap (λ k. with_own_choice k c.args.agent c.args.class c.args.choice) c.self.view_is

@@ -1,4 +1,5 @@
-use Rattle.std.proofs.Common.{◌≡◌, ◌<◌, ◌≤◌, ◌^◌, ◌+◌, ◌*◌, ◌+ℤ◌, ℕ, ℤ, pos, List, [], Option, None, Some, length, get_or}
+use Rattle.std.proofs.Common.{◌≡◌, ◌<◌, ◌≤◌, ◌^◌, ◌+◌, ◌*◌, ◌+ℤ◌, ℕ, ℤ, pos, List, [], Option, None, Some, length}
+use Rattle.std.proofs.Common.{get_or}
 use Rattle.std.proofs.Common.{ap, sym, subst, ◌∙◌, rules, arith, unsigned_abs, to_z, of_z}
 use Rattle.std.specs.Int.{w128}
 use Rattle.std.proofs.lemmas.Int.{to_z-of_z}
@@ -83,7 +84,8 @@ bound_of-bound-requires-clause-places c = λ C lt.
     let numbers = c.deref-5.ensures.value in
     let best = c.deref-4.ensures.value in
     let inside : C < length c.in_ok-numbers.numbers.items = subst (λ (l : List ℕ). C < length l) numbers lt in
-    rw (numbers, best) (places c.args.model.now.model c.args.front.now c.args.bounder.now c.requires.of_model c.requires.bounder
+    rw (numbers, best) (places c.args.model.now.model c.args.front.now c.args.bounder.now c.requires.of_model
+    c.requires.bounder
     c.requires.horizon c.requires.stage c.requires.room c.args.bounder.now.look
     c.in_ok-actions.actions c.in_ok-choices.choices.items c.joint_count-count.result c.in_ok-table.table.items
     c.earned-earned.result c.in_ok-actions.ensures c.in_ok-choices.ensures
@@ -124,7 +126,8 @@ invariant_of-result c =
     let bound = to_z-of_z w128 _ fits-bound ∙ c.bound_of-bound.ensures
     ∙ (λ j. to_z-of_z w128 _ fits-earned j +ℤ int_sum (length (numbers j))
     (λ C. get_or (best j) (get_or (numbers j) C 0 * length (numbers j) + C) (pos 0))) in
-    let kept = kept_bound c.args.model.now.model c.args.front.now c.args.bounder.now c.requires.of_model c.requires.bounder
+    let kept = kept_bound c.args.model.now.model c.args.front.now c.args.bounder.now c.requires.of_model
+    c.requires.bounder
     c.requires.horizon c.requires.stage c.requires.room c.args.bounder.now.look
     c.in_ok-actions.actions c.in_ok-choices.choices.items c.joint_count-count.result c.in_ok-table.table.items
     c.earned-earned.result c.in_ok-actions.ensures c.in_ok-choices.ensures
@@ -153,7 +156,8 @@ returns-clause-is c =
     c.in_ok-new-2.field-0.value.items (to_z w128 (of_z w128 c.earned-earned.result.high)) =
     (λ j. game_kept (sym c.in_ok-new.ensures.ok j) c.in_ok-choices.choices.items
     (ap (λ t. t.items) (sym c.in_ok-new-2.ensures.ok) j) (sym (to_z-of_z w128 _ fits-earned) j)) in
-    subst (IsGameOf c.args.model.now.model c.args.front.now.horizon c.args.bounder.now.look c.args.front.now.front) same
+    subst (IsGameOf c.args.model.now.model c.args.front.now.horizon c.args.bounder.now.look c.args.front.now.front)
+    same
     (kept_game c.args.model.now.model c.args.front.now c.args.bounder.now c.requires.of_model c.requires.bounder
     c.requires.horizon c.requires.stage c.requires.room c.args.bounder.now.look
     c.in_ok-actions.actions c.in_ok-choices.choices.items c.joint_count-count.result c.in_ok-table.table.items
@@ -174,9 +178,11 @@ returns-clause-sound c =
     c.in_ok-new-2.field-0.value.items (to_z w128 (of_z w128 c.earned-earned.result.high)) =
     (λ j. game_kept (sym c.in_ok-new.ensures.ok j) c.in_ok-choices.choices.items
     (ap (λ t. t.items) (sym c.in_ok-new-2.ensures.ok) j) (sym (to_z-of_z w128 _ fits-earned) j)) in
-    subst (λ g. BoundsKeepers c.args.model.now.model c.args.front.now.horizon c.args.front.now.front (game_bound g)) same
+    subst (λ g. BoundsKeepers c.args.model.now.model c.args.front.now.horizon c.args.front.now.front (game_bound g))
+    same
     (bounds_keepers c.args.model.now.model c.args.front.now.horizon c.args.bounder.now.look
-    c.args.front.now.front _ (kept_game c.args.model.now.model c.args.front.now c.args.bounder.now c.requires.of_model c.requires.bounder
+    c.args.front.now.front _ (kept_game c.args.model.now.model c.args.front.now c.args.bounder.now c.requires.of_model
+    c.requires.bounder
     c.requires.horizon c.requires.stage c.requires.room c.args.bounder.now.look
     c.in_ok-actions.actions c.in_ok-choices.choices.items c.joint_count-count.result c.in_ok-table.table.items
     c.earned-earned.result c.in_ok-actions.ensures c.in_ok-choices.ensures
