@@ -163,17 +163,28 @@ impl MadeFronts {
 }
 
 // For how many numbers a front counts: two for each weight, and a few for each joint class and for the rest. With
-// its game, one more for each entry of the game's table.
+// its game, one more for each joint class and extended joint action.
 fn numbers_of(model: &Model, made: &MadeFront) -> u64
     requires of_model { IsFrontOf model.now.model made.now.front.value }
     requires stage { made.now.front.value.front.stage < made.now.front.value.horizon }
 {
     model.invariant();
-    let table = if made.game.is_some() {
-        model.joint_actions()
+    let entries = if made.game.is_some() {
+        extended_actions(model)
     } else {
         0
     };
-    let each = 2 * model.states() + table + 4;
-    made.front.as_ref().joint_classes() as u64 * u64::from(each) + ENTRY
+    let each = u64::from(2 * model.states() + 4).saturating_add(entries);
+    (made.front.as_ref().joint_classes() as u64)
+        .saturating_mul(each)
+        .saturating_add(ENTRY)
+}
+
+// How many extended joint actions a model has: each agent has one of its actions or none.
+fn extended_actions(model: &Model) -> u64 {
+    let mut count: u64 = 1;
+    for agent in 0..model.agents() {
+        count = count.saturating_mul(u64::from(model.actions(agent)).saturating_add(1));
+    }
+    count
 }
