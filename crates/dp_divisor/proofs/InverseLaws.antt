@@ -1,8 +1,7 @@
 -- Division of multiples by multiplication, modulo a number.
-use Rattle.std.proofs.Common.{◌≡◌, ◌↔◌, ℕ, zero, suc, ◌+◌, ◌-◌, ◌*◌, ◌/◌, ◌%◌, ◌^◌, ◌<◌, ◌≤◌, refl, sym, ap, subst, ◌∙◌}
-use Rattle.std.proofs.Common.{arith, IsTrue, Option, None, Some, nat_eq, eq-eqb}
+use Rattle.std.proofs.Common.{◌≡◌, ◌↔◌, ℕ, zero, suc, ◌+◌, ◌-◌, ◌*◌, ◌/◌, ◌%◌, ◌^◌, ◌<◌, ◌≤◌, refl, sym, ap, subst}
+use Rattle.std.proofs.Common.{◌∙◌, arith, true, IsTrue, Option, None, Some, nat_eq, eq-eqb}
 use Rattle.std.specs.Int.{◌∣◌, bit_at, w128, trailing_zeros}
-use Rattle.std.proofs.Common.{true}
 use Rattle.std.specs.Option.{SomeIff, is_some, option_eq}
 use Rattle.std.proofs.lemmas.Bool.{eqb-true}
 use Rattle.std.proofs.lemmas.Nat.Bits.{bit_at-trailing_zeros}

@@ -1,6 +1,7 @@
 use Rattle.std.proofs.Common.{◌<◌, inl, inr, sym, subst, ℕ, ◌∙◌, arith}
 use Rattle.dp_cluster.specs.OwnWeights.{low_at}
-use Rattle.dp_cluster.proofs.RunsOfWeights.{difference_is, first_alike, none_in_proportion, place_few, proportion_next}
+use Rattle.dp_cluster.proofs.RunsOfWeights.{difference_is, first_alike, none_in_proportion, place_few}
+use Rattle.dp_cluster.proofs.RunsOfWeights.{proportion_next}
 use Rattle.dp_cluster.proofs.front.Front.first_difference.Goals as goal
 use Rattle.dp_cluster.proofs.front.Front.first_difference.Goals.{then-t-eq0-via-then-t-eq0}
 use Rattle.dp_cluster.proofs.front.Front.first_difference.Goals.{then-t-eq0-via-else-t-eq0+then-u-eq0}
