@@ -21,3 +21,4 @@ pub mod MadeSteps
 pub mod PlannerFronts
 pub mod PlannedCertificates
 pub mod UnderwayFronts
+pub mod RunPlaces

@@ -2,13 +2,14 @@
 use Rattle.std.proofs.Common.{◌≡◌, ℕ, ◌-◌, ◌<◌, Bool, List, length, Option, None, Some, sym, ap, subst, ◌∙◌, arith}
 use Rattle.std.proofs.Common.{inl, inr, take, Contains}
 use Rattle.std.specs.Prelude.{IfSome, option_map, slice_get}
-use Rattle.std.specs.Map.{lookup}
+use Rattle.std.specs.Map.{lookup, remove_entry}
 use Rattle.std.specs.declared.rc.Rc.{Rc}
 use Rattle.std.specs.declared.alloc.Global.{Global}
 use Rattle.std.proofs.lemmas.List.{length-take-le}
 use Rattle.std.proofs.lemmas.Option.{slice_get_within}
 use Rattle.lru.specs.LruCache.{LruCache, lru_cache, promoted, put_entries}
-use Rattle.lru.proofs.CallerLemmas.{Contains-lookup, Contains-promoted, Contains-put_entries, Contains-take}
+use Rattle.lru.proofs.CallerLemmas.{Contains-lookup, Contains-promoted, Contains-put_entries}
+use Rattle.lru.proofs.CallerLemmas.{Contains-remove_entry, Contains-take}
 use Rattle.dp_spec.specs.Front.{Front}
 use Rattle.dp_spec.specs.Model.{Model}
 use Rattle.dp_cluster.specs.KeptFronts.{KeptFront}
@@ -83,6 +84,14 @@ module _ (m : Model) (h look : ℕ) (merging : Bool) where
         → AreMade m h look merging (with_entries s es n)
     taken_made k es n is =
         among_made es n (λ e at. Contains-take k s.entries.entries e
+        (subst (λ (c : LruCache ℕ Entry). Contains c.entries e) is at))
+
+    -- without one of them
+    pub forgotten_made : (test : ℕ → Bool) (es : LruCache ℕ Entry) (n : ℕ)
+        → es ≡ lru_cache (remove_entry test s.entries.entries) s.entries.cap
+        → AreMade m h look merging (with_entries s es n)
+    forgotten_made test es n is =
+        among_made es n (λ e at. Contains-remove_entry test s.entries.entries e
         (subst (λ (c : LruCache ℕ Entry). Contains c.entries e) is at))
 
     -- with one entry more

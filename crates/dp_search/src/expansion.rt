@@ -217,7 +217,7 @@ pub(crate) fn joined(alloc: Global, front: &Front, pair: Pair) -> Result<Front, 
 }
 
 // The merge of two classes of the front that a path leads to, with the front after it, which has the same
-// bound.
+// bound. Nothing else comes from the front before it, which is not kept any more.
 fn merged(
     alloc: Global,
     model: &Model,
@@ -251,6 +251,7 @@ fn merged(
         game: None,
         settled: false,
     };
+    made.forget(path.as_ref());
     made.keep(model, &after, kept)?;
     let held = HeldFront::of(model, after, next, bound);
     let mut children = Vec::new(alloc);

@@ -1,5 +1,5 @@
 //! The places where a branch may stand.
-ghost use Rattle.std.specs.Prelude.{◌≡◌, ◌<◌, ◌≤◌, ◌+◌, ◌*◌, ◌^◌, ◌++◌, ℕ, ℤ, pos, ◌+ℤ◌, neg_ℤ, ◌≤ℤ◌, unsigned_abs};
+ghost use Rattle.std.specs.Prelude.{◌≡◌, ◌<◌, ◌≤◌, ◌+◌, ◌*◌, ◌/◌, ◌%◌, ◌^◌, ◌++◌, ℕ, ℤ, pos, ◌+ℤ◌, neg_ℤ, ◌≤ℤ◌, unsigned_abs};
 ghost use Rattle.std.specs.Prelude.{true, false, None, length, get_or, map, IfOk, OnOk};
 ghost use Rattle.std.specs.Int.{int_min};
 ghost use Rattle.dp_base.specs.Sums.{int_sum, nat_sum};
@@ -125,11 +125,45 @@ fn class_weights_of(alloc: Global, front: &Front, agent: u32) -> Result<Vec<i128
     let count = front.classes(agent) as usize;
     let width = width_behind(front, agent);
     let mut weights = Vec::from_elem(alloc, 0i128, count)?;
+    let mut place = ClassPlace {
+        class: 0,
+        inside: 0,
+    };
     for joint in 0..front.joint_classes() {
-        let class = joint / width % count;
-        weights[class] += upper_sum(front.class_weights(joint));
+        weights[place.class] += upper_sum(front.class_weights(joint));
+        place = next_place(place, count, width);
     }
     Ok(weights)
+}
+
+// The class of an agent in a joint class, and how many joint classes stand before this one in its run: those with
+// one class of the agent stand in runs.
+#[derive(Clone, Copy)]
+struct ClassPlace {
+    class: usize,
+    inside: usize,
+}
+
+// The same for the next joint class, where runs are `width` long and the agent has `count` classes.
+#[inline]
+fn next_place(place: ClassPlace, count: usize, width: usize) -> ClassPlace
+    requires class { place.class < count }
+    requires inside { place.inside < width }
+    ensures { (C : ℕ) → place.class ≡ C / width % count → place.inside ≡ C % width →
+        (result.class ≡ (C + 1) / width % count) × (result.inside ≡ (C + 1) % width) }
+{
+    let ClassPlace { class, inside } = place;
+    if inside + 1 < width {
+        return ClassPlace {
+            class,
+            inside: inside + 1,
+        };
+    }
+    let next = if class + 1 < count { class + 1 } else { 0 };
+    ClassPlace {
+        class: next,
+        inside: 0,
+    }
 }
 
 // How many joint classes the agents behind an agent have.

@@ -17,7 +17,7 @@ use std::alloc::Global;
 use std::rc::Rc;
 
 // So many numbers of 16 bytes are kept at most, if there is more than one front.
-const MOST_NUMBERS: u64 = 1 << 24;
+const MOST_NUMBERS: u64 = 1 << 25;
 
 // What an entry takes besides the numbers of its front and its game, in numbers.
 const ENTRY: u64 = 32;
@@ -144,6 +144,17 @@ impl MadeFronts {
         self.numbers = self.numbers.saturating_sub(gone).saturating_add(numbers);
         self.make_room();
         Ok(())
+    }
+
+    /// Lets go of the front that a path leads to, if it is kept.
+    pub(crate) fn forget(&mut self, path: &Path)
+        ensures { (m : PlainModel) (h look : ℕ) (merging : Bool) →
+            AreMade m h look merging self.old → AreMade m h look merging self.new }
+    {
+        let number = path.number();
+        if let Some(old) = self.entries.pop(&number) {
+            self.numbers = self.numbers.saturating_sub(old.numbers);
+        }
     }
 
     // Lets go of the fronts that were not used for longest, until not too much is kept.

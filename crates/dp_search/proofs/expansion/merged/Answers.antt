@@ -60,7 +60,7 @@ returns-clause-made c h look merging is are =
     ∙ sym c.in_ok-next.ensures.front in
     let same : c.in_ok-clone.field-0.value ≡ c.in_ok-next-2.next.value = search (rules, c.in_ok-clone.ensures.cases)
     in
-    c.in_ok-keep.ensures.kept m h look merging are
+    c.in_ok-keep.ensures.kept m h look merging (c.forget.ensures m h look merging are)
     (merged_made m h look merging k c.in_ok-next.next pair.agent pair.first pair.second is lt c.requires.pair
     c.in_ok-next.ensures.front (c.in_ok-next.ensures.of_model m c.requires.of_model)
     c.in_ok-next.ensures.horizon _ there _ (same ∙ c.in_ok-next-2.ensures.ok) refl refl)
