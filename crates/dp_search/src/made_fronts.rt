@@ -101,6 +101,9 @@ impl MadeFronts {
             AreMade m h look merging self.old → AreMade m h look merging self.new }
     {
         let number = path.number();
+        if !self.entries.contains(&number) {
+            return Ok(None);
+        }
         self.entries.promote(&number);
         match self.entries.peek(&number) {
             None => Ok(None),
