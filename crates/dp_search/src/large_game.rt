@@ -144,8 +144,9 @@ fn after_zero(
 // Whether the front is at the last stage of ten, and both agents have so many classes there.
 fn is_large(front: &Front) -> bool
     ensures stage { result ≡ true → front.now.front.stage < front.now.horizon }
-    ensures agents { result ≡ true → 0 < length front.now.front.agents }
-    ensures classes { result ≡ true → 512 ≤ get_or (class_counts front.now.front.agents) 0 0 }
+    ensures agents { result ≡ true → length front.now.front.agents ≡ 2 }
+    ensures first { result ≡ true → 512 ≤ get_or (class_counts front.now.front.agents) 0 0 }
+    ensures second { result ≡ true → 512 ≤ get_or (class_counts front.now.front.agents) 1 0 }
 {
     if front.stage() != 9 || front.horizon() != 10 || front.agents() != 2 {
         return false;
@@ -166,18 +167,20 @@ fn front_has_bounds(alloc: Global, model: &Model, fit: Fit, front: &Front) -> Re
     if game.bound() != WHOLE {
         return Ok(false);
     }
-    let falls = falls_each_time(&mut game);
-    Ok(falls)
+    let first = falls_each_time(&mut game, 0);
+    let second = falls_each_time(&mut game, 1);
+    Ok(first && second)
 }
 
-// Whether the bound falls with each choice, and is again what it was after it is taken back.
-fn falls_each_time(game: &mut Game) -> bool
-    requires agent { 0 < length game.old.choices }
-    requires classes { 512 ≤ length (get_or game.old.choices 0 []) }
-    requires action { 0 < slice_index game.old.actions 0 }
+// Whether the bound falls with each choice for a class of an agent, and is again what it was after it is taken back.
+fn falls_each_time(game: &mut Game, agent: u32) -> bool
+    requires agent { agent < length game.old.choices }
+    requires classes { 512 ≤ length (get_or game.old.choices agent []) }
+    requires action { 0 < slice_index game.old.actions agent }
+    ensures { game.new ≡ game.old }
 {
     for round in 0..ROUNDS {
-        if !falls(game, round % CLASSES) {
+        if !falls(game, agent, round % CLASSES) {
             return false;
         }
     }
@@ -185,14 +188,14 @@ fn falls_each_time(game: &mut Game) -> bool
 }
 
 // The same for one class.
-fn falls(game: &mut Game, class: u32) -> bool
-    requires agent { 0 < length game.old.choices }
-    requires class { class < length (get_or game.old.choices 0 []) }
-    requires action { 0 < slice_index game.old.actions 0 }
+fn falls(game: &mut Game, agent: u32, class: u32) -> bool
+    requires agent { agent < length game.old.choices }
+    requires class { class < length (get_or game.old.choices agent []) }
+    requires action { 0 < slice_index game.old.actions agent }
     ensures { game.new ≡ game.old }
 {
-    if game.choice(0, class).is_some() {
+    if game.choice(agent, class).is_some() {
         return false;
     }
-    chosen_bound(game, 0, class, 0) == FALLEN && game.bound() == WHOLE
+    chosen_bound(game, agent, class, 0) == FALLEN && game.bound() == WHOLE
 }
