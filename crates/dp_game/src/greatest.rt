@@ -22,7 +22,7 @@ pub(crate) fn greatest_table(
     requires table { length table.now ≡ joints * product actions.now }
     ensures { IfOk result (λ v. v.items ≡ greatest_table actions.now table.now joints) }
 {
-    let mut best = Vec::new(alloc);
+    let mut best = Vec::with_capacity(alloc, actions.extended_from(0) * joints)?;
     for extended in 0..actions.extended_from(0) {
         push_row(alloc, actions, table, joints, extended, &mut best)?;
     }

@@ -45,7 +45,7 @@ fn numbers_with(
     ensures { IfOk result (λ v. v.items ≡ rows_of (λ c. map (λ C. choice_number (get_or own.now c None) * width
         + get_or later.now C 0) (range_with_len 0 (length later.now))) (length own.now)) }
 {
-    let mut numbers = Vec::new(alloc);
+    let mut numbers = Vec::with_capacity(alloc, own.count().saturating_mul(later.len()))?;
     for class in 0..own.count() {
         push_from(number_of(own.at(class)) * width, later, &mut numbers)?;
     }
