@@ -40,7 +40,10 @@ pub(crate) fn look_ahead_table(
     ensures rows { IfOk result (λ v. v.items ≡ rows_of (class_row model.now.model front.now bounder.now) count) }
     ensures room { IsRoomFor bounder.now.is_exact model.now.model bounder.now.look room.new }
 {
-    let mut table = Vec::with_capacity(alloc, count.saturating_mul(model.joint_actions() as usize))?;
+    let mut table = Vec::with_capacity(
+        alloc,
+        count.saturating_mul(model.joint_actions() as usize),
+    )?;
     for joint in 0..count {
         push_class(model, front, bounder, joint, room, &mut table)?;
     }
